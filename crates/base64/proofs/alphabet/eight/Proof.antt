@@ -1,0 +1,79 @@
+use Prim.Native.Nat.{ℕ, _+_, _-_, _<_, _≤_}
+use mathlib.Core.Path.{_≡_, refl, ap, _∙_}
+use mathlib.Core.Bool.{Bool, _&&_}
+use mathlib.Core.List.{List}
+use lib.ListN.{length, take, drop, getD, length-drop}
+use lib.Seq.{getD-drop}
+use native.Mathlib.Omega.{arith}
+use borrow.Author.Needs.{needs}
+use denote.Ref.{now}
+use Rattle.refusal.proofs.Laws.Booleans.{and-true-right}
+use Rattle.refusal.proofs.Laws.Lists.{take-one}
+use Rattle.base64.specs.Alphabet.{isCharacter}
+use Rattle.refusal.specs.Run.{all}
+use Rattle.refusal.proofs.Laws.Run.{all-append}
+use Rattle.base64.proofs.alphabet.eight.Statement.{statement}
+use Rattle.base64.proofs.alphabet.eight.Tie as tie
+use Rattle.base64.proofs.alphabet.eight.Reads as reads
+use Rattle.base64.proofs.alphabet.eight.Lts as lts
+use Rattle.base64.proofs.alphabet.is_character.Reads as is-character-reads
+
+-- one byte more
+more : (text : List ℕ) (at j : ℕ) {good r : Bool} → at + j < length text → good ≡ all isCharacter (take j (drop at text)) → r ≡ isCharacter (getD text (at + j) 0) →
+    (good && r) ≡ all isCharacter (take (j + 1) (drop at text))
+unfolding all
+more text at j h p q =
+    rw (p, q, take-one (drop at text) j 0 (simp length-drop (omega arith)), all-append isCharacter (take j (drop at text)), getD-drop at text j 0, and-true-right)
+
+abbrev Inv-loop : tie.InvT-loop
+Inv-loop text at good₀ j₀ good j = (j ≤ 8) × (good ≡ all isCharacter (take j (drop at text)))
+
+abbrev μ-loop : tie.MeasureT-loop
+μ-loop text at good₀ j₀ good j = 8 - j
+
+-- src/alphabet.rt:63:5
+loop-holds : tie.Need-loop-holds Inv-loop μ-loop
+loop-holds c = (search needs, refl)
+
+-- src/alphabet.rt:64:41
+add-is-character : tie.Need-add-is-character Inv-loop μ-loop
+add-is-character c = search needs
+
+-- src/alphabet.rt:64:36
+shared-slice-read-is-character : tie.Need-shared-slice-read-is-character Inv-loop μ-loop
+shared-slice-read-is-character c = search needs
+
+-- src/alphabet.rt:64:23
+is-character-requires : tie.Need-is-character-requires Inv-loop μ-loop
+is-character-requires c κs = search needs
+
+-- src/alphabet.rt:65:9
+add-j : tie.Need-add-j Inv-loop μ-loop
+add-j c = search needs
+
+-- src/alphabet.rt:63:5
+loop-less : tie.Need-loop-less Inv-loop μ-loop
+loop-less c = search needs
+
+-- src/alphabet.rt:63:5
+loop-again : tie.Need-loop-again Inv-loop μ-loop
+loop-again c = (search needs, more (now (c .before .before .before .before .before .args .text)) (c .before .before .before .before .before .args .at) (c .before .before .before .loop .j) (omega arith) (c .before .before .before .loop .inv .1) (c .is-character .ensures))
+
+-- src/alphabet.rt:57:1
+returns : tie.Need-returns Inv-loop μ-loop
+returns c = c .before .loop .inv .1 ∙ ap (λ j. all isCharacter (take j (drop (c .before .before .before .args .at) (now (c .before .before .before .args .text))))) (omega arith)
+
+pub eight-spec : {M : Type 1} → statement M
+eight-spec =
+    tie.close
+    (tie.spec
+    Inv-loop
+    μ-loop
+    loop-holds
+    add-is-character
+    shared-slice-read-is-character
+    is-character-requires
+    add-j
+    loop-less
+    loop-again
+    returns)

@@ -1,0 +1,21 @@
+use borrow.Author.Needs.{needs}
+use Rattle.base64.proofs.encoding.look_up.Statement.{statement}
+use Rattle.base64.proofs.encoding.look_up.Tie as tie
+use Rattle.base64.proofs.encoding.look_up.Reads as reads
+use Rattle.base64.proofs.encoding.look_up.Lts as lts
+use Rattle.base64.proofs.encoding.wide.Reads as wide-reads
+
+-- src/encoding.rt:48:11
+wide-requires : tie.Need-wide-requires
+wide-requires c κs = search needs
+
+-- src/encoding.rt:48:5
+element-copy-out-result : tie.Need-element-copy-out-result
+element-copy-out-result c = search needs
+
+-- src/encoding.rt:43:1
+returns : tie.Need-returns
+returns c = rw (c .before .wide .ensures) (c .before .before .pre .0 (c .before .before .args .v) (search needs))
+
+pub look-up-spec : {M : Type 1} → statement M
+look-up-spec = tie.close (tie.spec wide-requires element-copy-out-result returns)

@@ -1,0 +1,5 @@
+-- Laws that every crate's proofs use: lists by position, tests on Booleans, and a rule computed at every number below a bound.
+pub mod Below
+pub mod Booleans
+pub mod Lists
+pub mod Run

@@ -1,0 +1,54 @@
+-- Runs: what stands behind the bytes of a class at a text's front.
+use Prim.Native.Nat.{ℕ, zero, suc, _+_, _<_, _≤_}
+use mathlib.Core.Path.{_≡_, refl, sym, ap, _∙_}
+use mathlib.Core.Bool.{Bool, true, false, _&&_, false≢true, true≢false}
+use mathlib.Core.List.{List, [], _∷_, _++_}
+use lib.ListN.{length, take, drop, getD}
+use lib.Seq.{drop-cons}
+use native.Mathlib.Numerals.{add-one}
+use native.Mathlib.Omega.{arith}
+use native.Mathlib.Nat.{not-suc-le-zero, le-of-suc-le-suc}
+use Rattle.refusal.specs.Pick.{pick}
+use Rattle.refusal.proofs.Laws.Booleans.{and-true, cases, and-assoc, and-true-right}
+use Rattle.refusal.proofs.Laws.Lists.{drop-one, take-one}
+use Rattle.refusal.specs.Run.{all, run}
+
+module _ (class : ℕ → Bool) where
+  pub all-append : (s t : List ℕ) → all class (s ++ t) ≡ (all class s && all class t)
+  unfolding all
+  all-append [] t = refl
+  all-append (b ∷ s) t = rw (all-append s t) (and-assoc (class b) (all class s) (all class t))
+
+  -- one byte of the class at i
+  pub run-in : (t : List ℕ) (i : ℕ) → i < length t → class (getD t i 0) ≡ true → i + run class (drop i t) ≡ i + 1 + run class (drop (i + 1) t)
+  unfolding run
+  run-in t i h e = rw (drop-one t i 0 h, e) (omega arith)
+
+  -- a byte outside the class at i
+  pub run-out : (t : List ℕ) (i : ℕ) → i < length t → class (getD t i 0) ≡ false → i + run class (drop i t) ≡ i
+  unfolding run
+  run-out t i h e = rw (drop-one t i 0 h, e) (omega arith)
+
+  -- several bytes of the class
+  pub run-all : (n : ℕ) (t : List ℕ) → n ≤ length t → all class (take n t) ≡ true → run class t ≡ n + run class (drop n t)
+  unfolding run all
+  run-all zero t h e = omega arith
+  run-all (suc n) [] h e = absurd (not-suc-le-zero h)
+  run-all (suc n) (b ∷ t) h e =
+      let a = and-true (class b) (all class (take n t)) e in
+      rw (a .0, run-all n t (le-of-suc-le-suc h) (a .1)) (omega arith)
+
+  pub run-le : (t : List ℕ) → run class t ≤ length t
+  unfolding run
+  run-le [] = omega arith
+  run-le (b ∷ t) = cases (class b) (λ e. rw e (omega (arith, run-le t))) (λ e. rw e (omega arith))
+
+  pub run-whole : (t : List ℕ) → length t ≤ run class t → all class t ≡ true
+  unfolding run all
+  run-whole [] h = refl
+  run-whole (b ∷ t) h = cases (class b) (λ e. rw e (run-whole t (omega (arith, rw e at h)))) (λ e. absurd (omega (arith, rw e at h)))
+
+  pub run-part : (t : List ℕ) → run class t < length t → all class t ≡ false
+  unfolding run all
+  run-part [] h = absurd (not-suc-le-zero h)
+  run-part (b ∷ t) h = cases (class b) (λ e. rw e (run-part t (omega (arith, rw e at h)))) (λ e. rw e)

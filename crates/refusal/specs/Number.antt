@@ -1,0 +1,26 @@
+-- Document 01, "Numbers given back": the number of each fault.
+use Prim.Native.Nat.{ℕ}
+use Rattle.refusal.specs.declared.Refusal.{Refusal}
+use Rattle.refusal.specs.declared.Refusal.the-variants.{NotStanza, Unfinished, TooLong, BadCommand, BadIndex, NoSuchIndex, FallingIndex, NoSpace, SecondKey, TooManyStanzas, WorkAndError, UnfitResponse, SessionOver, OutOfTurn, ShortOutput, NotBech32, Unwritable, NoSuchMachine, HeldBack}
+
+-- the first column of the paper's table
+abbrev pub numberOf : Refusal → ℕ
+numberOf NotStanza = 1
+numberOf Unfinished = 2
+numberOf TooLong = 3
+numberOf BadCommand = 4
+numberOf BadIndex = 5
+numberOf NoSuchIndex = 6
+numberOf FallingIndex = 7
+numberOf NoSpace = 8
+numberOf SecondKey = 9
+numberOf TooManyStanzas = 10
+numberOf WorkAndError = 11
+numberOf UnfitResponse = 12
+numberOf SessionOver = 13
+numberOf OutOfTurn = 14
+numberOf ShortOutput = 15
+numberOf NotBech32 = 16
+numberOf Unwritable = 17
+numberOf NoSuchMachine = 18
+numberOf HeldBack = 19

@@ -1,0 +1,26 @@
+-- An index (document 01, "Phase one"): "0" or digits without a leading zero, at most 4,294,967,295. Anything else is No. 5.
+use Prim.Native.Nat.{ℕ, _+_, _-_, _*_}
+use mathlib.Core.Bool.{Bool, _&&_}
+use mathlib.Core.List.{List, [], _∷_}
+use lib.Dec.{leb, eqb}
+use Rattle.refusal.specs.Pick.{pick}
+
+-- what reading an index gives: the number, or the paper's number of the refusal
+pub data Reading : Type 0 where
+  number : ℕ → Reading
+  refused : ℕ → Reading
+
+-- "0" to "9"
+abbrev pub isDigit : ℕ → Bool
+isDigit b = leb 48 b && leb b 57
+
+-- the digits of a number, from the left, where v has been read: never more than 4,294,967,295
+unfoldable pub digits : ℕ → List ℕ → Reading
+digits v [] = number v
+digits v (b ∷ t) = pick (isDigit b && leb (v * 10 + (b - 48)) 4294967295) (digits (v * 10 + (b - 48)) t) (refused 5)
+
+-- no digits are no index, and a leading zero stands alone
+unfoldable pub readIndex : List ℕ → Reading
+readIndex [] = refused 5
+readIndex (b ∷ []) = digits 0 (b ∷ [])
+readIndex (b ∷ c ∷ t) = pick (eqb b 48) (refused 5) (digits 0 (b ∷ c ∷ t))

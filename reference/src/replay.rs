@@ -1,0 +1,209 @@
+//! The replay of a script (REPLAY.md): the calls of its table, and the answers printed.
+//!
+//! A call that is not built yet is a bad line.
+
+use std::io::{self, BufRead, Write};
+
+use crate::index;
+use crate::refusal::Refusal;
+use crate::script;
+use crate::stanza;
+
+/// OUT, the length of the output buffer lent, is at most this.
+const OUT_LIMIT: u64 = 65_536;
+
+/// Answers every line of the input, in order.
+pub fn run(mut input: impl BufRead, mut output: impl Write) -> io::Result<()> {
+    let mut replay = Replay::default();
+    let mut line = Vec::new();
+    while script::next_line(&mut input, &mut line)? {
+        if let Some(answer) = replay.answer(&line) {
+            output.write_all(&answer)?;
+        }
+    }
+    Ok(())
+}
+
+/// What is carried from line to line.
+#[derive(Default)]
+pub struct Replay {
+    /// How many lines were read, skipped ones too.
+    lines: u64,
+}
+
+impl Replay {
+    /// The answer to the next line, with its LF; none for a line that is skipped.
+    pub fn answer(&mut self, line: &[u8]) -> Option<Vec<u8>> {
+        self.lines += 1;
+        if script::is_skipped(line) {
+            return None;
+        }
+        let answer = match self.call(line) {
+            None => Answer::words("bad line").number(self.lines),
+            Some(Err(refusal)) => Answer::words("refused").number(refusal.number().into()),
+            Some(Ok(answer)) => answer,
+        };
+        Some(answer.ended())
+    }
+
+    /// Makes the call that the line asks for; none for a bad line.
+    fn call(&mut self, line: &[u8]) -> Option<Result<Answer, Refusal>> {
+        let words = script::words(line)?;
+        let call = Call::parse(&words)?;
+        Some(call.make())
+    }
+}
+
+/// A line of REPLAY.md's table.
+#[derive(Debug, PartialEq, Eq)]
+enum Call<'a> {
+    Stanza { text: &'a [u8] },
+    Write { arguments: &'a [u8], body: &'a [u8], out: usize },
+    Index { text: &'a [u8] },
+}
+
+impl<'a> Call<'a> {
+    /// The call that the words make. Escapes are resolved before: each word, the first and numbers too,
+    /// is the byte string it stands for.
+    fn parse(words: &'a [Vec<u8>]) -> Option<Self> {
+        let words: Vec<&[u8]> = words.iter().map(Vec::as_slice).collect();
+        match words[..] {
+            [b"stanza", text] => Some(Call::Stanza { text }),
+            [b"write", arguments, body, out] => {
+                let out = length(out)?;
+                Some(Call::Write { arguments, body, out })
+            }
+            [b"index", text] => Some(Call::Index { text }),
+            _ => None,
+        }
+    }
+
+    fn make(&self) -> Result<Answer, Refusal> {
+        match *self {
+            Call::Stanza { text } => read_stanza(text),
+            Call::Write { arguments, body, out } => write_stanza(arguments, body, out),
+            Call::Index { text } => Ok(Answer::words("ok").number(index::read(text)?.into())),
+        }
+    }
+}
+
+/// A buffer's length.
+fn length(word: &[u8]) -> Option<usize> {
+    usize::try_from(script::number(word, OUT_LIMIT)?).ok()
+}
+
+/// `ok TAKEN ARGS BODY`.
+fn read_stanza(text: &[u8]) -> Result<Answer, Refusal> {
+    let stanza = stanza::read(text)?;
+    let mut body = vec![0; stanza.body_len()];
+    stanza.decode_body(&mut body)?;
+    Ok(Answer::words("ok").number(stanza.taken() as u64).bytes(stanza.arguments()).bytes(&body))
+}
+
+/// `ok TEXT`.
+fn write_stanza(arguments: &[u8], body: &[u8], out: usize) -> Result<Answer, Refusal> {
+    let mut out = vec![0; out];
+    let len = stanza::write(arguments, body, &mut out)?;
+    Ok(Answer::words("ok").bytes(&out[..len]))
+}
+
+/// A line to be printed, built word by word.
+struct Answer(Vec<u8>);
+
+impl Answer {
+    /// Begins a line with plain words.
+    fn words(words: &str) -> Self {
+        Answer(words.as_bytes().to_vec())
+    }
+
+    fn number(mut self, number: u64) -> Self {
+        self.0.extend(format!(" {number}").as_bytes());
+        self
+    }
+
+    /// One word that stands for the bytes.
+    fn bytes(mut self, bytes: &[u8]) -> Self {
+        self.0.push(b' ');
+        script::escape(bytes, &mut self.0);
+        self
+    }
+
+    fn ended(mut self) -> Vec<u8> {
+        self.0.push(b'\n');
+        self.0
+    }
+}
+
+#[cfg(test)]
+mod tests {
+    use super::*;
+
+    fn answers(script: &str) -> String {
+        let mut output = Vec::new();
+        run(script.as_bytes(), &mut output).unwrap();
+        String::from_utf8(output).unwrap()
+    }
+
+    #[test]
+    fn worked_examples() {
+        assert_eq!(answers("stanza ->\\sdone\\n\\n"), "ok 9 done \\e\n");
+        assert_eq!(answers("stanza ->\\sdone\\n"), "refused 2\n");
+        assert_eq!(answers("stanza ->\\sa\\s\\sb\\n\\n"), "refused 1\n");
+        assert_eq!(
+            answers("write wrap-file-key \\x00\\x00\\x00\\x00\\x00\\x00\\x00\\x00\\x00\\x00\\x00\\x00\\x00\\x00\\x00\\x00 40"),
+            "ok ->\\swrap-file-key\\nAAAAAAAAAAAAAAAAAAAAAA\\n\n"
+        );
+        assert_eq!(
+            answers("index 0\nindex 01\nindex 4294967295\nindex 4294967296\n"),
+            "ok 0\nrefused 5\nok 4294967295\nrefused 5\n"
+        );
+    }
+
+    #[test]
+    fn stanza_prints_arguments_as_one_word() {
+        assert_eq!(answers("stanza ->\\sok\\sb\\\\\\nAGEgCg\\nrest"), "ok 16 ok\\sb\\\\ \\x00a\\s\\n\n");
+    }
+
+    #[test]
+    fn write_lends_a_buffer_of_the_length() {
+        assert_eq!(answers("write done \\e 9"), "ok ->\\sdone\\n\\n\n");
+        assert_eq!(answers("write done \\e 0009"), "ok ->\\sdone\\n\\n\n");
+        assert_eq!(answers("write done \\e 8"), "refused 15\n");
+        assert_eq!(answers("write \\e \\e 0"), "refused 17\n");
+        assert_eq!(answers("write done \\e 65536"), "ok ->\\sdone\\n\\n\n");
+        assert_eq!(answers("write done \\e 65537"), "bad line 1\n");
+    }
+
+    #[test]
+    fn all_lines_are_counted() {
+        assert_eq!(
+            answers("# one\n\nindex 3\nnothing\n#\nindex\nindex 4"),
+            "ok 3\nbad line 4\nbad line 6\nok 4\n"
+        );
+    }
+
+    #[test]
+    fn bad_lines() {
+        for line in [
+            "stanza", "stanza a b", "write a b", "write a b 1 2", "write a b c", "write a b \\e", "index",
+            "index 1 2", "INDEX 1", "index 1 ", " index 1", "index  1", "index \\q", "\\e", "open", "show",
+            "recipient a 1", "index\t1", "index 1\r", "index \u{e9}",
+        ] {
+            assert_eq!(answers(line), "bad line 1\n", "{line}");
+        }
+    }
+
+    #[test]
+    fn first_words_and_numbers_may_be_escaped() {
+        assert_eq!(answers("ind\\x65x 7"), "ok 7\n");
+        assert_eq!(answers("write done \\e \\x39"), "ok ->\\sdone\\n\\n\n");
+    }
+
+    #[test]
+    fn line_lengths() {
+        let line = |len: usize| "index ".to_string() + &"1".repeat(len - 6);
+        assert_eq!(answers(&line(65_536)), "refused 5\n");
+        assert_eq!(answers(&line(65_537)), "bad line 1\n");
+        assert_eq!(answers(&("#".repeat(70_000) + "\nx")), "bad line 2\n");
+    }
+}
