@@ -1,8 +1,8 @@
--- What the private functions ask of the tables that they are lent. Nobody has to believe this: the tables are shown to be so.
-use Prim.Native.Nat.{ℕ, _<_}
+-- What the private functions ask of the tables and buffers that they are lent. Nobody has to believe this: each caller shows it.
+use Prim.Native.Nat.{ℕ, _+_, _*_, _/_, _%_, _<_, _≤_}
 use mathlib.Core.Path.{_≡_}
 use mathlib.Core.List.{List}
-use lib.ListN.{getD}
+use lib.ListN.{length, getD}
 use Rattle.base64.specs.Alphabet.{valueOf, characterOf}
 
 -- the value of each byte
@@ -12,3 +12,10 @@ Values t = (b : ℕ) → b < 256 → getD t b 0 ≡ valueOf b
 -- the character of each value
 abbrev pub Characters : List ℕ → Type 0
 Characters t = (v : ℕ) → v < 64 → getD t v 0 ≡ characterOf v
+
+-- how many bytes n characters make, and how many characters n bytes
+abbrev pub decodedSize : ℕ → ℕ
+decodedSize n = n / 4 * 3 + n % 4 * 3 / 4
+
+abbrev pub encodedSize : ℕ → ℕ
+encodedSize n = n / 3 * 4 + (n % 3 * 4 + 2) / 3

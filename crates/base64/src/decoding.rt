@@ -5,7 +5,7 @@ ghost use lib.ListN.{length, drop};
 ghost use mathlib.Core.List.{_++_};
 ghost use Rattle.base64.specs.Alphabet.{valueOf};
 ghost use Rattle.base64.specs.Code.{decoded, measured, sizeSaid, decodedInto, decodedSaid, bufferAfter};
-ghost use Rattle.base64.specs.Tables.{Values};
+ghost use Rattle.base64.specs.Tables.{Values, decodedSize};
 use crate::alphabet::characters;
 use crate::alphabet::ends_well;
 use crate::alphabet::values;
@@ -69,7 +69,8 @@ fn wide(b: u8) -> usize
 // The value of a byte, by the table.
 fn look_up(table: &[u8; 256], b: u8) -> u8
     requires { ⌜ Values (now table) ⌝ }
-    ensures { λ r. ⌜ r ≡ valueOf b ⌝ }
+    ensures value { λ r. ⌜ r ≡ valueOf b ⌝ }
+    ensures small { λ r. ⌜ r < 64 ⌝ }
 {
     table[wide(b)]
 }
@@ -77,7 +78,7 @@ fn look_up(table: &[u8; 256], b: u8) -> u8
 // The bytes of a text at the front of `out`, which is long enough; any text.
 pub fn decode_into(table: &[u8; 256], text: &[u8], out: &mut [u8])
     requires { ⌜ Values (now table) ⌝ }
-    requires { ⌜ length (decoded (now text)) ≤ length (now out) ⌝ }
+    requires { ⌜ decodedSize (length (now text)) ≤ length (now out) ⌝ }
     ensures { λ _. ⌜ now (out .exit) ≡ decoded (now (text .entry)) ++ drop (length (decoded (now (text .entry)))) (now (out .entry)) ⌝ }
 {
     let n = text.len() / 4;
@@ -99,7 +100,7 @@ pub fn decode_into(table: &[u8; 256], text: &[u8], out: &mut [u8])
 fn decode_rest(table: &[u8; 256], text: &[u8], out: &mut [u8])
     requires { ⌜ Values (now table) ⌝ }
     requires { ⌜ length (now text) < 4 ⌝ }
-    requires { ⌜ length (decoded (now text)) ≤ length (now out) ⌝ }
+    requires { ⌜ decodedSize (length (now text)) ≤ length (now out) ⌝ }
     ensures { λ _. ⌜ now (out .exit) ≡ decoded (now (text .entry)) ++ drop (length (decoded (now (text .entry)))) (now (out .entry)) ⌝ }
 {
     let n = text.len();

@@ -1,11 +1,11 @@
 // Encoding: three bytes to four characters.
 ghost use mathlib.Core.Path.{_≡_};
-ghost use Prim.Native.Nat.{_≤_, _<_};
+ghost use Prim.Native.Nat.{_+_, _*_, _/_, _%_, _≤_, _<_};
 ghost use lib.ListN.{length, drop};
 ghost use mathlib.Core.List.{_++_};
 ghost use Rattle.base64.specs.Alphabet.{characterOf};
 ghost use Rattle.base64.specs.Code.{encoded};
-ghost use Rattle.base64.specs.Tables.{Characters};
+ghost use Rattle.base64.specs.Tables.{Characters, encodedSize};
 ghost use Rattle.refusal.specs.Output.{said, answered, filled};
 use crate::alphabet::alphabet_characters;
 use refusal::Refusal;
@@ -39,19 +39,39 @@ fn wide(b: u8) -> usize
     b as usize
 }
 
-// The character of a value, by the table.
-fn look_up(table: &[u8; 64], v: u8) -> u8
+// The four characters of three bytes, by the table: the first 6 bits, ..
+fn first(table: &[u8; 64], a: u8) -> u8
     requires { ⌜ Characters (now table) ⌝ }
-    requires { ⌜ v < 64 ⌝ }
-    ensures { λ r. ⌜ r ≡ characterOf v ⌝ }
+    ensures { λ r. ⌜ r ≡ characterOf (a / 4) ⌝ }
 {
-    table[wide(v)]
+    table[wide(a / 4)]
+}
+
+fn second(table: &[u8; 64], a: u8, b: u8) -> u8
+    requires { ⌜ Characters (now table) ⌝ }
+    ensures { λ r. ⌜ r ≡ characterOf (a % 4 * 16 + b / 16) ⌝ }
+{
+    table[wide(a % 4 * 16 + b / 16)]
+}
+
+fn third(table: &[u8; 64], b: u8, c: u8) -> u8
+    requires { ⌜ Characters (now table) ⌝ }
+    ensures { λ r. ⌜ r ≡ characterOf (b % 16 * 4 + c / 64) ⌝ }
+{
+    table[wide(b % 16 * 4 + c / 64)]
+}
+
+fn fourth(table: &[u8; 64], c: u8) -> u8
+    requires { ⌜ Characters (now table) ⌝ }
+    ensures { λ r. ⌜ r ≡ characterOf (c % 64) ⌝ }
+{
+    table[wide(c % 64)]
 }
 
 // The characters of some bytes at the front of `out`, which is long enough.
 pub fn encode_into(table: &[u8; 64], bytes: &[u8], out: &mut [u8])
     requires { ⌜ Characters (now table) ⌝ }
-    requires { ⌜ length (encoded (now bytes)) ≤ length (now out) ⌝ }
+    requires { ⌜ encodedSize (length (now bytes)) ≤ length (now out) ⌝ }
     ensures { λ _. ⌜ now (out .exit) ≡ encoded (now (bytes .entry)) ++ drop (length (encoded (now (bytes .entry)))) (now (out .entry)) ⌝ }
 {
     let n = bytes.len() / 3;
@@ -60,10 +80,10 @@ pub fn encode_into(table: &[u8; 64], bytes: &[u8], out: &mut [u8])
         let a = bytes[3 * i];
         let b = bytes[3 * i + 1];
         let c = bytes[3 * i + 2];
-        out[4 * i] = look_up(table, a / 4);
-        out[4 * i + 1] = look_up(table, a % 4 * 16 + b / 16);
-        out[4 * i + 2] = look_up(table, b % 16 * 4 + c / 64);
-        out[4 * i + 3] = look_up(table, c % 64);
+        out[4 * i] = first(table, a);
+        out[4 * i + 1] = second(table, a, b);
+        out[4 * i + 2] = third(table, b, c);
+        out[4 * i + 3] = fourth(table, c);
         i += 1;
     }
     encode_rest(table, &bytes[3 * n..], &mut out[4 * n..]);
@@ -73,7 +93,7 @@ pub fn encode_into(table: &[u8; 64], bytes: &[u8], out: &mut [u8])
 fn encode_rest(table: &[u8; 64], bytes: &[u8], out: &mut [u8])
     requires { ⌜ Characters (now table) ⌝ }
     requires { ⌜ length (now bytes) < 3 ⌝ }
-    requires { ⌜ length (encoded (now bytes)) ≤ length (now out) ⌝ }
+    requires { ⌜ encodedSize (length (now bytes)) ≤ length (now out) ⌝ }
     ensures { λ _. ⌜ now (out .exit) ≡ encoded (now (bytes .entry)) ++ drop (length (encoded (now (bytes .entry)))) (now (out .entry)) ⌝ }
 {
     let n = bytes.len();
@@ -81,12 +101,12 @@ fn encode_rest(table: &[u8; 64], bytes: &[u8], out: &mut [u8])
         return;
     }
     let a = bytes[0];
-    out[0] = look_up(table, a / 4);
+    out[0] = first(table, a);
     if n == 1 {
-        out[1] = look_up(table, a % 4 * 16);
+        out[1] = second(table, a, 0);
         return;
     }
     let b = bytes[1];
-    out[1] = look_up(table, a % 4 * 16 + b / 16);
-    out[2] = look_up(table, b % 16 * 4);
+    out[1] = second(table, a, b);
+    out[2] = third(table, b, 0);
 }

@@ -1,10 +1,10 @@
 -- Lists by position, where the code counts i, i + 1, ..
 use Prim.Native.Nat.{ℕ, suc, _+_, _-_, _<_, _≤_}
 use mathlib.Core.Path.{_≡_, refl, sym, ap, _∙_}
-use mathlib.Core.List.{List, [], _∷_, _++_, append-assoc}
-use lib.ListN.{length, take, drop, set, getD, length-append, length-take, length-drop}
-use lib.Seq.{drop-cons, take-suc, take-suc-set, drop-drop}
-use native.Mathlib.Numerals.{add-one}
+use mathlib.Core.List.{List, [], _∷_, _++_, append-assoc, append-nil}
+use lib.ListN.{length, take, drop, set, getD, length-append, length-take, length-drop, drop-of-length-le}
+use lib.Seq.{drop-cons, take-suc, take-suc-set, drop-drop, sets-eq, take-at, drop-at, take-all}
+use native.Mathlib.Numerals.{add-one, add-two, add-three}
 use native.Mathlib.Omega.{arith}
 
 module _ {A : Type 0} where
@@ -18,3 +18,34 @@ module _ {A : Type 0} where
   -- one store behind the part that is kept
   pub store-one : (o : List A) (k : ℕ) (x : A) → k < length o → take (k + 1) (set o k x) ≡ take k o ++ (x ∷ [])
   store-one o k x h = rw (add-one, take-suc-set o k x h)
+
+  -- stores one behind the other
+  pub store-two : (o : List A) (k : ℕ) (x y : A) → k + 2 ≤ length o → set (set o k x) (k + 1) y ≡ take k o ++ (x ∷ y ∷ []) ++ drop (k + 2) o
+  store-two o k x y h = rw add-one (sets-eq (x ∷ y ∷ []) o k h)
+
+  pub store-three : (o : List A) (k : ℕ) (x y z : A) → k + 3 ≤ length o →
+      set (set (set o k x) (k + 1) y) (k + 2) z ≡ take k o ++ (x ∷ y ∷ z ∷ []) ++ drop (k + 3) o
+  store-three o k x y z h = rw (add-one, add-two) (sets-eq (x ∷ y ∷ z ∷ []) o k h)
+
+  pub store-four : (o : List A) (k : ℕ) (w x y z : A) → k + 4 ≤ length o →
+      set (set (set (set o k w) (k + 1) x) (k + 2) y) (k + 3) z ≡ take k o ++ (w ∷ x ∷ y ∷ z ∷ []) ++ drop (k + 4) o
+  store-four o k w x y z h = rw (add-one, add-two, add-three) (sets-eq (w ∷ x ∷ y ∷ z ∷ []) o k h)
+
+  -- a buffer whose front is written: a block behind it
+  pub overwrite : (o o₀ front block : List A) (k n : ℕ) → o ≡ front ++ drop k o₀ → length front ≡ k → length block ≡ n →
+      take k o ++ block ++ drop (k + n) o ≡ front ++ block ++ drop (k + n) o₀
+  overwrite o o₀ front block k n e h l =
+      rw (← drop-drop n k o, e, take-at front (drop k o₀) k h, drop-at front (drop k o₀) k h, drop-drop n k o₀)
+
+  -- the same, where a part from k on was lent and came back with the content at its front
+  pub overwrite-part : (o o₀ front content : List A) (k : ℕ) → o ≡ front ++ drop k o₀ → length front ≡ k →
+      take k o ++ (content ++ drop (length content) (drop k o)) ≡ front ++ content ++ drop (length (front ++ content)) o₀
+  overwrite-part o o₀ front content k e h =
+      rw (e, take-at front (drop k o₀) k h, drop-at front (drop k o₀) k h, drop-drop, length-append, h) (sym (append-assoc front content _))
+
+  -- a part from k to the end, lent and come back
+  pub part-rest : (k : ℕ) (o : List A) → take (length o - k) (drop k o) ≡ drop k o
+  part-rest k o = take-all (length o - k) (drop k o) (simp length-drop (omega arith))
+
+  pub put-rest : (k : ℕ) (o part : List A) → take k o ++ (part ++ drop (length o - k) (drop k o)) ≡ take k o ++ part
+  put-rest k o part = rw (drop-of-length-le (drop k o) {i = length o - k} (simp length-drop (omega arith)), append-nil)

@@ -3,8 +3,8 @@ use Prim.Native.Nat.{ℕ, zero, suc, _+_, _<_, _≤_}
 use mathlib.Core.Path.{_≡_, refl, sym, ap, _∙_}
 use mathlib.Core.Bool.{Bool, true, false, _&&_, false≢true, true≢false}
 use mathlib.Core.List.{List, [], _∷_, _++_}
-use lib.ListN.{length, take, drop, getD}
-use lib.Seq.{drop-cons}
+use lib.ListN.{length, take, drop, getD, length-drop, drop-of-length-le}
+use lib.Seq.{drop-cons, drop-drop}
 use native.Mathlib.Numerals.{add-one}
 use native.Mathlib.Omega.{arith}
 use native.Mathlib.Nat.{not-suc-le-zero, le-of-suc-le-suc}
@@ -37,6 +37,15 @@ module _ (class : ℕ → Bool) where
   run-all (suc n) (b ∷ t) h e =
       let a = and-true (class b) (all class (take n t)) e in
       rw (a .0, run-all n t (le-of-suc-le-suc h) (a .1)) (omega arith)
+
+  -- several bytes of the class from i on
+  pub run-more : (n : ℕ) (t : List ℕ) (i : ℕ) → i + n ≤ length t → all class (take n (drop i t)) ≡ true → i + run class (drop i t) ≡ i + n + run class (drop (i + n) t)
+  run-more n t i h e = rw (run-all n (drop i t) (simp length-drop (omega arith)) e, drop-drop) (omega arith)
+
+  -- the end of the text
+  pub run-end : (t : List ℕ) (i : ℕ) → length t ≤ i → i + run class (drop i t) ≡ i
+  unfolding run
+  run-end t i h = rw (drop-of-length-le t h) (omega arith)
 
   pub run-le : (t : List ℕ) → run class t ≤ length t
   unfolding run

@@ -9,7 +9,7 @@ use borrow.Author.Tests.{not-true, not-false}
 use denote.Ref.{now}
 use Rattle.base64.specs.Alphabet.{isCharacter}
 use Rattle.refusal.specs.Run.{all, run}
-use Rattle.refusal.proofs.Laws.Run.{run-in, run-out, run-all}
+use Rattle.refusal.proofs.Laws.Run.{run-in, run-out, run-more, run-end}
 use Rattle.base64.proofs.alphabet.characters.Statement.{statement}
 use Rattle.base64.proofs.alphabet.characters.Tie as tie
 use Rattle.base64.proofs.alphabet.characters.Reads as reads
@@ -51,11 +51,11 @@ loop-less c = search needs
 
 -- src/alphabet.rt:76:5
 loop-again : tie.Need-loop-again Inv-loop μ-loop Inv-loop2 μ-loop2
-loop-again c = ?
+loop-again c = (search needs, search needs, c .before .before .before .before .loop .inv .2 ∙ run-more isCharacter 8 (now (c .before .before .before .before .before .before .args .text)) (c .before .before .before .before .loop .i) (omega arith) (sym (c .before .eight .ensures) ∙ not-false _ (c .if2 .left)))
 
 -- src/alphabet.rt:85:5
 loop2-holds : tie.Need-loop2-holds Inv-loop μ-loop Inv-loop2 μ-loop2
-loop2-holds c = ?
+loop2-holds c = c .before .loop .inv
 
 -- src/alphabet.rt:86:26
 shared-slice-read-is-character :
@@ -68,7 +68,7 @@ is-character-requires c κs = search needs
 
 -- src/alphabet.rt:87:13
 returns : tie.Need-returns Inv-loop μ-loop Inv-loop2 μ-loop2
-returns c = ?
+returns c = sym (c .before .before .before .before .loop2 .inv .2 ∙ run-out isCharacter (now (c .before .before .before .before .before .before .before .before .args .text)) (c .before .before .before .before .loop2 .i) (c .before .before .before .loop2-test .taken) (sym (c .before .is-character .ensures) ∙ not-true _ (c .if3 .taken)))
 
 -- src/alphabet.rt:89:9
 add-i-2 : tie.Need-add-i-2 Inv-loop μ-loop Inv-loop2 μ-loop2
@@ -80,11 +80,11 @@ loop2-less c = search needs
 
 -- src/alphabet.rt:85:5
 loop2-again : tie.Need-loop2-again Inv-loop μ-loop Inv-loop2 μ-loop2
-loop2-again c = ?
+loop2-again c = (search needs, search needs, c .before .before .before .before .loop2 .inv .2 ∙ run-in isCharacter (now (c .before .before .before .before .before .before .before .before .args .text)) (c .before .before .before .before .loop2 .i) (c .before .before .before .loop2-test .taken) (sym (c .before .is-character .ensures) ∙ not-false _ (c .if3 .left)))
 
 -- src/alphabet.rt:71:1
 returns-2 : tie.Need-returns-2 Inv-loop μ-loop Inv-loop2 μ-loop2
-returns-2 c = ?
+returns-2 c = sym (c .before .loop2 .inv .2 ∙ run-end isCharacter (now (c .before .before .before .before .before .args .text)) (c .before .loop2 .i) (c .loop2-test .left))
 
 pub characters-spec : {M : Type 1} → statement M
 characters-spec =

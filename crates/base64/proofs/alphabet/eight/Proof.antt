@@ -33,6 +33,7 @@ abbrev μ-loop : tie.MeasureT-loop
 
 -- src/alphabet.rt:63:5
 loop-holds : tie.Need-loop-holds Inv-loop μ-loop
+unfolding all
 loop-holds c = (search needs, refl)
 
 -- src/alphabet.rt:64:41
@@ -61,7 +62,9 @@ loop-again c = (search needs, more (now (c .before .before .before .before .befo
 
 -- src/alphabet.rt:57:1
 returns : tie.Need-returns Inv-loop μ-loop
-returns c = c .before .loop .inv .1 ∙ ap (λ j. all isCharacter (take j (drop (c .before .before .before .args .at) (now (c .before .before .before .args .text))))) (omega arith)
+returns c =
+    let e : c .before .loop .j ≡ 8 = omega arith in
+    c .before .loop .inv .1 ∙ rw e
 
 pub eight-spec : {M : Type 1} → statement M
 eight-spec =

@@ -1,3 +1,4 @@
+use lib.Dec.{leb}
 use Rattle.refusal.proofs.Laws.Booleans.{and-true}
 use Rattle.base64.specs.Alphabet.{valueOf}
 use native.Mathlib.Omega.{arith}
@@ -18,7 +19,7 @@ returns c = simp (c .if1 .taken)
 
 -- src/alphabet.rt:120:16
 sub-result-2 : tie.Need-sub-result-2
-sub-result-2 c = omega (arith, leb-true _ _ (and-true _ _ (c .if2 .taken) .0))
+sub-result-2 c = omega (arith, leb-true 97 (c .before .before .args .b) (and-true _ _ (c .if2 .taken) .0))
 
 -- src/alphabet.rt:120:9
 returns-2 : tie.Need-returns-2
@@ -27,7 +28,7 @@ returns-2 c = simp (c .before .if1 .left, c .if2 .taken)
 
 -- src/alphabet.rt:123:16
 add-result : tie.Need-add-result
-add-result c = omega (arith, leb-true _ _ (and-true _ _ (c .if3 .taken) .1))
+add-result c = omega (arith, leb-true (c .before .before .before .args .b) 57 (and-true (leb 48 (c .before .before .before .args .b)) (leb (c .before .before .before .args .b) 57) (c .if3 .taken) .1))
 
 -- src/alphabet.rt:123:9
 returns-3 : tie.Need-returns-3

@@ -1,3 +1,9 @@
+use mathlib.Core.Path.{refl, sym, ap, _∙_}
+use native.Mathlib.Omega.{arith}
+use borrow.Author.Tests.{lt-ltb, le-ltb}
+use denote.Ref.{now}
+use Rattle.base64.specs.Code.{sizeSaid}
+use Rattle.base64.proofs.Laws.Code.{decoded-length, measured-size, measured-none}
 use borrow.Author.Needs.{needs}
 use Rattle.base64.proofs.decoding.decode.Statement.{statement}
 use Rattle.base64.proofs.decoding.decode.Tie as tie
@@ -21,7 +27,9 @@ enum-known-m c = search needs
 
 -- src/decoding.rt:54:17
 returns : tie.Need-returns
-returns c = ?
+returns c = 
+    let s = (measured-size (now (c .before .before .before .before .before .before .before .args .text)) (c .before .before .m .given .0 .0) (ap sizeSaid (sym (c .before .before .m .given .1)) ∙ c .before .before .before .before .measure .ensures)) in
+    rw (s .0, lt-ltb _ _ (rw (s .1) at (c .if1 .taken))) (refl, refl)
 
 -- src/decoding.rt:56:25
 values-requires : tie.Need-values-requires
@@ -29,11 +37,13 @@ values-requires c κs = search needs
 
 -- src/decoding.rt:57:13
 decode-into-requires : tie.Need-decode-into-requires
-decode-into-requires c κs = ?
+decode-into-requires c κs = 
+    let s = (measured-size (now (c .before .before .before .before .before .before .before .before .before .before .args .text)) (c .before .before .before .before .before .m .given .0 .0) (ap sizeSaid (sym (c .before .before .before .before .before .m .given .1)) ∙ c .before .before .before .before .before .before .before .measure .ensures)) in
+    (c .before .before .values .ensures, omega (arith, s .1, decoded-length (now (c .before .before .before .before .before .before .before .before .before .before .args .text))))
 
 -- src/decoding.rt:45:1
 returns-2 : tie.Need-returns-2
-returns-2 c = ?
+returns-2 c = rw (measured-none (now (c .before .before .before .before .before .args .text)) (ap sizeSaid (sym (c .enum-told .given .1)) ∙ c .before .before .measure .ensures)) (refl, refl)
 
 -- src/decoding.rt:45:1
 same-length : tie.Need-same-length
@@ -41,7 +51,9 @@ same-length c = search needs
 
 -- src/decoding.rt:45:1
 returns-3 : tie.Need-returns-3
-returns-3 c = ?
+returns-3 c = 
+    let s = (measured-size (now (c .before .before .before .before .before .before .before .before .before .before .before .before .before .args .text)) (c .before .before .before .before .before .before .before .before .m .given .0 .0) (ap sizeSaid (sym (c .before .before .before .before .before .before .before .before .m .given .1)) ∙ c .before .before .before .before .before .before .before .before .before .before .measure .ensures)) in
+    rw (s .0, le-ltb _ _ (rw (s .1) at (c .before .before .before .before .before .before .if1 .left)), ← s .1) (refl, c .before .before .decode-into .ensures ∙ rw (s .1))
 
 pub decode-spec : {M : Type 1} → statement M
 decode-spec =

@@ -1,3 +1,4 @@
+use Rattle.base64.proofs.Laws.Alphabet.{value-lt}
 use borrow.Author.Needs.{needs}
 use Rattle.base64.proofs.decoding.look_up.Statement.{statement}
 use Rattle.base64.proofs.decoding.look_up.Tie as tie
@@ -15,7 +16,9 @@ element-copy-out-result c = search needs
 
 -- src/decoding.rt:70:1
 returns : tie.Need-returns
-returns c = rw (c .before .wide .ensures) (c .before .before .pre (c .before .before .args .b) (search needs))
+returns c =
+    let e = c .before .before .pre (c .before .before .args .b) (search needs) in
+    rw (c .before .wide .ensures) (e, rw e (value-lt (c .before .before .args .b)))
 
 pub look-up-spec : {M : Type 1} → statement M
 look-up-spec = tie.close (tie.spec wide-requires element-copy-out-result returns)

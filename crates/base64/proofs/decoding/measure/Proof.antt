@@ -1,3 +1,15 @@
+use Prim.Native.Nat.{ℕ}
+use mathlib.Core.Path.{_≡_, refl}
+use mathlib.Core.Bool.{true}
+use mathlib.Core.List.{List, [], _∷_}
+use lib.ListN.{length}
+use native.Mathlib.Omega.{arith}
+use denote.Ref.{now}
+use Rattle.base64.specs.Alphabet.{isCharacter}
+use Rattle.base64.specs.Code.{isBase64, endsWell}
+use Rattle.base64.proofs.Laws.Code.{decoded-none, decoded-length}
+use Rattle.refusal.specs.Run.{all}
+use Rattle.refusal.proofs.Laws.Run.{run-part, run-whole}
 use borrow.Author.Needs.{needs}
 use Rattle.base64.proofs.decoding.measure.Statement.{statement}
 use Rattle.base64.proofs.decoding.measure.Tie as tie
@@ -6,9 +18,14 @@ use Rattle.base64.proofs.decoding.measure.Lts as lts
 use Rattle.base64.proofs.alphabet.characters.Reads as characters-reads
 use Rattle.base64.proofs.alphabet.ends_well.Reads as ends-well-reads
 
+nothing : (t : List ℕ) → length t ≡ 0 → isBase64 t ≡ true
+unfolding isBase64 all endsWell
+nothing [] h = refl
+nothing (a ∷ t) h = absurd (omega arith)
+
 -- src/decoding.rt:33:9
 returns : tie.Need-returns
-returns c = ?
+returns c = rw (nothing (now (c .before .before .args .text)) (c .if1 .taken), decoded-none (now (c .before .before .args .text)) (omega arith))
 
 -- src/decoding.rt:35:8
 characters-requires : tie.Need-characters-requires
@@ -16,7 +33,8 @@ characters-requires c κs = search needs
 
 -- src/decoding.rt:36:9
 returns-2 : tie.Need-returns-2
-returns-2 c = ?
+unfolding isBase64
+returns-2 c = simp (run-part isCharacter (now (c .before .before .before .before .args .text)) (omega (arith, c .before .characters .ensures)))
 
 -- src/decoding.rt:38:26
 sub-ends-well : tie.Need-sub-ends-well
@@ -44,11 +62,13 @@ add-t13 c = search needs
 
 -- src/decoding.rt:39:9
 returns-3 : tie.Need-returns-3
-returns-3 c = ?
+unfolding isBase64
+returns-3 c = simp (run-whole isCharacter (now (c .before .before .before .before .before .before .before .args .text)) (omega (arith, c .before .before .before .before .characters .ensures)), ← c .before .ends-well .ensures, c .if3 .taken, decoded-length (now (c .before .before .before .before .before .before .before .args .text)))
 
 -- src/decoding.rt:28:1
 returns-4 : tie.Need-returns-4
-returns-4 c = ?
+unfolding isBase64
+returns-4 c = simp (run-whole isCharacter (now (c .before .before .before .before .before .before .before .args .text)) (omega (arith, c .before .before .before .before .characters .ensures)), ← c .before .ends-well .ensures, c .if3 .left)
 
 pub measure-spec : {M : Type 1} → statement M
 measure-spec =

@@ -1,0 +1,22 @@
+use Prim.Native.Nat.{_+_, _*_, _/_, _%_}
+use borrow.Author.Needs.{needs}
+use Rattle.base64.proofs.encoding.fourth.Statement.{statement}
+use Rattle.base64.proofs.encoding.fourth.Tie as tie
+use Rattle.base64.proofs.encoding.fourth.Reads as reads
+use Rattle.base64.proofs.encoding.fourth.Lts as lts
+use Rattle.base64.proofs.encoding.wide.Reads as wide-reads
+
+-- src/encoding.rt:68:11
+wide-requires : tie.Need-wide-requires
+wide-requires c κs = search needs
+
+-- src/encoding.rt:68:5
+element-copy-out-result : tie.Need-element-copy-out-result
+element-copy-out-result c = search needs
+
+-- src/encoding.rt:64:1
+returns : tie.Need-returns
+returns c = rw (c .before .wide .ensures) (c .before .before .pre (c .before .before .args .c % 64) (search needs))
+
+pub fourth-spec : {M : Type 1} → statement M
+fourth-spec = tie.close (tie.spec wide-requires element-copy-out-result returns)
