@@ -1,3 +1,4 @@
 pub mod Alphabet
 pub mod Code
 pub mod Lines
+pub mod RoundTrip

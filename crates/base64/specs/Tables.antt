@@ -1,5 +1,5 @@
 -- What the private functions ask of the tables and buffers that they are lent. Nobody has to believe this: each caller shows it.
-use Prim.Native.Nat.{ℕ, _+_, _*_, _/_, _%_, _<_, _≤_}
+use Prim.Native.Nat.{ℕ, _+_, _-_, _*_, _/_, _%_, _<_, _≤_}
 use mathlib.Core.Path.{_≡_}
 use mathlib.Core.List.{List}
 use lib.ListN.{length, getD}
@@ -19,3 +19,7 @@ decodedSize n = n / 4 * 3 + n % 4 * 3 / 4
 
 abbrev pub encodedSize : ℕ → ℕ
 encodedSize n = n / 3 * 4 + (n % 3 * 4 + 2) / 3
+
+-- how many bytes the body of n bytes of lines has
+abbrev pub bodySize : ℕ → ℕ
+bodySize n = decodedSize ((n - 1) - (n - 1) / 65)

@@ -4,6 +4,7 @@
 mod alphabet;
 mod decoding;
 mod encoding;
+mod lines;
 
 pub use alphabet::characters;
 pub use alphabet::ends_well;
@@ -13,3 +14,7 @@ pub use decoding::Size;
 pub use decoding::decode;
 pub use decoding::measure;
 pub use encoding::encode;
+pub use lines::body_length;
+pub use lines::decode_lines;
+pub use lines::encode_lines;
+pub use lines::lines_length;

@@ -3,7 +3,7 @@ use Prim.Native.Nat.{ℕ, suc, _+_, _-_, _<_, _≤_}
 use mathlib.Core.Path.{_≡_, refl, sym, ap, _∙_}
 use mathlib.Core.List.{List, [], _∷_, _++_, append-assoc, append-nil}
 use lib.ListN.{length, take, drop, set, getD, length-append, length-take, length-drop, drop-of-length-le}
-use lib.Seq.{drop-cons, take-suc, take-suc-set, drop-drop, sets-eq, take-at, drop-at, take-all}
+use lib.Seq.{drop-cons, take-suc, take-suc-set, drop-drop, sets-eq, take-at, drop-at, take-all, take-add, take-append-seam, take-length, set-at, append-snoc, length-take-le}
 use native.Mathlib.Numerals.{add-one, add-two, add-three}
 use native.Mathlib.Omega.{arith}
 
@@ -49,3 +49,31 @@ module _ {A : Type 0} where
 
   pub put-rest : (k : ℕ) (o part : List A) → take k o ++ (part ++ drop (length o - k) (drop k o)) ≡ take k o ++ part
   put-rest k o part = rw (drop-of-length-le (drop k o) {i = length o - k} (simp length-drop (omega arith)), append-nil)
+
+  -- a buffer that holds the first k elements of w at its front, and is else as it was: a block more, written to the part from k on
+  pub front-part : (w o o₀ b r : List A) (k : ℕ) → o ≡ take k w ++ drop k o₀ → drop k w ≡ b ++ r → k ≤ length w →
+      take k o ++ (b ++ drop (length b) (drop k o)) ≡ take (k + length b) w ++ drop (k + length b) o₀
+  front-part w o o₀ b r k e q h =
+      rw (e, take-at (take k w) (drop k o₀) k (length-take-le k w h), drop-at (take k w) (drop k o₀) k (length-take-le k w h), drop-drop (length b) k o₀, take-add k (length b) w, q, take-append-seam b r)
+      (sym (append-assoc (take k w) b (drop (k + length b) o₀)))
+
+  -- and one element more
+  pub front-store : (w o o₀ : List A) (k : ℕ) (d : A) → o ≡ take k w ++ drop k o₀ → k < length w → length w ≤ length o₀ →
+      set o k (getD w k d) ≡ take (k + 1) w ++ drop (k + 1) o₀
+  front-store w o o₀ k d e h l =
+      rw (e, drop-one o₀ k d (omega arith), set-at (take k w) (getD o₀ k d) (drop (k + 1) o₀) (getD w k d) k (length-take-le k w (omega arith)), take-one w k d h)
+      (sym (append-snoc (take k w) (getD w k d) (drop (k + 1) o₀)))
+
+  -- all of it
+  pub front-whole : (w o o₀ : List A) (k : ℕ) → o ≡ take k w ++ drop k o₀ → k ≡ length w → o ≡ w ++ drop (length w) o₀
+  front-whole w o o₀ k e h = e ∙ rw (h, take-length w)
+
+  pub front-length : (w o o₀ : List A) (k : ℕ) → o ≡ take k w ++ drop k o₀ → k ≤ length w → length w ≤ length o₀ → length o ≡ length o₀
+  front-length w o o₀ k e h l = ap length e ∙ simp (length-append, length-take, length-drop) (omega arith)
+
+  -- the last block
+  pub front-last : (w o o₀ b : List A) (k : ℕ) → o ≡ take k w ++ drop k o₀ → drop k w ≡ b → k ≤ length w →
+      take k o ++ (b ++ drop (length b) (drop k o)) ≡ w ++ drop (length w) o₀
+  front-last w o o₀ b k e q h =
+      let l : k + length b ≡ length w = omega (arith, sym (length-drop k w) ∙ ap length q) in
+      front-part w o o₀ b [] k e (q ∙ sym (append-nil b)) h ∙ rw (l, take-length w)

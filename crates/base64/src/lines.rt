@@ -1,0 +1,122 @@
+// Base64 in lines of 64 characters: a stanza's body. Reading it is total: of bytes that are no such lines it makes what the definition says.
+ghost use mathlib.Core.Path.{_≡_};
+ghost use Prim.Native.Nat.{_<_, _≤_, _+_, _/_};
+ghost use lib.ListN.{length, drop};
+ghost use mathlib.Core.List.{_++_};
+ghost use Rattle.base64.specs.Lines.{linesOf, bodyOf};
+ghost use Rattle.base64.specs.Tables.{Values, Characters, bodySize, encodedSize};
+ghost use Rattle.refusal.specs.Output.{said, answered, filled};
+use crate::alphabet::alphabet_characters;
+use crate::alphabet::values;
+use crate::decoding::decode_into;
+use crate::encoding::encode_into;
+use crate::encoding::encoded_length;
+use refusal::Refusal;
+use refusal::Written;
+
+// How many bytes the body of n bytes of lines has.
+pub fn body_length(n: usize) -> usize
+    ensures { λ r. ⌜ r ≡ bodySize n ⌝ }
+{
+    if n == 0 {
+        return 0;
+    }
+    let m = n - 1;
+    let c = m - m / 65;
+    c / 4 * 3 + c % 4 * 3 / 4
+}
+
+// The body of some lines at the front of `out`: how many bytes, or 15 and nothing written.
+pub fn decode_lines(lines: &[u8], out: &mut [u8]) -> Written
+    ensures answer { λ r. ⌜ said r ≡ answered (bodyOf (now (lines .entry))) (now (out .entry)) ⌝ }
+    ensures buffer { λ r. ⌜ now (out .exit) ≡ filled (bodyOf (now (lines .entry))) (now (out .entry)) ⌝ }
+{
+    let n = body_length(lines.len());
+    if out.len() < n {
+        return Written::Refused(Refusal::ShortOutput);
+    }
+    let table = values();
+    body_into(&table, lines, out);
+    Written::Bytes(n)
+}
+
+// The same where the buffer is long enough: line by line, the last without its LF.
+fn body_into(table: &[u8; 256], lines: &[u8], out: &mut [u8])
+    requires { ⌜ Values (now table) ⌝ }
+    requires { ⌜ bodySize (length (now lines)) ≤ length (now out) ⌝ }
+    ensures { λ _. ⌜ now (out .exit) ≡ bodyOf (now (lines .entry)) ++ drop (length (bodyOf (now (lines .entry)))) (now (out .entry)) ⌝ }
+{
+    let n = lines.len();
+    if n == 0 {
+        return;
+    }
+    let full = (n - 1) / 65;
+    let mut i: usize = 0;
+    while i < full {
+        let a = 65 * i;
+        let e = a + 64;
+        let b = 48 * i;
+        decode_into(table, &lines[a..e], &mut out[b..]);
+        i += 1;
+    }
+    let a = 65 * full;
+    let e = n - 1;
+    let b = 48 * full;
+    decode_into(table, &lines[a..e], &mut out[b..]);
+}
+
+// How many bytes the lines of a body have.
+pub fn lines_length(body: &[u8]) -> usize
+    ensures { λ r. ⌜ r ≡ length (linesOf (now (body .entry))) ⌝ }
+{
+    let c = encoded_length(body);
+    c + c / 64 + 1
+}
+
+// The lines of a body at the front of `out`: how many bytes, or 15 and nothing written.
+pub fn encode_lines(body: &[u8], out: &mut [u8]) -> Written
+    ensures answer { λ r. ⌜ said r ≡ answered (linesOf (now (body .entry))) (now (out .entry)) ⌝ }
+    ensures buffer { λ r. ⌜ now (out .exit) ≡ filled (linesOf (now (body .entry))) (now (out .entry)) ⌝ }
+{
+    let n = lines_length(body);
+    if out.len() < n {
+        return Written::Refused(Refusal::ShortOutput);
+    }
+    let table = alphabet_characters();
+    lines_into(&table, body, out);
+    Written::Bytes(n)
+}
+
+// The same where the buffer is long enough: 48 bytes to a full line, and the rest to the last.
+fn lines_into(table: &[u8; 64], body: &[u8], out: &mut [u8])
+    requires { ⌜ Characters (now table) ⌝ }
+    requires { ⌜ encodedSize (length (now body)) + encodedSize (length (now body)) / 64 + 1 ≤ length (now out) ⌝ }
+    ensures { λ _. ⌜ now (out .exit) ≡ linesOf (now (body .entry)) ++ drop (length (linesOf (now (body .entry)))) (now (out .entry)) ⌝ }
+{
+    let full = body.len() / 48;
+    let mut i: usize = 0;
+    while i < full {
+        let a = 48 * i;
+        let e = a + 48;
+        let b = 65 * i;
+        encode_into(table, &body[a..e], &mut out[b..]);
+        let end = b + 64;
+        out[end] = 10;
+        i += 1;
+    }
+    let a = 48 * full;
+    let b = 65 * full;
+    last_line(table, &body[a..], &mut out[b..]);
+}
+
+// The last line, of fewer than 48 bytes.
+fn last_line(table: &[u8; 64], body: &[u8], out: &mut [u8])
+    requires { ⌜ Characters (now table) ⌝ }
+    requires { ⌜ length (now body) < 48 ⌝ }
+    requires { ⌜ encodedSize (length (now body)) + 1 ≤ length (now out) ⌝ }
+    ensures { λ _. ⌜ now (out .exit) ≡ linesOf (now (body .entry)) ++ drop (length (linesOf (now (body .entry)))) (now (out .entry)) ⌝ }
+{
+    let n = encoded_length(body);
+    encode_into(table, body, out);
+    out[n] = 10;
+}
