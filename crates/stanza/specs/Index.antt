@@ -33,6 +33,11 @@ readIndex [] = refused 5
 readIndex (b ∷ []) = digits 0 (b ∷ [])
 readIndex (b ∷ c ∷ t) = pick (eqb b 48) (refused 5) (digits 0 (b ∷ c ∷ t))
 
+-- what digits stand for, from the left, where v has been read
+unfoldable pub valueFrom : ℕ → List ℕ → ℕ
+valueFrom v [] = v
+valueFrom v (b ∷ t) = valueFrom (v * 10 + (b - 48)) t
+
 -- the decimal digits of a number, with fuel for as many digits: the last digit stands behind those of the tenth part
 unfoldable pub decimalWith : ℕ → ℕ → List ℕ
 decimalWith zero n = []

@@ -13,7 +13,7 @@ use Rattle.refusal.specs.Run.{all}
 use Rattle.refusal.proofs.Laws.Booleans.{cases, and-true, and-false-right}
 use Rattle.refusal.proofs.Laws.Lists.{drop-one}
 use Rattle.refusal.proofs.Laws.Run.{all-append}
-use Rattle.stanza.specs.Index.{number, refused, isDigit, digits, readIndex, decimal, decimalWith}
+use Rattle.stanza.specs.Index.{number, refused, isDigit, digits, readIndex, valueFrom, decimal, decimalWith}
 
 -- ---- what the code passes over
 
@@ -40,37 +40,32 @@ read-index-by (b ∷ []) = refl
 read-index-by (b ∷ c ∷ t) =
     rw (eqb·suc-zero (suc (length t)), eqb·suc-suc (suc (length t)) 0, eqb·suc-zero (length t))
 
--- ---- the number that digits stand for
+-- ---- what digits stand for
 
--- read on from v
-value : ℕ → List ℕ → ℕ
-value v [] = v
-value v (b ∷ t) = value (v * 10 + (b - 48)) t
-
-value-append : (v : ℕ) (s t : List ℕ) → value v (s ++ t) ≡ value (value v s) t
-unfolding value
+pub value-append : (v : ℕ) (s t : List ℕ) → valueFrom v (s ++ t) ≡ valueFrom (valueFrom v s) t
+unfolding valueFrom
 value-append v [] t = refl
 value-append v (b ∷ s) t = value-append (v * 10 + (b - 48)) s t
 
 -- it only grows
-value-le : (v : ℕ) (t : List ℕ) → v ≤ value v t
-unfolding value
+pub value-le : (v : ℕ) (t : List ℕ) → v ≤ valueFrom v t
+unfolding valueFrom
 value-le v [] = omega arith
 value-le v (b ∷ t) = omega (arith, value-le (v * 10 + (b - 48)) t)
 
-too-large : (v : ℕ) (t : List ℕ) → leb v 4294967295 ≡ false → leb (value v t) 4294967295 ≡ false
-too-large v t e = lt-leb (value v t) 4294967295 (omega (arith, leb-false v 4294967295 e, value-le v t))
+pub value-above : (limit v : ℕ) (t : List ℕ) → limit < v → leb (valueFrom v t) limit ≡ false
+value-above limit v t h = lt-leb (valueFrom v t) limit (omega (arith, value-le v t))
 
 -- digits are read if all of them are digits and the number is not too large
 digits-value : (v : ℕ) (t : List ℕ) → v ≤ 4294967295 →
-    digits v t ≡ pick (all isDigit t && leb (value v t) 4294967295) (number (value v t)) (refused 5)
-unfolding digits value all
+    digits v t ≡ pick (all isDigit t && leb (valueFrom v t) 4294967295) (number (valueFrom v t)) (refused 5)
+unfolding digits valueFrom all
 digits-value v [] h = rw (le-leb v 4294967295 h)
 digits-value v (b ∷ t) h =
     cases (isDigit b)
     (λ d. cases (leb (v * 10 + (b - 48)) 4294967295)
     (λ l. rw (d, l) (digits-value (v * 10 + (b - 48)) t (leb-true _ _ l)))
-    (λ l. rw (d, l, too-large (v * 10 + (b - 48)) t l, and-false-right (all isDigit t))))
+    (λ l. rw (d, l, value-above 4294967295 (v * 10 + (b - 48)) t (leb-false _ _ l), and-false-right (all isDigit t))))
     (λ d. rw d)
 
 -- ---- the text of a number
@@ -109,8 +104,8 @@ decimal-digit v d h k =
     )
 
 -- it has digits only, and they stand for the number
-decimal-digits : (f n : ℕ) → n < f → (all isDigit (decimalWith f n) ≡ true) × (value 0 (decimalWith f n) ≡ n)
-unfolding all value
+pub decimal-digits : (f n : ℕ) → n < f → (all isDigit (decimalWith f n) ≡ true) × (valueFrom 0 (decimalWith f n) ≡ n)
+unfolding all valueFrom
 decimal-digits zero n h = absurd (omega arith)
 decimal-digits (suc f) n h =
     cases (ltb n 10)
@@ -162,8 +157,8 @@ read-decimal (suc m) h =
     rw (d .0, d .1, le-leb n 4294967295 h)
 
 -- what the digits of a text stand for has that text, behind the text of what was read before
-decimal-value : (v : ℕ) (t : List ℕ) → 0 < v → all isDigit t ≡ true → decimal (value v t) ≡ decimal v ++ t
-unfolding value all
+decimal-value : (v : ℕ) (t : List ℕ) → 0 < v → all isDigit t ≡ true → decimal (valueFrom v t) ≡ decimal v ++ t
+unfolding valueFrom all
 decimal-value v [] h e = sym (append-nil (decimal v))
 decimal-value v (b ∷ t) h e =
     let a = and-true (isDigit b) (all isDigit t) e in
@@ -191,26 +186,26 @@ abbrev pub Judged : List ℕ → Type 0
 Judged t = ((n : ℕ) × (readIndex t ≡ number n) × (t ≡ decimal n) × (n ≤ 4294967295)) ⊎ (readIndex t ≡ refused 5)
 
 -- where a text is its digits, and is that of what they stand for if they are digits
-judged : (t : List ℕ) → readIndex t ≡ digits 0 t → (all isDigit t ≡ true → decimal (value 0 t) ≡ t) → Judged t
+judged : (t : List ℕ) → readIndex t ≡ digits 0 t → (all isDigit t ≡ true → decimal (valueFrom 0 t) ≡ t) → Judged t
 judged t e h =
-    cases (all isDigit t && leb (value 0 t) 4294967295)
-    (λ g. let a = and-true (all isDigit t) (leb (value 0 t) 4294967295) g in
+    cases (all isDigit t && leb (valueFrom 0 t) 4294967295)
+    (λ g. let a = and-true (all isDigit t) (leb (valueFrom 0 t) 4294967295) g in
     inl (
-      value 0 t,
+      valueFrom 0 t,
       e ∙ digits-value 0 t (omega arith) ∙ rw g,
       sym (h (a .0)),
-      leb-true (value 0 t) 4294967295 (a .1),
+      leb-true (valueFrom 0 t) 4294967295 (a .1),
     ))
     (λ g. inr (e ∙ digits-value 0 t (omega arith) ∙ rw g))
 
 pub read-index : (t : List ℕ) → Judged t
 unfolding readIndex
 read-index [] = inr refl
-read-index (b ∷ []) = judged (b ∷ []) refl (unfold value all in (λ a. decimal-one b (and-true (isDigit b) true a .0)))
+read-index (b ∷ []) = judged (b ∷ []) refl (unfold valueFrom all in (λ a. decimal-one b (and-true (isDigit b) true a .0)))
 read-index (b ∷ c ∷ t) =
     cases (eqb b 48) (λ e. inr (rw e))
     (λ e. judged (b ∷ c ∷ t) (rw e)
-    (unfold value all in
+    (unfold valueFrom all in
     (λ a. let d = and-true (isDigit b) (all isDigit (c ∷ t)) a in
     let l = leb-true 48 b (and-true (leb 48 b) (leb b 57) (d .0) .0) in
     decimal-value (0 * 10 + (b - 48)) (c ∷ t) (first-positive b l (eqb-false b 48 e)) (d .1) ∙ rw (decimal-one b (d .0)))))
