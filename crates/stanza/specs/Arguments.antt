@@ -1,7 +1,7 @@
 -- The arguments of a stanza (document 01, "Stanza text"): "one or more arguments separated by single spaces", "an argument is one or more
 -- bytes from 33 to 126". The arguments' text is what stands between "-> " and the first LF.
 use Prim.Native.Nat.{ℕ}
-use mathlib.Core.Bool.{Bool, true, false, _&&_}
+use mathlib.Core.Bool.{Bool, true, false, _&&_, not}
 use mathlib.Core.List.{List, [], _∷_}
 use lib.Dec.{leb, eqb}
 use lib.ListN.{length, getD}
@@ -11,6 +11,10 @@ use Rattle.refusal.specs.Run.{all}
 -- a byte from 33 to 126
 unfoldable pub isGraphic : ℕ → Bool
 isGraphic b = leb 33 b && leb b 126
+
+-- a byte that is no space
+unfoldable pub isWordByte : ℕ → Bool
+isWordByte b = not (eqb b 32)
 
 -- a byte put before the first word
 unfoldable pub before : ℕ → List (List ℕ) → List (List ℕ)

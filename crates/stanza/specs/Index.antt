@@ -1,14 +1,22 @@
 -- An index (document 01, "Phase one"): "0" or digits without a leading zero, at most 4,294,967,295. Anything else is No. 5.
-use Prim.Native.Nat.{ℕ, _+_, _-_, _*_}
+use Prim.Native.Nat.{ℕ, zero, suc, _+_, _-_, _*_, _/_, _%_}
 use mathlib.Core.Bool.{Bool, _&&_}
-use mathlib.Core.List.{List, [], _∷_}
-use lib.Dec.{leb, eqb}
+use mathlib.Core.List.{List, [], _∷_, _++_}
+use lib.Dec.{leb, ltb, eqb}
+use Rattle.refusal.specs.Number.{numberOf}
 use Rattle.refusal.specs.Pick.{pick}
+use Rattle.stanza.specs.declared.indices.Index.{Index}
+use Rattle.stanza.specs.declared.indices.Index.the-variants.{Number, Refused}
 
 -- what reading an index gives: the number, or the paper's number of the refusal
 pub data Reading : Type 0 where
   number : ℕ → Reading
   refused : ℕ → Reading
+
+-- what the code's answer stands for
+abbrev pub indexSaid : Index → Reading
+indexSaid (Number n) = number n
+indexSaid (Refused r) = refused (numberOf r)
 
 -- "0" to "9"
 abbrev pub isDigit : ℕ → Bool
@@ -24,3 +32,17 @@ unfoldable pub readIndex : List ℕ → Reading
 readIndex [] = refused 5
 readIndex (b ∷ []) = digits 0 (b ∷ [])
 readIndex (b ∷ c ∷ t) = pick (eqb b 48) (refused 5) (digits 0 (b ∷ c ∷ t))
+
+-- what digits stand for, from the left, where v has been read
+unfoldable pub valueFrom : ℕ → List ℕ → ℕ
+valueFrom v [] = v
+valueFrom v (b ∷ t) = valueFrom (v * 10 + (b - 48)) t
+
+-- the decimal digits of a number, with fuel for as many digits: the last digit stands behind those of the tenth part
+unfoldable pub decimalWith : ℕ → ℕ → List ℕ
+decimalWith zero n = []
+decimalWith (suc f) n = let more = decimalWith f (n / 10) ++ ((48 + n % 10) ∷ []) in pick (ltb n 10) ((48 + n) ∷ []) more
+
+-- the text of a number without leading zeros, "0" for 0
+unfoldable pub decimal : ℕ → List ℕ
+decimal n = decimalWith (suc n) n

@@ -1,0 +1,3 @@
+-- What the definitions of specs/ say together: words and lines, the text of an index.
+pub mod Arguments
+pub mod Index

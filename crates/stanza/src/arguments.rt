@@ -1,0 +1,113 @@
+// The arguments' text of a stanza: whether it is one, how many words it has, which the k-th is, and whether two words are the same.
+// A word is what stands between two spaces, so every text has words; only a text of arguments has words that are all arguments.
+ghost use mathlib.Core.Path.{_≡_};
+ghost use Prim.Native.Nat.{_+_};
+ghost use lib.ListN.{drop};
+ghost use Rattle.refusal.specs.Run.{run};
+ghost use Rattle.stanza.specs.Arguments.{isGraphic, isWordByte, isLine, countOf, argumentOf, same};
+
+// A byte from 33 to 126.
+fn is_graphic(b: u8) -> bool
+    ensures { λ r. ⌜ r ≡ isGraphic b ⌝ }
+{
+    (33 <= b) & (b <= 126)
+}
+
+// The end of the run of bytes from 33 to 126 that begins at `from`; `from` itself where that is no place of the text.
+pub fn graphic_end(text: &[u8], from: usize) -> usize
+    ensures { λ r. ⌜ r ≡ from + run isGraphic (drop from (now (text .entry))) ⌝ }
+{
+    let mut i = from;
+    while i < text.len() {
+        if !is_graphic(text[i]) {
+            return i;
+        }
+        i += 1;
+    }
+    i
+}
+
+// The end of the word that begins at `from`: the next space or the text's end; `from` itself where that is no place of the text.
+fn word_end(text: &[u8], from: usize) -> usize
+    ensures { λ r. ⌜ r ≡ from + run isWordByte (drop from (now (text .entry))) ⌝ }
+{
+    let mut i = from;
+    while i < text.len() {
+        if text[i] == 32 {
+            return i;
+        }
+        i += 1;
+    }
+    i
+}
+
+// Whether a text is one or more arguments separated by single spaces.
+pub fn is_line(line: &[u8]) -> bool
+    ensures { λ r. ⌜ r ≡ isLine (now (line .entry)) ⌝ }
+{
+    let mut at: usize = 0;
+    loop {
+        let end = graphic_end(line, at);
+        if end == at {
+            return false;
+        }
+        if end == line.len() {
+            return true;
+        }
+        if line[end] != 32 {
+            return false;
+        }
+        at = end + 1;
+    }
+}
+
+// How many words a text has, one more than its spaces.
+pub fn count(line: &[u8]) -> usize
+    ensures { λ r. ⌜ r ≡ countOf (now (line .entry)) ⌝ }
+{
+    let mut n: usize = 1;
+    let mut i: usize = 0;
+    while i < line.len() {
+        let b = line[i];
+        i += 1;
+        if b == 32 {
+            n += 1;
+        }
+    }
+    n
+}
+
+// The k-th word of a text, counted from 0: a part of the text, the empty part where there is none.
+pub fn argument<'a>(line: &'a [u8], k: usize) -> &'a [u8]
+    ensures { λ r. ⌜ now r ≡ argumentOf (now (line .entry)) k ⌝ }
+{
+    let mut at: usize = 0;
+    let mut left = k;
+    while 0 < left {
+        let end = word_end(line, at);
+        if line.len() <= end {
+            return &line[..0];
+        }
+        at = end + 1;
+        left -= 1;
+    }
+    let end = word_end(line, at);
+    &line[at..end]
+}
+
+// Whether two texts are the same, byte for byte.
+pub fn is_same(a: &[u8], b: &[u8]) -> bool
+    ensures { λ r. ⌜ r ≡ same (now (a .entry)) (now (b .entry)) ⌝ }
+{
+    if a.len() != b.len() {
+        return false;
+    }
+    let mut i: usize = 0;
+    while i < a.len() {
+        if a[i] != b[i] {
+            return false;
+        }
+        i += 1;
+    }
+    true
+}
