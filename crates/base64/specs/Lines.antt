@@ -2,8 +2,12 @@
 -- line ends in LF. So 48 bytes make a line of 64 and an empty line.
 use Prim.Native.Nat.{ℕ, _+_, _-_, _*_, _/_, _%_}
 use mathlib.Core.List.{List, [], _∷_}
-use lib.Dec.{eqb}
+use mathlib.Core.Bool.{Bool, _&&_}
+use lib.Dec.{ltb, eqb}
+use lib.ListN.{length, take, getD}
 use Rattle.refusal.specs.Pick.{pick}
+use Rattle.refusal.specs.Run.{all}
+use Rattle.base64.specs.Alphabet.{isCharacter}
 use Rattle.base64.specs.Code.{encoded, decoded}
 
 -- characters laid out in lines, where k stand on the line already
@@ -23,3 +27,7 @@ linesOf body = wrapped 0 (encoded body)
 
 abbrev pub bodyOf : List ℕ → List ℕ
 bodyOf lines = decoded (unwrapped 0 lines)
+
+-- a full line stands at the front: 64 characters and an LF
+unfoldable pub isFull : List ℕ → Bool
+isFull l = ltb 64 (length l) && all isCharacter (take 64 l) && eqb (getD l 64 0) 10

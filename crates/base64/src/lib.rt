@@ -17,4 +17,5 @@ pub use encoding::encode;
 pub use lines::body_length;
 pub use lines::decode_lines;
 pub use lines::encode_lines;
+pub use lines::full_line;
 pub use lines::lines_length;

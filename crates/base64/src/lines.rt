@@ -1,18 +1,53 @@
 // Base64 in lines of 64 characters: a stanza's body. Reading it is total: of bytes that are no such lines it makes what the definition says.
 ghost use mathlib.Core.Path.{_≡_};
 ghost use Prim.Native.Nat.{_<_, _≤_, _+_, _/_};
-ghost use lib.ListN.{length, drop};
+ghost use lib.ListN.{length, take, drop};
 ghost use mathlib.Core.List.{_++_};
-ghost use Rattle.base64.specs.Lines.{linesOf, bodyOf};
+ghost use Rattle.base64.specs.Lines.{linesOf, bodyOf, isFull};
+ghost use Rattle.base64.specs.Alphabet.{isCharacter};
+ghost use Rattle.refusal.specs.Run.{all};
 ghost use Rattle.base64.specs.Tables.{Values, Characters, bodySize, encodedSize};
 ghost use Rattle.refusal.specs.Output.{said, answered, filled};
 use crate::alphabet::alphabet_characters;
+use crate::alphabet::is_character;
 use crate::alphabet::values;
 use crate::decoding::decode_into;
 use crate::encoding::encode_into;
 use crate::encoding::encoded_length;
 use refusal::Refusal;
 use refusal::Written;
+
+// Whether the 64 bytes from `at` on are all characters. No early exit, so that the loop is vectorised.
+fn sixty_four(text: &[u8], at: usize) -> bool
+    requires { ⌜ at + 64 ≤ length (now text) ⌝ }
+    ensures { λ r. ⌜ r ≡ all isCharacter (take 64 (drop at (now (text .entry)))) ⌝ }
+{
+    let mut good = true;
+    let mut j: usize = 0;
+    while j < 64 {
+        good = good & is_character(text[at + j]);
+        j += 1;
+    }
+    good
+}
+
+// Whether a full line stands at `at`: 64 characters and an LF.
+pub fn full_line(text: &[u8], at: usize) -> bool
+    ensures { λ r. ⌜ r ≡ isFull (drop at (now (text .entry))) ⌝ }
+{
+    let n = text.len();
+    if n < at {
+        return false;
+    }
+    if n - at < 65 {
+        return false;
+    }
+    if !sixty_four(text, at) {
+        return false;
+    }
+    let b = text[at + 64];
+    b == 10
+}
 
 // How many bytes the body of n bytes of lines has.
 pub fn body_length(n: usize) -> usize

@@ -1,3 +1,5 @@
 -- What the definitions of specs/ say together: words and lines, the text of an index.
 pub mod Arguments
 pub mod Index
+pub mod Automaton
+pub mod Reading

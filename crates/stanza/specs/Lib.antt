@@ -1,3 +1,8 @@
--- Stanza text (document 01, "Stanza text"): its arguments, and an index among them.
+-- Stanza text (document 01, "Stanza text"): the grammar, the automaton that reads it, reading, writing, arguments and indices.
 pub mod Arguments
+pub mod Automaton
+pub mod Grammar
 pub mod Index
+pub mod Reading
+pub mod Steps
+pub mod Writing

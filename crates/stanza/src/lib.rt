@@ -1,6 +1,7 @@
-// Stanza text (document 01, "Stanza text"): the arguments of a stanza, and an index among them.
+// Stanza text (document 01, "Stanza text"): the first stanza of a text read, its arguments and an index among them, and a stanza written.
 mod arguments;
 mod indices;
+mod reading;
 
 pub use arguments::argument;
 pub use arguments::count;
@@ -8,3 +9,6 @@ pub use arguments::is_line;
 pub use arguments::is_same;
 pub use indices::Index;
 pub use indices::read_index;
+pub use reading::First;
+pub use reading::Stanza;
+pub use reading::read;

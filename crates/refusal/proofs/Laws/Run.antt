@@ -4,12 +4,12 @@ use mathlib.Core.Path.{_≡_, refl, sym, ap, _∙_}
 use mathlib.Core.Bool.{Bool, true, false, _&&_, false≢true, true≢false}
 use mathlib.Core.List.{List, [], _∷_, _++_}
 use lib.ListN.{length, take, drop, getD, length-drop, drop-of-length-le}
-use lib.Seq.{drop-cons, drop-drop}
+use lib.Seq.{drop-cons, drop-drop, getD-drop}
 use native.Mathlib.Numerals.{add-one}
 use native.Mathlib.Omega.{arith}
 use native.Mathlib.Nat.{not-suc-le-zero, le-of-suc-le-suc}
 use Rattle.refusal.specs.Pick.{pick}
-use Rattle.refusal.proofs.Laws.Booleans.{and-true, cases, and-assoc, and-true-right}
+use Rattle.refusal.proofs.Laws.Booleans.{and-true, true-and, cases, and-assoc, and-true-right}
 use Rattle.refusal.proofs.Laws.Lists.{drop-one, take-one}
 use Rattle.refusal.specs.Run.{all, run}
 
@@ -18,6 +18,25 @@ module _ (class : ℕ → Bool) where
   unfolding all
   all-append [] t = refl
   all-append (b ∷ s) t = rw (all-append s t) (and-assoc (class b) (all class s) (all class t))
+
+  -- one byte more, in a loop that tests them all
+  pub all-more : (text : List ℕ) (at j : ℕ) {good r : Bool} → at + j < length text → good ≡ all class (take j (drop at text)) → r ≡ class (getD text (at + j) 0) →
+      (good && r) ≡ all class (take (j + 1) (drop at text))
+  unfolding all
+  all-more text at j h p q =
+      rw (p, q, take-one (drop at text) j 0 (simp length-drop (omega arith)), all-append (take j (drop at text)), getD-drop at text j 0, and-true-right)
+
+  -- the bytes of a run are in the class, and those of a wider class
+  pub run-take : (n : ℕ) (t : List ℕ) → n ≤ run class t → all class (take n t) ≡ true
+  unfolding run all
+  run-take zero t h = refl
+  run-take (suc n) [] h = refl
+  run-take (suc n) (b ∷ t) h = cases (class b) (λ e. rw e (run-take n t (omega (arith, rw e at h)))) (λ e. absurd (omega (arith, rw e at h)))
+
+  pub all-wider : (wider : ℕ → Bool) → ((b : ℕ) → class b ≡ true → wider b ≡ true) → (t : List ℕ) → all class t ≡ true → all wider t ≡ true
+  unfolding all
+  all-wider wider f [] h = refl
+  all-wider wider f (b ∷ t) h = let a = and-true (class b) (all class t) h in true-and (wider b) (all wider t) (f b (a .0)) (all-wider wider f t (a .1))
 
   -- one byte of the class at i
   pub run-in : (t : List ℕ) (i : ℕ) → i < length t → class (getD t i 0) ≡ true → i + run class (drop i t) ≡ i + 1 + run class (drop (i + 1) t)

@@ -1,29 +1,17 @@
-use Prim.Native.Nat.{ℕ, _+_, _-_, _<_, _≤_}
-use mathlib.Core.Path.{_≡_, refl, ap, _∙_}
-use mathlib.Core.Bool.{Bool, _&&_}
-use mathlib.Core.List.{List}
-use lib.ListN.{length, take, drop, getD, length-drop}
-use lib.Seq.{getD-drop}
+use Prim.Native.Nat.{_-_, _≤_}
+use mathlib.Core.Path.{_≡_, refl, _∙_}
+use lib.ListN.{length, take, drop}
 use native.Mathlib.Omega.{arith}
 use borrow.Author.Needs.{needs}
 use denote.Ref.{now}
-use Rattle.refusal.proofs.Laws.Booleans.{and-true-right}
-use Rattle.refusal.proofs.Laws.Lists.{take-one}
 use Rattle.base64.specs.Alphabet.{isCharacter}
 use Rattle.refusal.specs.Run.{all}
-use Rattle.refusal.proofs.Laws.Run.{all-append}
+use Rattle.refusal.proofs.Laws.Run.{all-more}
 use Rattle.base64.proofs.alphabet.eight.Statement.{statement}
 use Rattle.base64.proofs.alphabet.eight.Tie as tie
 use Rattle.base64.proofs.alphabet.eight.Reads as reads
 use Rattle.base64.proofs.alphabet.eight.Lts as lts
 use Rattle.base64.proofs.alphabet.is_character.Reads as is-character-reads
-
--- one byte more
-more : (text : List ℕ) (at j : ℕ) {good r : Bool} → at + j < length text → good ≡ all isCharacter (take j (drop at text)) → r ≡ isCharacter (getD text (at + j) 0) →
-    (good && r) ≡ all isCharacter (take (j + 1) (drop at text))
-unfolding all
-more text at j h p q =
-    rw (p, q, take-one (drop at text) j 0 (simp length-drop (omega arith)), all-append isCharacter (take j (drop at text)), getD-drop at text j 0, and-true-right)
 
 abbrev Inv-loop : tie.InvT-loop
 Inv-loop text at good₀ j₀ good j = (j ≤ 8) × (good ≡ all isCharacter (take j (drop at text)))
@@ -58,7 +46,7 @@ loop-less c = search needs
 
 -- src/alphabet.rt:63:5
 loop-again : tie.Need-loop-again Inv-loop μ-loop
-loop-again c = (search needs, more (now (c .before .before .before .before .before .args .text)) (c .before .before .before .before .before .args .at) (c .before .before .before .loop .j) (omega arith) (c .before .before .before .loop .inv .1) (c .is-character .ensures))
+loop-again c = (search needs, all-more isCharacter (now (c .before .before .before .before .before .args .text)) (c .before .before .before .before .before .args .at) (c .before .before .before .loop .j) (omega arith) (c .before .before .before .loop .inv .1) (c .is-character .ensures))
 
 -- src/alphabet.rt:57:1
 returns : tie.Need-returns Inv-loop μ-loop

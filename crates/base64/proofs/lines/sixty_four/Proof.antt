@@ -1,0 +1,62 @@
+use Prim.Native.Nat.{_-_, _≤_}
+use mathlib.Core.Path.{_≡_, refl, _∙_}
+use lib.ListN.{length, take, drop}
+use native.Mathlib.Omega.{arith}
+use borrow.Author.Needs.{needs}
+use denote.Ref.{now}
+use Rattle.base64.specs.Alphabet.{isCharacter}
+use Rattle.refusal.specs.Run.{all}
+use Rattle.refusal.proofs.Laws.Run.{all-more}
+use Rattle.base64.proofs.lines.sixty_four.Statement.{statement}
+use Rattle.base64.proofs.lines.sixty_four.Tie as tie
+use Rattle.base64.proofs.lines.sixty_four.Reads as reads
+use Rattle.base64.proofs.lines.sixty_four.Lts as lts
+use Rattle.base64.proofs.alphabet.is_character.Reads as is-character-reads
+
+abbrev Inv-loop : tie.InvT-loop
+Inv-loop text at good₀ j₀ good j = (j ≤ 64) × (good ≡ all isCharacter (take j (drop at text)))
+
+abbrev μ-loop : tie.MeasureT-loop
+μ-loop text at good₀ j₀ good j = 64 - j
+
+loop-holds : tie.Need-loop-holds Inv-loop μ-loop
+unfolding all
+loop-holds c = (search needs, refl)
+
+add-is-character : tie.Need-add-is-character Inv-loop μ-loop
+add-is-character c = search needs
+
+shared-slice-read-is-character : tie.Need-shared-slice-read-is-character Inv-loop μ-loop
+shared-slice-read-is-character c = search needs
+
+is-character-requires : tie.Need-is-character-requires Inv-loop μ-loop
+is-character-requires c κs = search needs
+
+add-j : tie.Need-add-j Inv-loop μ-loop
+add-j c = search needs
+
+loop-less : tie.Need-loop-less Inv-loop μ-loop
+loop-less c = search needs
+
+loop-again : tie.Need-loop-again Inv-loop μ-loop
+loop-again c = (search needs, all-more isCharacter (now (c .before .before .before .before .before .args .text)) (c .before .before .before .before .before .args .at) (c .before .before .before .loop .j) (omega arith) (c .before .before .before .loop .inv .1) (c .is-character .ensures))
+
+returns : tie.Need-returns Inv-loop μ-loop
+returns c =
+    let e : c .before .loop .j ≡ 64 = omega arith in
+    c .before .loop .inv .1 ∙ rw e
+
+pub sixty-four-spec : {M : Type 1} → statement M
+sixty-four-spec =
+    tie.close
+    (tie.spec
+    Inv-loop
+    μ-loop
+    loop-holds
+    add-is-character
+    shared-slice-read-is-character
+    is-character-requires
+    add-j
+    loop-less
+    loop-again
+    returns)

@@ -1,0 +1,48 @@
+-- Reading: what the window and the body's size come to.
+use Prim.Native.Nat.{ℕ, zero, suc, _+_, _-_, _<_, _≤_, min}
+use mathlib.Core.Path.{_≡_, refl, sym, ap, _∙_}
+use mathlib.Core.Bool.{Bool}
+use mathlib.Core.List.{List, [], _∷_}
+use lib.Dec.{ltb}
+use lib.ListN.{length, take, drop, length-take, length-drop}
+use lib.Seq.{length-take-le, take-all}
+use native.Mathlib.Omega.{arith}
+use native.Mathlib.Decide.{decLe, decLt}
+use borrow.Author.Tests.{lt-ltb, le-ltb}
+use Rattle.refusal.specs.Pick.{pick}
+use Rattle.refusal.specs.Run.{run}
+use Rattle.refusal.proofs.Laws.Booleans.{cases}
+use Rattle.base64.specs.Lines.{bodyOf}
+use Rattle.base64.specs.Tables.{bodySize}
+use Rattle.base64.proofs.Laws.Lines.{body-length}
+use Rattle.stanza.specs.Automaton.{whole}
+use Rattle.stanza.specs.Reading.{Reading, stanza, refused, found, isNotLf, lineEnd, linesIn}
+
+-- the window is the first 8,192 bytes
+pub window-is : (t : List ℕ) (n : ℕ) → n ≡ min 8192 (length t) → take 8192 t ≡ take n t
+window-is t n e =
+    elim (decLe (length t) 8192)
+    [ yes h ↦ take-all 8192 t h ∙ sym (take-all n t (omega arith))
+    | no h ↦ let f : n ≡ 8192 = omega arith in rw f ]
+
+-- the fault of a stanza that has not ended goes by the window's length
+pub short-is : (t : List ℕ) (n : ℕ) → n ≡ min 8192 (length t) → refused (pick (ltb n 8192) 2 3) ≡ pick (ltb (length t) 8192) (refused 2) (refused 3)
+short-is t n e =
+    elim (decLt (length t) 8192)
+    [ yes h ↦ rw (lt-ltb (length t) 8192 h, lt-ltb n 8192 (omega arith))
+    | no h ↦ rw (le-ltb (length t) 8192 (omega arith), le-ltb n 8192 (omega arith)) ]
+
+-- a run that ends within the front is that of the front
+run-front : (class : ℕ → Bool) (k : ℕ) (t : List ℕ) → run class t < k → run class (take k t) ≡ run class t
+unfolding run
+run-front class zero t h = absurd (omega arith)
+run-front class (suc k) [] h = refl
+run-front class (suc k) (b ∷ t) h = cases (class b) (λ e. rw e (ap suc (run-front class k t (omega (arith, rw e at h))))) (λ e. rw e)
+
+-- the size of a body whose first line ends at e, in k bytes
+pub found-whole : (m : ℕ) (w : List ℕ) (e k : ℕ) → lineEnd w ≡ e → e < k → k ≤ length w → found m w (whole k) ≡ stanza e (bodySize (k - e - 1)) k
+unfolding found
+found-whole m w e k p h l =
+    let q : lineEnd (take k w) ≡ e = run-front isNotLf k w (omega arith) ∙ p in
+    let s : length (drop (e + 1) (take k w)) ≡ k - e - 1 = simp (length-drop, length-take-le k w l) (omega arith) in
+    rw (p, q, body-length (drop (e + 1) (take k w)), s)
