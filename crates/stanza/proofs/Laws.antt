@@ -3,3 +3,4 @@ pub mod Arguments
 pub mod Index
 pub mod Automaton
 pub mod Reading
+pub mod Writing

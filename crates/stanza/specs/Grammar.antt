@@ -8,9 +8,13 @@ use lib.Pow.{areBytes}
 use Rattle.base64.specs.Lines.{linesOf}
 use Rattle.stanza.specs.Arguments.{isLine}
 
+-- "-> ", the arguments and LF
+abbrev pub firstLine : List ℕ → List ℕ
+firstLine line = 45 ∷ 62 ∷ 32 ∷ line ++ (10 ∷ [])
+
 -- the text of a stanza with these arguments and this body
 abbrev pub stanzaText : List ℕ → List ℕ → List ℕ
-stanzaText line body = 45 ∷ 62 ∷ 32 ∷ line ++ 10 ∷ linesOf body
+stanzaText line body = firstLine line ++ linesOf body
 
 -- a text is a stanza: it is the text of some arguments and some body
 pub record IsStanza (t : List ℕ) : Type 0 where

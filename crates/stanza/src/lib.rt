@@ -2,6 +2,7 @@
 mod arguments;
 mod indices;
 mod reading;
+mod writing;
 
 pub use arguments::argument;
 pub use arguments::count;
@@ -12,3 +13,4 @@ pub use indices::read_index;
 pub use reading::First;
 pub use reading::Stanza;
 pub use reading::read;
+pub use writing::write;

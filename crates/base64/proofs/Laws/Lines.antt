@@ -177,7 +177,7 @@ lines-turn b o o₀ part i h m e p =
     let k : 65 * i + 65 ≤ length (linesOf b) = rw (lines-length b) (omega arith) in
     let x : getD (linesOf b) (65 * i + 64) 0 ≡ 10 = sym (getD-drop (65 * i) (linesOf b) 64 0) ∙ rw q (getD-at block 10 (linesOf (drop 48 b′)) 0 64 g) in
     let f : take (65 * i) o ++ (part ++ drop (length o - 65 * i) (drop (65 * i) o)) ≡ take (65 * i + 64) (linesOf b) ++ drop (65 * i + 64) o₀ =
-        put-rest (65 * i) o part ∙ rw (p, s, part-rest (65 * i) o) (front-part (linesOf b) o o₀ block (10 ∷ linesOf (drop 48 b′)) (65 * i) e q (omega arith) ∙ rw g) in
+    put-rest (65 * i) o part ∙ rw (p, s, part-rest (65 * i) o) (front-part (linesOf b) o o₀ block (10 ∷ linesOf (drop 48 b′)) (65 * i) e q (omega arith) ∙ rw g) in
     ap (set (take (65 * i) o ++ (part ++ drop (length o - 65 * i) (drop (65 * i) o))) (65 * i + 64)) (sym x)
     ∙ front-store (linesOf b) (take (65 * i) o ++ (part ++ drop (length o - 65 * i) (drop (65 * i) o))) o₀ (65 * i + 64) 0 f (omega arith) m ∙ rw n
 

@@ -21,16 +21,18 @@ use Rattle.stanza.specs.Reading.{Reading, stanza, refused, found, isNotL
 -- the window is the first 8,192 bytes
 pub window-is : (t : List ℕ) (n : ℕ) → n ≡ min 8192 (length t) → take 8192 t ≡ take n t
 window-is t n e =
-    elim (decLe (length t) 8192)
-    [ yes h ↦ take-all 8192 t h ∙ sym (take-all n t (omega arith))
-    | no h ↦ let f : n ≡ 8192 = omega arith in rw f ]
+    elim (decLe (length t) 8192) [
+      | yes h ↦ take-all 8192 t h ∙ sym (take-all n t (omega arith))
+      | no h ↦ let f : n ≡ 8192 = omega arith in rw f
+    ]
 
 -- the fault of a stanza that has not ended goes by the window's length
 pub short-is : (t : List ℕ) (n : ℕ) → n ≡ min 8192 (length t) → refused (pick (ltb n 8192) 2 3) ≡ pick (ltb (length t) 8192) (refused 2) (refused 3)
 short-is t n e =
-    elim (decLt (length t) 8192)
-    [ yes h ↦ rw (lt-ltb (length t) 8192 h, lt-ltb n 8192 (omega arith))
-    | no h ↦ rw (le-ltb (length t) 8192 (omega arith), le-ltb n 8192 (omega arith)) ]
+    elim (decLt (length t) 8192) [
+      | yes h ↦ rw (lt-ltb (length t) 8192 h, lt-ltb n 8192 (omega arith))
+      | no h ↦ rw (le-ltb (length t) 8192 (omega arith), le-ltb n 8192 (omega arith))
+    ]
 
 -- a run that ends within the front is that of the front
 run-front : (class : ℕ → Bool) (k : ℕ) (t : List ℕ) → run class t < k → run class (take k t) ≡ run class t

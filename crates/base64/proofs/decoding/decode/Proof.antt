@@ -27,7 +27,7 @@ enum-known-m c = search needs
 
 -- src/decoding.rt:54:17
 returns : tie.Need-returns
-returns c = 
+returns c =
     let s = (measured-size (now (c .before .before .before .before .before .before .before .args .text)) (c .before .before .m .given .0 .0) (ap sizeSaid (sym (c .before .before .m .given .1)) ∙ c .before .before .before .before .measure .ensures)) in
     rw (s .0, lt-ltb _ _ (rw (s .1) at (c .if1 .taken))) (refl, refl)
 
@@ -37,7 +37,7 @@ values-requires c κs = search needs
 
 -- src/decoding.rt:57:13
 decode-into-requires : tie.Need-decode-into-requires
-decode-into-requires c κs = 
+decode-into-requires c κs =
     let s = (measured-size (now (c .before .before .before .before .before .before .before .before .before .before .args .text)) (c .before .before .before .before .before .m .given .0 .0) (ap sizeSaid (sym (c .before .before .before .before .before .m .given .1)) ∙ c .before .before .before .before .before .before .before .measure .ensures)) in
     (c .before .before .values .ensures, omega (arith, s .1, decoded-length (now (c .before .before .before .before .before .before .before .before .before .before .args .text))))
 
@@ -51,7 +51,7 @@ same-length c = search needs
 
 -- src/decoding.rt:45:1
 returns-3 : tie.Need-returns-3
-returns-3 c = 
+returns-3 c =
     let s = (measured-size (now (c .before .before .before .before .before .before .before .before .before .before .before .before .before .args .text)) (c .before .before .before .before .before .before .before .before .m .given .0 .0) (ap sizeSaid (sym (c .before .before .before .before .before .before .before .before .m .given .1)) ∙ c .before .before .before .before .before .before .before .before .before .before .measure .ensures)) in
     rw (s .0, le-ltb _ _ (rw (s .1) at (c .before .before .before .before .before .before .if1 .left)), ← s .1) (refl, c .before .before .decode-into .ensures ∙ rw (s .1))
 

@@ -144,7 +144,7 @@ loop-less c = search needs
 
 -- src/encoding.rt:79:5
 loop-again : tie.Need-loop-again Inv-loop μ-loop
-loop-again c = 
+loop-again c =
     let i = c .before .before .before .before .before .before .before .before .loop .i in
     let out = c .before .before .before .before .before .before .before .before .loop .out in
     let out₀ = now (c .before .before .before .before .before .before .before .before .before .before .before .args .out) in
@@ -189,13 +189,13 @@ encode-rest-requires c κs = (c .before .before .before .before .before .before 
 
 -- src/encoding.rt:72:1
 same-length : tie.Need-same-length Inv-loop μ-loop
-same-length c = 
+same-length c =
     let k = 4 * (length (now (c .before .before .before .before .before .before .before .before .before .args .bytes)) / 3) in
     same-len-mid k (length (c .before .before .before .before .before .before .loop .out) - k) (c .before .before .before .before .before .before .loop .out) (c .before .before .encode-rest .last .1 .1 .0) (c .before .before .encode-rest .kept .1 .1 .0) ∙ c .before .before .before .before .before .before .loop .inv .1
 
 -- src/encoding.rt:72:1
 returns : tie.Need-returns Inv-loop μ-loop
-returns c = 
+returns c =
     let n : c .before .before .before .before .before .before .loop .i ≡ length (now (c .before .before .before .before .before .before .before .before .before .args .bytes)) / 3 = omega arith in
     encoded-end (now (c .before .before .before .before .before .before .before .before .before .args .bytes)) (c .before .before .before .before .before .before .loop .out) (now (c .before .before .before .before .before .before .before .before .before .args .out)) (c .before .before .encode-rest .last .1 .1 .0) (length (now (c .before .before .before .before .before .before .before .before .before .args .bytes)) / 3) (omega arith) (rw n at (c .before .before .before .before .before .before .loop .inv .2)) (c .before .before .encode-rest .ensures)
 

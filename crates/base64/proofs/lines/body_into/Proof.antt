@@ -89,12 +89,14 @@ loop-less c = omega (arith, c .before .before .before .before .before .loop-test
 
 -- src/lines.rt:56:5
 loop-again : tie.Need-loop-again Inv-loop μ-loop
-loop-again c = 
+loop-again c =
     let l = now (c .before .before .before .before .before .before .before .before .before .before .args .lines) in
     let out = c .before .before .before .before .before .before .loop .out in
-    let i = c .before .before .before .before .before .before .loop .i in
-    (search needs, same-len-mid (48 * i) (length out - 48 * i) out (c .before .before .decode-into .last .1 .1 .0) (c .before .before .decode-into .kept .1 .1 .0) ∙ c .before .before .before .before .before .before .loop .inv .1,
-    body-turn l out (now (c .before .before .before .before .before .before .before .before .before .before .args .out)) (c .before .before .decode-into .last .1 .1 .0) i (omega arith) (c .before .before .before .before .before .before .loop .inv .2) (c .before .before .decode-into .ensures))
+    let i = c .before .before .before .before .before .before .loop .i in (
+      search needs,
+      same-len-mid (48 * i) (length out - 48 * i) out (c .before .before .decode-into .last .1 .1 .0) (c .before .before .decode-into .kept .1 .1 .0) ∙ c .before .before .before .before .before .before .loop .inv .1,
+      body-turn l out (now (c .before .before .before .before .before .before .before .before .before .before .args .out)) (c .before .before .decode-into .last .1 .1 .0) i (omega arith) (c .before .before .before .before .before .before .loop .inv .2) (c .before .before .decode-into .ensures),
+    )
 
 -- src/lines.rt:63:13
 mul-a-2 : tie.Need-mul-a-2 Inv-loop μ-loop
@@ -138,13 +140,13 @@ decode-into-requires-2 c κs = (c .before .before .before .before .before .befor
 
 -- src/lines.rt:45:1
 same-length : tie.Need-same-length Inv-loop μ-loop
-same-length c = 
+same-length c =
     let k = 48 * ((length (now (c .before .before .before .before .before .before .before .before .before .before .args .lines)) - 1) / 65) in
     same-len-mid k (length (c .before .before .before .before .before .before .loop .out) - k) (c .before .before .before .before .before .before .loop .out) (c .before .before .decode-into2 .last .1 .1 .0) (c .before .before .decode-into2 .kept .1 .1 .0) ∙ c .before .before .before .before .before .before .loop .inv .1
 
 -- src/lines.rt:45:1
 returns-2 : tie.Need-returns-2 Inv-loop μ-loop
-returns-2 c = 
+returns-2 c =
     let l = now (c .before .before .before .before .before .before .before .before .before .before .args .lines) in
     let n : c .before .before .before .before .before .before .loop .i ≡ (length l - 1) / 65 = omega arith in
     body-end l (c .before .before .before .before .before .before .loop .out) (now (c .before .before .before .before .before .before .before .before .before .before .args .out)) (c .before .before .decode-into2 .last .1 .1 .0) ((length l - 1) / 65) (omega arith) (omega arith) (rw n at (c .before .before .before .before .before .before .loop .inv .2)) (c .before .before .decode-into2 .ensures)

@@ -17,7 +17,7 @@ body-length-requires c κs = search needs
 
 -- src/lines.rt:36:9
 returns : tie.Need-returns
-returns c = 
+returns c =
     let e = c .before .body-length .ensures ∙ sym (body-length (now (c .before .before .before .before .args .lines))) in
     rw (lt-ltb _ _ (rw e at (c .if1 .taken))) (refl, refl)
 
@@ -35,7 +35,7 @@ same-length c = search needs
 
 -- src/lines.rt:30:1
 returns-2 : tie.Need-returns-2
-returns-2 c = 
+returns-2 c =
     let e = c .before .before .before .before .before .before .before .body-length .ensures ∙ sym (body-length (now (c .before .before .before .before .before .before .before .before .before .before .args .lines))) in
     rw (e, le-ltb _ _ (rw e at (c .before .before .before .before .before .before .if1 .left))) (refl, c .before .before .body-into .ensures)
 

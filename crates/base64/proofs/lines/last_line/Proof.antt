@@ -28,7 +28,7 @@ same-length c = search needs
 
 -- src/lines.rt:113:1
 returns : tie.Need-returns
-returns c = 
+returns c =
     let b = now (c .before .before .before .before .before .before .before .args .body) in
     let o = now (c .before .before .before .before .before .before .before .args .out) in
     rw (c .before .before .before .before .encoded-length .ensures) (lines-short b (c .before .before .encode-into .last .1 .1 .0) o (c .before .before .before .before .before .before .before .pre .1 .0) (rw (encoded-length b) (c .before .before .before .before .before .before .before .pre .1 .1)) (c .before .before .encode-into .ensures))

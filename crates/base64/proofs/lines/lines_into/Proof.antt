@@ -72,7 +72,7 @@ add-end c = search needs
 
 -- src/lines.rt:105:9
 slice-write-out : tie.Need-slice-write-out Inv-loop μ-loop
-slice-write-out c = 
+slice-write-out c =
     let i = c .before .before .before .before .before .before .loop .i in
     let out = c .before .before .before .before .before .before .loop .out in
     let e = same-len-mid (65 * i) (length out - 65 * i) out (c .before .before .encode-into .last .1 .1 .0) (c .before .before .encode-into .kept .1 .1 .0) in
@@ -88,12 +88,14 @@ loop-less c = search needs
 
 -- src/lines.rt:99:5
 loop-again : tie.Need-loop-again Inv-loop μ-loop
-loop-again c = 
+loop-again c =
     let b = now (c .before .before .before .before .before .before .before .before .before .args .body) in
     let out = c .before .before .before .before .before .before .loop .out in
-    let i = c .before .before .before .before .before .before .loop .i in
-    (search needs, simp length-set (same-len-mid (65 * i) (length out - 65 * i) out (c .before .before .encode-into .last .1 .1 .0) (c .before .before .encode-into .kept .1 .1 .0) ∙ c .before .before .before .before .before .before .loop .inv .1),
-    lines-turn b out (now (c .before .before .before .before .before .before .before .before .before .args .out)) (c .before .before .encode-into .last .1 .1 .0) i (omega arith) (rw (lines-length b) (c .before .before .before .before .before .before .before .before .before .pre .1)) (c .before .before .before .before .before .before .loop .inv .2) (c .before .before .encode-into .ensures))
+    let i = c .before .before .before .before .before .before .loop .i in (
+      search needs,
+      simp length-set (same-len-mid (65 * i) (length out - 65 * i) out (c .before .before .encode-into .last .1 .1 .0) (c .before .before .encode-into .kept .1 .1 .0) ∙ c .before .before .before .before .before .before .loop .inv .1),
+      lines-turn b out (now (c .before .before .before .before .before .before .before .before .before .args .out)) (c .before .before .encode-into .last .1 .1 .0) i (omega arith) (rw (lines-length b) (c .before .before .before .before .before .before .before .before .before .pre .1)) (c .before .before .before .before .before .before .loop .inv .2) (c .before .before .encode-into .ensures),
+    )
 
 -- src/lines.rt:108:13
 mul-a-2 : tie.Need-mul-a-2 Inv-loop μ-loop
@@ -133,13 +135,13 @@ last-line-requires c κs = (c .before .before .before .before .before .before .p
 
 -- src/lines.rt:92:1
 same-length : tie.Need-same-length Inv-loop μ-loop
-same-length c = 
+same-length c =
     let k = 65 * (length (now (c .before .before .before .before .before .before .before .before .before .args .body)) / 48) in
     same-len-mid k (length (c .before .before .before .before .before .before .loop .out) - k) (c .before .before .before .before .before .before .loop .out) (c .before .before .last-line .last .1 .1 .0) (c .before .before .last-line .kept .1 .1 .0) ∙ c .before .before .before .before .before .before .loop .inv .1
 
 -- src/lines.rt:92:1
 returns : tie.Need-returns Inv-loop μ-loop
-returns c = 
+returns c =
     let b = now (c .before .before .before .before .before .before .before .before .before .args .body) in
     let n : c .before .before .before .before .before .before .loop .i ≡ length b / 48 = omega arith in
     lines-end b (c .before .before .before .before .before .before .loop .out) (now (c .before .before .before .before .before .before .before .before .before .args .out)) (c .before .before .last-line .last .1 .1 .0) (length b / 48) (omega arith) (omega arith) (rw n at (c .before .before .before .before .before .before .loop .inv .2)) (c .before .before .last-line .ensures)

@@ -14,7 +14,7 @@ use Rattle.base64.proofs.full_line.Reads as full-line-reads
 use Rattle.stanza.proofs.reading.last_line.Reads as last-line-reads
 
 abbrev Inv-loop : tie.InvT-loop
-Inv-loop text from i₀ i = 
+Inv-loop text from i₀ i =
     (i ≤ length text) × (scan (line 0 0) from (drop from text) ≡ scan (line 0 0) i (drop i text))
 
 abbrev μ-loop : tie.MeasureT-loop

@@ -46,7 +46,7 @@ add-t9 c = search needs
 -- src/reading.rt:172:9
 returns-4 : tie.Need-returns-4
 unfolding endsWell
-returns-4 c = 
+returns-4 c =
     let l : c .before .before .before .before .before .characters .result < length (now (c .before .before .before .before .before .before .before .args .text)) = omega (arith, c .before .before .before .before .before .characters .ensures, end-le isCharacter (now (c .before .before .before .before .before .before .before .args .text)) (c .before .before .before .before .before .before .before .args .from) (c .before .before .before .before .before .before .before .pre .0), c .before .before .before .if2 .left) in
     let n = line-not-full (now (c .before .before .before .before .before .before .before .args .text)) (c .before .before .before .before .before .before .before .args .from) (c .before .before .before .before .before .characters .result) (c .before .before .before .before .before .characters .ensures) (c .before .before .before .before .before .before .before .pre .0) (c .before .before .before .before .before .before .before .pre .1) l (c .before .if3 .left) in
     let m : c .before .before .before .before .before .characters .result < c .before .before .before .before .before .before .before .args .from + 64 = omega (arith, n) in
@@ -70,7 +70,7 @@ add-t12 c = search needs
 
 -- src/reading.rt:175:9
 returns-5 : tie.Need-returns-5
-returns-5 c = 
+returns-5 c =
     let l : c .before .before .before .before .before .before .before .before .characters .result < length (now (c .before .before .before .before .before .before .before .before .before .before .args .text)) = omega (arith, c .before .before .before .before .before .before .before .before .characters .ensures, end-le isCharacter (now (c .before .before .before .before .before .before .before .before .before .before .args .text)) (c .before .before .before .before .before .before .before .before .before .before .args .from) (c .before .before .before .before .before .before .before .before .before .before .pre .0), c .before .before .before .before .before .before .if2 .left) in
     let n = line-not-full (now (c .before .before .before .before .before .before .before .before .before .before .args .text)) (c .before .before .before .before .before .before .before .before .before .before .args .from) (c .before .before .before .before .before .before .before .before .characters .result) (c .before .before .before .before .before .before .before .before .characters .ensures) (c .before .before .before .before .before .before .before .before .before .before .pre .0) (c .before .before .before .before .before .before .before .before .before .before .pre .1) l (c .before .before .before .before .if3 .left) in
     let m : c .before .before .before .before .before .before .before .before .characters .result < c .before .before .before .before .before .before .before .before .before .before .args .from + 64 = omega (arith, n) in
@@ -78,7 +78,7 @@ returns-5 c =
 
 -- src/reading.rt:155:1
 returns-6 : tie.Need-returns-6
-returns-6 c = 
+returns-6 c =
     let l : c .before .before .before .before .before .before .before .before .characters .result < length (now (c .before .before .before .before .before .before .before .before .before .before .args .text)) = omega (arith, c .before .before .before .before .before .before .before .before .characters .ensures, end-le isCharacter (now (c .before .before .before .before .before .before .before .before .before .before .args .text)) (c .before .before .before .before .before .before .before .before .before .before .args .from) (c .before .before .before .before .before .before .before .before .before .before .pre .0), c .before .before .before .before .before .before .if2 .left) in
     let n = line-not-full (now (c .before .before .before .before .before .before .before .before .before .before .args .text)) (c .before .before .before .before .before .before .before .before .before .before .args .from) (c .before .before .before .before .before .before .before .before .characters .result) (c .before .before .before .before .before .before .before .before .characters .ensures) (c .before .before .before .before .before .before .before .before .before .before .pre .0) (c .before .before .before .before .before .before .before .before .before .before .pre .1) l (c .before .before .before .before .if3 .left) in
     let m : c .before .before .before .before .before .before .before .before .characters .result < c .before .before .before .before .before .before .before .before .before .before .args .from + 64 = omega (arith, n) in

@@ -110,7 +110,7 @@ returns-4 c = rw (window-is (now (c .before .before .before .before .before .bef
 
 -- src/reading.rt:45:1
 returns-5 : tie.Need-returns-5
-returns-5 c = 
+returns-5 c =
     let w = (take (c .before .before .before .before .before .before .before .before .before .before .window .result) (now (c .before .before .before .before .before .before .before .before .before .before .before .before .args .text))) in
     let e = c .before .before .before .before .before .before .l .given .0 .0 in
     let k = c .before .before .b .given .0 .0 in

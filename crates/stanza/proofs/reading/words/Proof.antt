@@ -17,7 +17,7 @@ use Rattle.stanza.proofs.reading.words.Lts as lts
 use Rattle.stanza.proofs.arguments.graphic_end.Reads as graphic-end-reads
 
 abbrev Inv-loop : tie.InvT-loop
-Inv-loop text from i₀ i = 
+Inv-loop text from i₀ i =
     (from ≤ i) × (i ≤ length text) × (scan gap from (drop from text) ≡ scan gap i (drop i text)) × (from + lineEnd (drop from text) ≡ i + lineEnd (drop i text))
 
 abbrev μ-loop : tie.MeasureT-loop
@@ -33,14 +33,14 @@ graphic-end-requires c κs = search needs
 
 -- src/reading.rt:125:13
 returns : tie.Need-returns Inv-loop μ-loop
-returns c = 
+returns c =
     let t = (now (c .before .before .before .before .before .args .text)) in
     let i = c .before .before .before .loop .i in
     (c .before .before .before .loop .inv .2 ∙ gap-bad t i (c .before .before .loop-test .taken) (rw (c .if1 .taken) at (run-stop isGraphic t i (c .before .graphic-end .result) (c .before .graphic-end .ensures) (omega arith))), tt)
 
 -- src/reading.rt:128:13
 returns-2 : tie.Need-returns-2 Inv-loop μ-loop
-returns-2 c = 
+returns-2 c =
     (c .before .before .before .before .loop .inv .2 ∙ gap-word (now (c .before .before .before .before .before .before .args .text)) (c .before .before .before .before .loop .i) (c .before .before .before .loop-test .taken) (run-first isGraphic (now (c .before .before .before .before .before .before .args .text)) (c .before .before .before .before .loop .i) (c .before .before .graphic-end .result) (c .before .before .graphic-end .ensures) (c .before .if1 .left)) ∙ word-run (now (c .before .before .before .before .before .before .args .text)) (c .before .before .before .before .loop .i) (c .before .before .graphic-end .result) (c .before .before .graphic-end .ensures) ∙ scan-end word (now (c .before .before .before .before .before .before .args .text)) (c .before .before .graphic-end .result) (omega arith), tt)
 
 -- src/reading.rt:130:17
@@ -49,35 +49,39 @@ shared-slice-read-b c = omega (arith, c .before .before .before .graphic-end .en
 
 -- src/reading.rt:132:13
 returns-3 : tie.Need-returns-3 Inv-loop μ-loop
-returns-3 c = 
-    let l : c .before .before .before .before .graphic-end .result < length (now (c .before .before .before .before .before .before .before .before .args .text)) = omega (arith, c .before .before .before .before .graphic-end .ensures, end-le isGraphic (now (c .before .before .before .before .before .before .before .before .args .text)) (c .before .before .before .before .before .before .loop .i) (omega arith), c .before .before .if2 .left) in
-    (c .before .before .before .before .before .before .loop .inv .2 ∙ gap-word (now (c .before .before .before .before .before .before .before .before .args .text)) (c .before .before .before .before .before .before .loop .i) (c .before .before .before .before .before .loop-test .taken) (run-first isGraphic (now (c .before .before .before .before .before .before .before .before .args .text)) (c .before .before .before .before .before .before .loop .i) (c .before .before .before .before .graphic-end .result) (c .before .before .before .before .graphic-end .ensures) (c .before .before .before .if1 .left)) ∙ word-run (now (c .before .before .before .before .before .before .before .before .args .text)) (c .before .before .before .before .before .before .loop .i) (c .before .before .before .before .graphic-end .result) (c .before .before .before .before .graphic-end .ensures) ∙ word-lf (now (c .before .before .before .before .before .before .before .before .args .text)) (c .before .before .before .before .graphic-end .result) l (c .if3 .taken),
-    (c .before .before .before .before .before .before .loop .inv .3 ∙ graphic-line-end (now (c .before .before .before .before .before .before .before .before .args .text)) (c .before .before .before .before .before .before .loop .i) (c .before .before .before .before .graphic-end .result) (omega arith) (c .before .before .before .before .graphic-end .ensures) ∙ run-out isNotLf (now (c .before .before .before .before .before .before .before .before .args .text)) (c .before .before .before .before .graphic-end .result) l (rw (c .if3 .taken)), l))
+returns-3 c =
+    let l : c .before .before .before .before .graphic-end .result < length (now (c .before .before .before .before .before .before .before .before .args .text)) = omega (arith, c .before .before .before .before .graphic-end .ensures, end-le isGraphic (now (c .before .before .before .before .before .before .before .before .args .text)) (c .before .before .before .before .before .before .loop .i) (omega arith), c .before .before .if2 .left) in (
+      c .before .before .before .before .before .before .loop .inv .2 ∙ gap-word (now (c .before .before .before .before .before .before .before .before .args .text)) (c .before .before .before .before .before .before .loop .i) (c .before .before .before .before .before .loop-test .taken) (run-first isGraphic (now (c .before .before .before .before .before .before .before .before .args .text)) (c .before .before .before .before .before .before .loop .i) (c .before .before .before .before .graphic-end .result) (c .before .before .before .before .graphic-end .ensures) (c .before .before .before .if1 .left)) ∙ word-run (now (c .before .before .before .before .before .before .before .before .args .text)) (c .before .before .before .before .before .before .loop .i) (c .before .before .before .before .graphic-end .result) (c .before .before .before .before .graphic-end .ensures) ∙ word-lf (now (c .before .before .before .before .before .before .before .before .args .text)) (c .before .before .before .before .graphic-end .result) l (c .if3 .taken),
+      (c .before .before .before .before .before .before .loop .inv .3 ∙ graphic-line-end (now (c .before .before .before .before .before .before .before .before .args .text)) (c .before .before .before .before .before .before .loop .i) (c .before .before .before .before .graphic-end .result) (omega arith) (c .before .before .before .before .graphic-end .ensures) ∙ run-out isNotLf (now (c .before .before .before .before .before .before .before .before .args .text)) (c .before .before .before .before .graphic-end .result) l (rw (c .if3 .taken)), l),
+    )
 
 -- src/reading.rt:135:13
 returns-4 : tie.Need-returns-4 Inv-loop μ-loop
-returns-4 c = 
+returns-4 c =
     let l : c .before .before .before .before .before .graphic-end .result < length (now (c .before .before .before .before .before .before .before .before .before .args .text)) = omega (arith, c .before .before .before .before .before .graphic-end .ensures, end-le isGraphic (now (c .before .before .before .before .before .before .before .before .before .args .text)) (c .before .before .before .before .before .before .before .loop .i) (omega arith), c .before .before .before .if2 .left) in
     (c .before .before .before .before .before .before .before .loop .inv .2 ∙ gap-word (now (c .before .before .before .before .before .before .before .before .before .args .text)) (c .before .before .before .before .before .before .before .loop .i) (c .before .before .before .before .before .before .loop-test .taken) (run-first isGraphic (now (c .before .before .before .before .before .before .before .before .before .args .text)) (c .before .before .before .before .before .before .before .loop .i) (c .before .before .before .before .before .graphic-end .result) (c .before .before .before .before .before .graphic-end .ensures) (c .before .before .before .before .if1 .left)) ∙ word-run (now (c .before .before .before .before .before .before .before .before .before .args .text)) (c .before .before .before .before .before .before .before .loop .i) (c .before .before .before .before .before .graphic-end .result) (c .before .before .before .before .before .graphic-end .ensures) ∙ word-bad (now (c .before .before .before .before .before .before .before .before .before .args .text)) (c .before .before .before .before .before .graphic-end .result) l (run-stop isGraphic (now (c .before .before .before .before .before .before .before .before .before .args .text)) (c .before .before .before .before .before .before .before .loop .i) (c .before .before .before .before .before .graphic-end .result) (c .before .before .before .before .before .graphic-end .ensures) l) (c .if4 .taken) (c .before .if3 .left), tt)
 
 -- src/reading.rt:137:13
 add-i : tie.Need-add-i Inv-loop μ-loop
-add-i c = 
+add-i c =
     let l : c .before .before .before .before .before .graphic-end .result < length (now (c .before .before .before .before .before .before .before .before .before .args .text)) = omega (arith, c .before .before .before .before .before .graphic-end .ensures, end-le isGraphic (now (c .before .before .before .before .before .before .before .before .before .args .text)) (c .before .before .before .before .before .before .before .loop .i) (omega arith), c .before .before .before .if2 .left) in
     omega arith
 
 -- src/reading.rt:122:5
 loop-less : tie.Need-loop-less Inv-loop μ-loop
-loop-less c = 
+loop-less c =
     let l : c .before .before .before .before .before .graphic-end .result < length (now (c .before .before .before .before .before .before .before .before .before .args .text)) = omega (arith, c .before .before .before .before .before .graphic-end .ensures, end-le isGraphic (now (c .before .before .before .before .before .before .before .before .before .args .text)) (c .before .before .before .before .before .before .before .loop .i) (omega arith), c .before .before .before .if2 .left) in
     omega (arith, c .before .before .before .before .before .graphic-end .ensures)
 
 -- src/reading.rt:122:5
 loop-again : tie.Need-loop-again Inv-loop μ-loop
-loop-again c = 
-    let l : c .before .before .before .before .before .graphic-end .result < length (now (c .before .before .before .before .before .before .before .before .before .args .text)) = omega (arith, c .before .before .before .before .before .graphic-end .ensures, end-le isGraphic (now (c .before .before .before .before .before .before .before .before .before .args .text)) (c .before .before .before .before .before .before .before .loop .i) (omega arith), c .before .before .before .if2 .left) in
-    (omega (arith, c .before .before .before .before .before .graphic-end .ensures), omega arith, c .before .before .before .before .before .before .before .loop .inv .2 ∙ gap-word (now (c .before .before .before .before .before .before .before .before .before .args .text)) (c .before .before .before .before .before .before .before .loop .i) (c .before .before .before .before .before .before .loop-test .taken) (run-first isGraphic (now (c .before .before .before .before .before .before .before .before .before .args .text)) (c .before .before .before .before .before .before .before .loop .i) (c .before .before .before .before .before .graphic-end .result) (c .before .before .before .before .before .graphic-end .ensures) (c .before .before .before .before .if1 .left)) ∙ word-run (now (c .before .before .before .before .before .before .before .before .before .args .text)) (c .before .before .before .before .before .before .before .loop .i) (c .before .before .before .before .before .graphic-end .result) (c .before .before .before .before .before .graphic-end .ensures) ∙ word-space (now (c .before .before .before .before .before .before .before .before .before .args .text)) (c .before .before .before .before .before .graphic-end .result) l (c .if4 .left),
-    c .before .before .before .before .before .before .before .loop .inv .3 ∙ graphic-line-end (now (c .before .before .before .before .before .before .before .before .before .args .text)) (c .before .before .before .before .before .before .before .loop .i) (c .before .before .before .before .before .graphic-end .result) (omega arith) (c .before .before .before .before .before .graphic-end .ensures) ∙ run-in isNotLf (now (c .before .before .before .before .before .before .before .before .before .args .text)) (c .before .before .before .before .before .graphic-end .result) l (rw (c .if4 .left)))
+loop-again c =
+    let l : c .before .before .before .before .before .graphic-end .result < length (now (c .before .before .before .before .before .before .before .before .before .args .text)) = omega (arith, c .before .before .before .before .before .graphic-end .ensures, end-le isGraphic (now (c .before .before .before .before .before .before .before .before .before .args .text)) (c .before .before .before .before .before .before .before .loop .i) (omega arith), c .before .before .before .if2 .left) in (
+      omega (arith, c .before .before .before .before .before .graphic-end .ensures),
+      omega arith,
+      c .before .before .before .before .before .before .before .loop .inv .2 ∙ gap-word (now (c .before .before .before .before .before .before .before .before .before .args .text)) (c .before .before .before .before .before .before .before .loop .i) (c .before .before .before .before .before .before .loop-test .taken) (run-first isGraphic (now (c .before .before .before .before .before .before .before .before .before .args .text)) (c .before .before .before .before .before .before .before .loop .i) (c .before .before .before .before .before .graphic-end .result) (c .before .before .before .before .before .graphic-end .ensures) (c .before .before .before .before .if1 .left)) ∙ word-run (now (c .before .before .before .before .before .before .before .before .before .args .text)) (c .before .before .before .before .before .before .before .loop .i) (c .before .before .before .before .before .graphic-end .result) (c .before .before .before .before .before .graphic-end .ensures) ∙ word-space (now (c .before .before .before .before .before .before .before .before .before .args .text)) (c .before .before .before .before .before .graphic-end .result) l (c .if4 .left),
+      c .before .before .before .before .before .before .before .loop .inv .3 ∙ graphic-line-end (now (c .before .before .before .before .before .before .before .before .before .args .text)) (c .before .before .before .before .before .before .before .loop .i) (c .before .before .before .before .before .graphic-end .result) (omega arith) (c .before .before .before .before .before .graphic-end .ensures) ∙ run-in isNotLf (now (c .before .before .before .before .before .before .before .before .before .args .text)) (c .before .before .before .before .before .graphic-end .result) l (rw (c .if4 .left)),
+    )
 
 -- src/reading.rt:116:1
 returns-5 : tie.Need-returns-5 Inv-loop μ-loop

@@ -1,0 +1,74 @@
+// Writing a stanza into a lent buffer, from the text of its arguments and its body. Whether it can be written is decided first.
+ghost use mathlib.Core.Path.{_≡_};
+ghost use mathlib.Core.List.{_++_};
+ghost use Prim.Native.Nat.{_+_, _≤_};
+ghost use lib.ListN.{length, drop};
+ghost use Rattle.refusal.specs.Output.{said};
+ghost use Rattle.stanza.specs.Grammar.{firstLine, stanzaText};
+ghost use Rattle.stanza.specs.Writing.{written, bufferAfter};
+use crate::arguments::is_line;
+use refusal::Refusal;
+use refusal::Written;
+
+// A stanza at the front of `out`: how many bytes, or 17 where arguments and body make no stanza of at most 8,192 bytes, or 15;
+// nothing is written then. `line` is the arguments' text, the command first.
+pub fn write(line: &[u8], body: &[u8], out: &mut [u8]) -> Written
+    ensures answer { λ r. ⌜ said r ≡ written (now (line .entry)) (now (body .entry)) (now (out .entry)) ⌝ }
+    ensures buffer { λ r. ⌜ now (out .exit) ≡ bufferAfter (now (line .entry)) (now (body .entry)) (now (out .entry)) ⌝ }
+{
+    if !is_line(line) {
+        return Written::Refused(Refusal::Unwritable);
+    }
+    // No sum below can wrap then.
+    if 8192 < line.len() {
+        return Written::Refused(Refusal::Unwritable);
+    }
+    if 8192 < body.len() {
+        return Written::Refused(Refusal::Unwritable);
+    }
+    let n = line.len() + 4 + base64::lines_length(body);
+    if 8192 < n {
+        return Written::Refused(Refusal::Unwritable);
+    }
+    if out.len() < n {
+        return Written::Refused(Refusal::ShortOutput);
+    }
+    write_into(line, body, out);
+    Written::Bytes(n)
+}
+
+// The same where the buffer is long enough.
+fn write_into(line: &[u8], body: &[u8], out: &mut [u8])
+    requires { ⌜ length (stanzaText (now line) (now body)) ≤ length (now out) ⌝ }
+    ensures { λ _. ⌜ now (out .exit) ≡ stanzaText (now (line .entry)) (now (body .entry)) ++ drop (length (stanzaText (now (line .entry)) (now (body .entry)))) (now (out .entry)) ⌝ }
+{
+    write_line(line, out);
+    let at = line.len() + 4;
+    base64::encode_lines(body, &mut out[at..]);
+}
+
+// "-> ", the arguments and LF.
+fn write_line(line: &[u8], out: &mut [u8])
+    requires { ⌜ length (now line) + 4 ≤ length (now out) ⌝ }
+    ensures { λ _. ⌜ now (out .exit) ≡ firstLine (now (line .entry)) ++ drop (length (now (line .entry)) + 4) (now (out .entry)) ⌝ }
+{
+    out[0] = b'-';
+    out[1] = b'>';
+    out[2] = b' ';
+    copy(line, &mut out[3..]);
+    let at = line.len() + 3;
+    out[at] = b'\n';
+}
+
+// All of src at the front of `out`, which is long enough.
+fn copy(src: &[u8], out: &mut [u8])
+    requires { ⌜ length (now src) ≤ length (now out) ⌝ }
+    ensures { λ _. ⌜ now (out .exit) ≡ now (src .entry) ++ drop (length (now (src .entry))) (now (out .entry)) ⌝ }
+{
+    let n = src.len();
+    let mut i: usize = 0;
+    while i < n {
+        out[i] = src[i];
+        i += 1;
+    }
+}
