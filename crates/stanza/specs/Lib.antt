@@ -3,6 +3,7 @@ pub mod Arguments
 pub mod Automaton
 pub mod Grammar
 pub mod Index
+pub mod Parts
 pub mod Reading
 pub mod Steps
 pub mod Writing

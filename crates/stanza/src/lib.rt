@@ -1,6 +1,7 @@
 // Stanza text (document 01, "Stanza text"): the first stanza of a text read, its arguments and an index among them, and a stanza written.
 mod arguments;
 mod indices;
+mod parts;
 mod reading;
 mod writing;
 
@@ -10,6 +11,8 @@ pub use arguments::is_line;
 pub use arguments::is_same;
 pub use indices::Index;
 pub use indices::read_index;
+pub use parts::arguments_of;
+pub use parts::body_of;
 pub use reading::First;
 pub use reading::Stanza;
 pub use reading::read;

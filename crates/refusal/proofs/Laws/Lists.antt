@@ -1,10 +1,12 @@
 -- Lists by position, where the code counts i, i + 1, ..
-use Prim.Native.Nat.{ℕ, suc, _+_, _-_, _<_, _≤_}
+use Prim.Native.Nat.{ℕ, zero, suc, _+_, _-_, _<_, _≤_, min}
 use mathlib.Core.Path.{_≡_, refl, sym, ap, _∙_}
 use mathlib.Core.List.{List, [], _∷_, _++_, append-assoc, append-nil}
 use lib.ListN.{length, take, drop, set, getD, length-append, length-take, length-drop, drop-of-length-le}
-use lib.Seq.{drop-cons, take-suc, take-suc-set, drop-drop, sets-eq, take-at, drop-at, take-all, take-add, take-append-seam, take-length, set-at, append-snoc, length-take-le}
+use lib.Seq.{drop-cons, take-suc, take-suc-set, drop-drop, sets-eq, take-at, drop-at, take-all, take-nil, take-add, take-append-seam, take-length, set-at, append-snoc, length-take-le}
 use native.Mathlib.Numerals.{add-one, add-two, add-three}
+use native.Mathlib.Nat.{sub-zero, zero-sub, suc-sub-suc, sub-self}
+use native.Mathlib.Decide.{decLe}
 use native.Mathlib.Omega.{arith}
 
 module _ {A : Type 0} where
@@ -77,3 +79,19 @@ module _ {A : Type 0} where
   front-last w o o₀ b k e q h =
       let l : k + length b ≡ length w = omega (arith, sym (length-drop k w) ∙ ap length q) in
       front-part w o o₀ b [] k e (q ∙ sym (append-nil b)) h ∙ rw (l, take-length w)
+
+  -- a part by its start and its end
+  pub drop-take : (a e : ℕ) (t : List A) → drop a (take e t) ≡ take (e - a) (drop a t)
+  drop-take zero e t = rw sub-zero
+  drop-take (suc a) zero t = rw zero-sub
+  drop-take (suc a) (suc e) [] = sym (take-nil (suc e - suc a))
+  drop-take (suc a) (suc e) (x ∷ t) = rw suc-sub-suc (drop-take a e t)
+
+  -- the same, where the end is held to the list's length
+  pub part-of : (a e m : ℕ) (t : List A) → m ≡ min e (length t) → take (m - a) (drop a t) ≡ drop a (take e t)
+  part-of a e m t p =
+      sym (drop-take a m t) ∙ ap (drop a)
+      (elim (decLe e (length t)) [ yes h ↦ (let q : m ≡ e = omega arith in rw q) | no h ↦ take-all m t (omega arith) ∙ sym (take-all e t (omega arith)) ])
+
+  pub part-none : (a e m : ℕ) (t : List A) → m ≡ min e (length t) → m ≤ a → drop a (take e t) ≡ []
+  part-none a e m t p h = drop-of-length-le (take e t) {i = a} (rw length-take (omega arith))
