@@ -1,5 +1,5 @@
-// The script of the replay program (docs: the replay program's page): words with their escapes read and printed, numbers, and the
-// choice of the call. It knows nothing of lines, of files and of what the calls do.
+// The script of the replay program: its words with their escapes, read and printed, its numbers, and which call a line makes.
+// It knows nothing of lines, of files and of what the calls do.
 mod calls;
 mod escaping;
 mod numbers;
