@@ -85,7 +85,8 @@ unfolding before
 before-length b [] h = absurd (omega arith)
 before-length b (w ∷ ws) h = refl
 
-words-some : (t : List ℕ) → 0 < countOf t
+-- there is at least one word
+pub words-some : (t : List ℕ) → 0 < countOf t
 words-some t = rw (words-split t) (omega arith)
 
 pub count-other : (t : List ℕ) (i : ℕ) → i < length t → (getD t i 0 ≡ 32 → ⊥) → countOf (drop i t) ≡ countOf (drop (i + 1) t)
