@@ -54,11 +54,6 @@ same-one a b i h k = rw (drop-one a i 0 h, drop-one b i 0 k)
 pub end-le : (class : ℕ → Bool) (t : List ℕ) (i : ℕ) → i ≤ length t → i + run class (drop i t) ≤ length t
 end-le class t i h = omega (arith, run-le class (drop i t), length-drop i t)
 
--- no byte stands at i or behind it
-pub run-none : (class : ℕ → Bool) (t : List ℕ) (i : ℕ) → length t ≤ i → i + run class (drop i t) ≡ i
-unfolding run
-run-none class t i h = rw (drop-of-length-le t h) (omega arith)
-
 -- ---- the words of a text
 
 -- the first word is what stands before the first space, and the others are the words behind it
@@ -85,7 +80,8 @@ unfolding before
 before-length b [] h = absurd (omega arith)
 before-length b (w ∷ ws) h = refl
 
-words-some : (t : List ℕ) → 0 < countOf t
+-- there is at least one word
+pub words-some : (t : List ℕ) → 0 < countOf t
 words-some t = rw (words-split t) (omega arith)
 
 pub count-other : (t : List ℕ) (i : ℕ) → i < length t → (getD t i 0 ≡ 32 → ⊥) → countOf (drop i t) ≡ countOf (drop (i + 1) t)

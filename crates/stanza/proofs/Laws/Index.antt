@@ -124,6 +124,13 @@ decimal-digits (suc f) n h =
     )
     (refl, omega arith))
 
+-- there is at least one
+pub decimal-some : (n : ℕ) → 0 < length (decimal n)
+unfolding decimal
+decimal-some n =
+    cases (ltb n 10) (λ e. rw (decimal-small n n (ltb-true n 10 e)) (omega arith))
+    (λ e. rw (decimal-large n n (ltb-false n 10 e), length-append (decimalWith n (n / 10)) ((48 + n % 10) ∷ [])) (omega arith))
+
 -- only that of 0 begins with "0"
 decimal-first : (f n : ℕ) → n < f → 0 < n → (0 < length (decimalWith f n)) × (getD (decimalWith f n) 0 0 ≡ 48 → ⊥)
 decimal-first zero n h k = absurd (omega arith)

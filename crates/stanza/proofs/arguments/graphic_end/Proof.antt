@@ -5,9 +5,8 @@ use lib.ListN.{length, drop}
 use borrow.Author.Needs.{needs}
 use borrow.Author.Tests.{not-true, not-false}
 use Rattle.refusal.specs.Run.{run}
-use Rattle.refusal.proofs.Laws.Run.{run-in, run-out}
+use Rattle.refusal.proofs.Laws.Run.{run-in, run-out, run-end}
 use Rattle.stanza.specs.Arguments.{isGraphic}
-use Rattle.stanza.proofs.Laws.Arguments.{run-none}
 use Rattle.stanza.proofs.arguments.graphic_end.Statement.{statement}
 use Rattle.stanza.proofs.arguments.graphic_end.Tie as tie
 
@@ -39,7 +38,7 @@ loop-again : tie.Need-loop-again Inv-loop μ-loop
 loop-again c = c .before .before .before .before .loop .inv ∙ run-in isGraphic _ _ (c .before .before .before .loop-test .taken) (sym (c .before .is-graphic .ensures) ∙ not-false _ (c .if1 .left))
 
 returns-2 : tie.Need-returns-2 Inv-loop μ-loop
-returns-2 c = sym (c .before .loop .inv ∙ run-none isGraphic _ _ (c .loop-test .left))
+returns-2 c = sym (c .before .loop .inv ∙ run-end isGraphic _ _ (c .loop-test .left))
 
 pub graphic-end-spec : {M : Type 1} → statement M
 graphic-end-spec =

@@ -65,8 +65,10 @@ loop-again : tie.Need-loop-again Inv-loop μ-loop
 loop-again c =
     let line = now (c .before .before .before .before .before .before .before .args .line) in
     let from = c .before .before .before .before .before .loop .at in
-    let r = c .before .before .before .before .graphic-end .result in
-    (omega (arith, end-le isGraphic line from (c .before .before .before .before .before .loop .inv .0)), c .before .before .before .before .before .loop .inv .1 ∙ line-next line from r (c .before .before .before .before .graphic-end .ensures) (λ q. omega arith) (c .before .before .before .before .before .loop .inv .0) (λ q. omega arith) (omega arith))
+    let r = c .before .before .before .before .graphic-end .result in (
+      omega (arith, end-le isGraphic line from (c .before .before .before .before .before .loop .inv .0)),
+      c .before .before .before .before .before .loop .inv .1 ∙ line-next line from r (c .before .before .before .before .graphic-end .ensures) (λ q. omega arith) (c .before .before .before .before .before .loop .inv .0) (λ q. omega arith) (omega arith),
+    )
 
 pub is-line-spec : {M : Type 1} → statement M
 is-line-spec =

@@ -47,8 +47,10 @@ loop-again : tie.Need-loop-again Inv-loop μ-loop
 loop-again c =
     let a = now (c .before .before .before .before .before .before .args .a) in
     let b = now (c .before .before .before .before .before .before .args .b) in
-    let i = c .before .before .before .before .loop .i in
-    (search needs, c .before .before .before .before .loop .inv .1 ∙ same-one a b i (omega arith) (omega arith) ∙ rw (eq-eqb (getD a i 0) (getD b i 0) (omega arith)))
+    let i = c .before .before .before .before .loop .i in (
+      search needs,
+      c .before .before .before .before .loop .inv .1 ∙ same-one a b i (omega arith) (omega arith) ∙ rw (eq-eqb (getD a i 0) (getD b i 0) (omega arith)),
+    )
 
 returns-3 : tie.Need-returns-3 Inv-loop μ-loop
 unfolding same

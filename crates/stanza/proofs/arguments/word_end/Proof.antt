@@ -5,9 +5,8 @@ use lib.ListN.{length, drop}
 use borrow.Author.Needs.{needs}
 use borrow.Author.Tests.{eq-eqb, ne-eqb}
 use Rattle.refusal.specs.Run.{run}
-use Rattle.refusal.proofs.Laws.Run.{run-in, run-out}
+use Rattle.refusal.proofs.Laws.Run.{run-in, run-out, run-end}
 use Rattle.stanza.specs.Arguments.{isWordByte}
-use Rattle.stanza.proofs.Laws.Arguments.{run-none}
 use Rattle.stanza.proofs.arguments.word_end.Statement.{statement}
 use Rattle.stanza.proofs.arguments.word_end.Tie as tie
 
@@ -38,7 +37,7 @@ unfolding isWordByte
 loop-again c = c .before .before .before .loop .inv ∙ run-in isWordByte _ _ (c .before .before .loop-test .taken) (rw (ne-eqb _ _ (c .if1 .left)))
 
 returns-2 : tie.Need-returns-2 Inv-loop μ-loop
-returns-2 c = sym (c .before .loop .inv ∙ run-none isWordByte _ _ (c .loop-test .left))
+returns-2 c = sym (c .before .loop .inv ∙ run-end isWordByte _ _ (c .loop-test .left))
 
 pub word-end-spec : {M : Type 1} → statement M
 word-end-spec =

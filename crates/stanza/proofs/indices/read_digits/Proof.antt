@@ -63,8 +63,11 @@ loop-again : tie.Need-loop-again Inv-loop μ-loop
 loop-again c =
     let text = now (c .before .before .before .before .before .before .before .before .args .text) in
     let v = c .before .before .before .before .before .before .loop .v in
-    let i = c .before .before .before .before .before .before .loop .i in
-    (omega arith, omega arith, c .before .before .before .before .before .before .loop .inv .2 ∙ digits-one text v i (omega arith) ∙ rw (le-leb 48 (getD text i 0) (omega arith), le-leb (getD text i 0) 57 (omega arith), le-leb (c .before .before .before .before .before .before .loop .v * 10 + (getD text i 0 - 48)) 4294967295 (omega arith), c .before .wide .ensures))
+    let i = c .before .before .before .before .before .before .loop .i in (
+      omega arith,
+      omega arith,
+      c .before .before .before .before .before .before .loop .inv .2 ∙ digits-one text v i (omega arith) ∙ rw (le-leb 48 (getD text i 0) (omega arith), le-leb (getD text i 0) 57 (omega arith), le-leb (c .before .before .before .before .before .before .loop .v * 10 + (getD text i 0 - 48)) 4294967295 (omega arith), c .before .wide .ensures),
+    )
 
 cast-t14 : tie.Need-cast-t14 Inv-loop μ-loop
 cast-t14 c = omega arith

@@ -1,0 +1,4 @@
+-- The script of the replay program: its words with their escapes, its numbers, and which call a line makes.
+pub mod Call
+pub mod Escape
+pub mod Number

@@ -1,0 +1,14 @@
+// The script of the replay program: its words with their escapes, read and printed, its numbers, and which call a line makes.
+// It knows nothing of lines, of files and of what the calls do.
+mod calls;
+mod escaping;
+mod numbers;
+mod unescaping;
+
+pub use calls::Call;
+pub use calls::choose_call;
+pub use escaping::escape;
+pub use numbers::Number;
+pub use numbers::read_number;
+pub use unescaping::Unescaped;
+pub use unescaping::unescape;
