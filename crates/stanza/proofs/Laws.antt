@@ -4,3 +4,4 @@ pub mod Index
 pub mod Automaton
 pub mod Reading
 pub mod Writing
+pub mod Grammar

@@ -112,14 +112,14 @@ module _ (t : List ℕ) (i j : ℕ) (e : j ≡ i + run isWordByte (drop i t)) wh
 -- ---- lines
 
 -- the text behind the first byte of an argument: the rest of that argument, and the others
-goesOn : List ℕ → Bool
+pub goesOn : List ℕ → Bool
 goesOn t = all isGraphic (getD (words t) 0 []) && areArguments (drop 1 (words t))
 
-graphic-no-space : (b : ℕ) → isGraphic b ≡ true → eqb b 32 ≡ false
+pub graphic-no-space : (b : ℕ) → isGraphic b ≡ true → eqb b 32 ≡ false
 unfolding isGraphic
 graphic-no-space b e = ne-eqb b 32 (λ q. omega (arith, leb-true 33 b (and-true _ _ e .0)))
 
-space-not-graphic : (b : ℕ) → eqb b 32 ≡ true → isGraphic b ≡ false
+pub space-not-graphic : (b : ℕ) → eqb b 32 ≡ true → isGraphic b ≡ false
 unfolding isGraphic
 space-not-graphic b e = rw (eqb-true b 32 e)
 
@@ -136,18 +136,26 @@ unfolding before all
 before-goes b [] h = absurd (omega arith)
 before-goes b (w ∷ ws) h = sym (and-assoc (isGraphic b) (all isGraphic w) (areArguments ws))
 
-line-cons : (b : ℕ) (t : List ℕ) → isLine (b ∷ t) ≡ (isGraphic b && goesOn t)
+pub line-cons : (b : ℕ) (t : List ℕ) → isLine (b ∷ t) ≡ (isGraphic b && goesOn t)
 unfolding words areArguments isArgument goesOn
 line-cons b t =
     cases (eqb b 32) (λ e. rw (e, space-not-graphic b e)) (λ e. rw e (before-line b (words t) (words-some t)))
 
-goes-space : (b : ℕ) (t : List ℕ) → eqb b 32 ≡ true → goesOn (b ∷ t) ≡ isLine t
+pub goes-space : (b : ℕ) (t : List ℕ) → eqb b 32 ≡ true → goesOn (b ∷ t) ≡ isLine t
 unfolding words goesOn all
 goes-space b t e = rw e
 
-goes-cons : (b : ℕ) (t : List ℕ) → eqb b 32 ≡ false → goesOn (b ∷ t) ≡ (isGraphic b && goesOn t)
+pub goes-cons : (b : ℕ) (t : List ℕ) → eqb b 32 ≡ false → goesOn (b ∷ t) ≡ (isGraphic b && goesOn t)
 unfolding words goesOn
 goes-cons b t e = rw e (before-goes b (words t) (words-some t))
+
+pub goes-nil : goesOn [] ≡ true
+unfolding goesOn words areArguments all
+goes-nil = refl
+
+pub line-nil : isLine [] ≡ false
+unfolding words areArguments isArgument
+line-nil = refl
 
 -- by the run of graphic bytes at the front
 goes-run : (t : List ℕ) →
@@ -155,7 +163,7 @@ goes-run : (t : List ℕ) →
     pick (eqb (run isGraphic t) (length t)) true
     (pick (eqb (getD t (run isGraphic t) 0) 32) (isLine (drop (suc (run isGraphic t)) t)) false)
 unfolding run
-goes-run [] = unfold goesOn words areArguments all in refl
+goes-run [] = goes-nil
 goes-run (b ∷ t) =
     cases (isGraphic b)
     (λ e. rw (goes-cons b t (graphic-no-space b e), e, eqb·suc-suc (run isGraphic t) (length t)) (goes-run t))
@@ -167,7 +175,7 @@ pub line-run : (t : List ℕ) →
     (pick (eqb (run isGraphic t) (length t)) true
     (pick (eqb (getD t (run isGraphic t) 0) 32) (isLine (drop (suc (run isGraphic t)) t)) false))
 unfolding run
-line-run [] = unfold words areArguments isArgument in refl
+line-run [] = line-nil
 line-run (b ∷ t) =
     cases (isGraphic b)
     (λ e. rw (line-cons b t, e, eqb·suc-zero (run isGraphic t), eqb·suc-suc (run isGraphic t) (length t)) (goes-run t))

@@ -143,7 +143,7 @@ graphic-line-end t i e h p =
     (all-wider isGraphic isNotLf graphic-not-lf (take (run isGraphic (drop i t)) (drop i t)) (run-take isGraphic (run isGraphic (drop i t)) (drop i t) (omega arith))))
 
 -- the value of the last character, v where there is none
-pub lastValue : ℕ → List ℕ → ℕ
+unfoldable pub lastValue : ℕ → List ℕ → ℕ
 lastValue v [] = v
 lastValue v (b ∷ t) = lastValue (valueOf b) t
 
@@ -159,7 +159,7 @@ last-value v (b ∷ c ∷ t) h =
 pub line-run : (n k v i : ℕ) (u : List ℕ) → n ≤ length u → all isCharacter (take n u) ≡ true → k + n ≤ 64 →
     scan (line k v) i u ≡ scan (line (k + n) (lastValue v (take n u))) (i + n) (drop n u)
 unfolding scan next verdict all lastValue
-line-run zero k v i u h a f = rw (add-zero, add-zero)
+line-run zero k v i u h a f = simp add-zero
 line-run (suc n) k v i [] h a f = absurd (omega arith)
 line-run (suc n) k v i (b ∷ u) h a f =
     let c = and-true (isCharacter b) (all isCharacter (take n u)) a in
