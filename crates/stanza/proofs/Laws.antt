@@ -5,3 +5,5 @@ pub mod Automaton
 pub mod Reading
 pub mod Writing
 pub mod Grammar
+pub mod Exact
+pub mod RoundTrip

@@ -132,7 +132,7 @@ unfolding next verdict
 word-bad t i h e f g = rw (scan-at word t i h, e, ne-eqb (getD t i 0) 32 f, ne-eqb (getD t i 0) 10 g)
 
 -- no LF is a byte from 33 to 126
-graphic-not-lf : (b : ℕ) → isGraphic b ≡ true → isNotLf b ≡ true
+pub graphic-not-lf : (b : ℕ) → isGraphic b ≡ true → isNotLf b ≡ true
 unfolding isGraphic
 graphic-not-lf b h = let a = leb-true 33 b (and-true (leb 33 b) (leb b 126) h .0) in rw (ne-eqb b 10 (omega arith))
 

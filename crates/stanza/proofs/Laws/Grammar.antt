@@ -37,7 +37,7 @@ after-dead [] = refl
 after-dead (b ∷ t) = after-dead t
 
 -- dead is none of the others
-dead-or : State → ℕ
+unfoldable pub dead-or : State → ℕ
 dead-or start = 1
 dead-or hyphen = 1
 dead-or arrow = 1
@@ -47,11 +47,11 @@ dead-or (line k v) = 1
 dead-or ended = 2
 dead-or dead = 0
 
-after-dead-not : (t : List ℕ) → after dead t ≡ ended → ⊥
+pub after-dead-not : (t : List ℕ) → after dead t ≡ ended → ⊥
 unfolding dead-or
 after-dead-not t e = let z : _≡_ {A = ℕ} 0 2 = ap dead-or (sym (after-dead t) ∙ e) in omega arith
 
-after-ended : (t : List ℕ) → after ended t ≡ ended → t ≡ []
+pub after-ended : (t : List ℕ) → after ended t ≡ ended → t ≡ []
 unfolding after next
 after-ended [] e = refl
 after-ended (b ∷ t) e = absurd (after-dead-not t e)
@@ -69,8 +69,8 @@ goes-after (b ∷ []) h =
 goes-after (b ∷ c ∷ t) h =
     cases (eqb b 32)
     (λ e.
-      let l = and-true (isGraphic c) (goesOn t) (sym (goes-space b (c ∷ t) e ∙ line-cons c t) ∙ h) in
-      rw (space-not-graphic b e, e, l .0) (goes-after t (l .1)))
+    let l = and-true (isGraphic c) (goesOn t) (sym (goes-space b (c ∷ t) e ∙ line-cons c t) ∙ h) in
+    rw (space-not-graphic b e, e, l .0) (goes-after t (l .1)))
     (λ e. let g = and-true (isGraphic b) (goesOn (c ∷ t)) (sym (goes-cons b (c ∷ t) e) ∙ h) in rw (g .0) (goes-after (c ∷ t) (g .1)))
 
 line-after : (t : List ℕ) → isLine t ≡ true → after gap t ≡ word
@@ -130,16 +130,16 @@ lines-sound [] k v h e = absurd (not-ended (omega arith) e)
 lines-sound (b ∷ u) k v h e =
     cases (isCharacter b)
     (λ c. cases (ltb k 64)
-      (λ l. lines-char b k v u (ltb-true k 64 l) c (lines-sound u (k + 1) (valueOf b) (omega (arith, ltb-true k 64 l)) (rw (c, l) at e)))
-      (λ l. absurd (after-dead-not u (rw (c, l) at e))))
+    (λ l. lines-char b k v u (ltb-true k 64 l) c (lines-sound u (k + 1) (valueOf b) (omega (arith, ltb-true k 64 l)) (rw (c, l) at e)))
+    (λ l. absurd (after-dead-not u (rw (c, l) at e))))
     (λ c. cases (eqb b 10)
-      (λ n. subst (λ x. Lines k v (x ∷ u)) (sym (eqb-true b 10 n))
-        (cases (eqb k 64)
-        (λ q. subst (λ x. Lines x v (10 ∷ u)) (sym (eqb-true k 64 q)) (lines-next v u (lines-sound u 0 0 (omega arith) (rw (c, n, q) at e))))
-        (λ q. cases (endsWell k v)
-          (λ f. lines-end k v u q f (after-ended u (rw (c, n, q, f) at e)))
-          (λ f. absurd (after-dead-not u (rw (c, n, q, f) at e))))))
-      (λ n. absurd (after-dead-not u (rw (c, n) at e))))
+    (λ n. subst (λ x. Lines k v (x ∷ u)) (sym (eqb-true b 10 n))
+    (cases (eqb k 64)
+    (λ q. subst (λ x. Lines x v (10 ∷ u)) (sym (eqb-true k 64 q)) (lines-next v u (lines-sound u 0 0 (omega arith) (rw (c, n, q) at e))))
+    (λ q. cases (endsWell k v)
+    (λ f. lines-end k v u q f (after-ended u (rw (c, n, q, f) at e)))
+    (λ f. absurd (after-dead-not u (rw (c, n, q, f) at e))))))
+    (λ n. absurd (after-dead-not u (rw (c, n) at e))))
 
 -- characters that may end are base64, so they are the encoding of their bytes
 lines-body : (s : List ℕ) → all isCharacter s ≡ true → endsWell (0 + length s) (lastValue 0 s) ≡ true → isBase64 s ≡ true
@@ -168,16 +168,16 @@ lines-complete (b ∷ s) k v h a e =
     let c = and-true (isCharacter b) (all isCharacter s) a in
     cases (eqb k 63)
     (λ q.
-      let f = eqb-true k 63 q in
-      let n : k + suc (length s) ≡ 64 + length s = omega arith in
-      let w : wrapped k (b ∷ s) ≡ b ∷ 10 ∷ wrapped 0 s = rw q in
-      ap (after (line k v)) w ∙ step-char b k v (10 ∷ wrapped 0 s) (omega arith) (c .0) ∙ step-full (k + 1) (valueOf b) (wrapped 0 s) (omega arith)
-      ∙ lines-complete s 0 0 (omega arith) (c .1) (sym (ends-full s (valueOf b)) ∙ rw n at e))
+    let f = eqb-true k 63 q in
+    let n : k + suc (length s) ≡ 64 + length s = omega arith in
+    let w : wrapped k (b ∷ s) ≡ b ∷ 10 ∷ wrapped 0 s = rw q in
+    ap (after (line k v)) w ∙ step-char b k v (10 ∷ wrapped 0 s) (omega arith) (c .0) ∙ step-full (k + 1) (valueOf b) (wrapped 0 s) (omega arith)
+    ∙ lines-complete s 0 0 (omega arith) (c .1) (sym (ends-full s (valueOf b)) ∙ rw n at e))
     (λ q.
-      let f = eqb-false k 63 q in
-      let n : k + suc (length s) ≡ k + 1 + length s = omega arith in
-      let w : wrapped k (b ∷ s) ≡ b ∷ wrapped (k + 1) s = rw q in
-      ap (after (line k v)) w ∙ step-char b k v (wrapped (k + 1) s) (omega arith) (c .0) ∙ lines-complete s (k + 1) (valueOf b) (omega arith) (c .1) (rw n at e))
+    let f = eqb-false k 63 q in
+    let n : k + suc (length s) ≡ k + 1 + length s = omega arith in
+    let w : wrapped k (b ∷ s) ≡ b ∷ wrapped (k + 1) s = rw q in
+    ap (after (line k v)) w ∙ step-char b k v (wrapped (k + 1) s) (omega arith) (c .0) ∙ lines-complete s (k + 1) (valueOf b) (omega arith) (c .1) (rw n at e))
 
 -- ---- the whole
 
@@ -208,12 +208,12 @@ word-sound (b ∷ c ∷ u) e =
     cases (isGraphic b)
     (λ g. rest-cons b (c ∷ u) goesOn goesOn (λ r h. goes-cons b r (graphic-no-space b g) ∙ true-and (isGraphic b) (goesOn r) g h) (word-sound (c ∷ u) (rw g at e)))
     (λ g. cases (eqb b 32)
-      (λ s. cases (isGraphic c)
-        (λ f. rest-cons b (c ∷ u) isLine goesOn (λ r h. goes-space b r s ∙ h) (rest-cons c u goesOn isLine (λ r h. line-cons c r ∙ true-and (isGraphic c) (goesOn r) f h) (word-sound u (rw (g, s, f) at e))))
-        (λ f. absurd (after-dead-not u (rw (g, s, f) at e))))
-      (λ s. cases (eqb b 10)
-        (λ l. rw (eqb-true b 10 l) (line-rest (c ∷ u) (rw (g, s, l) at e)))
-        (λ l. absurd (after-dead-not (c ∷ u) (rw (g, s, l) at e)))))
+    (λ s. cases (isGraphic c)
+    (λ f. rest-cons b (c ∷ u) isLine goesOn (λ r h. goes-space b r s ∙ h) (rest-cons c u goesOn isLine (λ r h. line-cons c r ∙ true-and (isGraphic c) (goesOn r) f h) (word-sound u (rw (g, s, f) at e))))
+    (λ f. absurd (after-dead-not u (rw (g, s, f) at e))))
+    (λ s. cases (eqb b 10)
+    (λ l. rw (eqb-true b 10 l) (line-rest (c ∷ u) (rw (g, s, l) at e)))
+    (λ l. absurd (after-dead-not (c ∷ u) (rw (g, s, l) at e)))))
 
 gap-sound : (u : List ℕ) → after gap u ≡ ended → Rest isLine u
 unfolding after next dead-or
@@ -232,10 +232,10 @@ start-sound (a ∷ b ∷ []) e =
 start-sound (a ∷ b ∷ c ∷ u) e =
     cases (eqb a 45)
     (λ h. cases (eqb b 62)
-      (λ g. cases (eqb c 32)
-        (λ f. whole-is (eqb-true a 45 h) (eqb-true b 62 g) (eqb-true c 32 f) (gap-sound u (rw (h, g, f) at e)))
-        (λ f. absurd (after-dead-not u (rw (h, g, f) at e))))
-      (λ g. absurd (after-dead-not u (rw (h, g) at e))))
+    (λ g. cases (eqb c 32)
+    (λ f. whole-is (eqb-true a 45 h) (eqb-true b 62 g) (eqb-true c 32 f) (gap-sound u (rw (h, g, f) at e)))
+    (λ f. absurd (after-dead-not u (rw (h, g, f) at e))))
+    (λ g. absurd (after-dead-not u (rw (h, g) at e))))
     (λ h. absurd (after-dead-not u (rw h at e)))
   where
     whole-is : a ≡ 45 → b ≡ 62 → c ≡ 32 → Rest isLine u → IsStanza (a ∷ b ∷ c ∷ u)
@@ -245,7 +245,7 @@ start-sound (a ∷ b ∷ c ∷ u) e =
           body = w .body;
           arguments = w .are;
           bytes = w .bytes;
-          text = ap (λ l. 45 ∷ 62 ∷ 32 ∷ l) (append-assoc (w .line) (10 ∷ []) (linesOf (w .body)) ∙ w .text) ∙ rw (p, q, r)
+          text = ap (λ l. 45 ∷ 62 ∷ 32 ∷ l) (append-assoc (w .line) (10 ∷ []) (linesOf (w .body)) ∙ w .text) ∙ rw (p, q, r);
         }
 
 body-lines : (s : List ℕ) → isBase64 s ≡ true → (all isCharacter s ≡ true) × (endsWell (0 + length s) (lastValue 0 s) ≡ true)
@@ -269,7 +269,7 @@ ended-iff t = (start-sound t, λ w. ap (after start) (sym (w .text)) ∙ stanza-
 -- ---- every state that is not dead goes on to a stanza
 
 -- bytes that complete a stanza
-completion : State → List ℕ
+unfoldable pub completion : State → List ℕ
 completion start = 45 ∷ 62 ∷ 32 ∷ 65 ∷ 10 ∷ 10 ∷ []
 completion hyphen = 62 ∷ 32 ∷ 65 ∷ 10 ∷ 10 ∷ []
 completion arrow = 32 ∷ 65 ∷ 10 ∷ 10 ∷ []
@@ -280,7 +280,7 @@ completion ended = []
 completion dead = []
 
 -- a body line has at most 64 characters
-Fits : State → Type 0
+unfoldable pub Fits : State → Type 0
 Fits start = Unit {0}
 Fits hyphen = Unit {0}
 Fits arrow = Unit {0}
@@ -308,13 +308,13 @@ next-fits (line k v) b f =
 next-fits ended b f = tt
 next-fits dead b f = tt
 
-after-fits : (t : List ℕ) (s : State) → Fits s → Fits (after s t)
+pub after-fits : (t : List ℕ) (s : State) → Fits s → Fits (after s t)
 unfolding after
 after-fits [] s f = f
 after-fits (b ∷ t) s f = after-fits t (next s b) (next-fits s b f)
 
 -- a state that is not not dead is dead
-only-dead : (s : State) → ((s ≡ dead → ⊥) → ⊥) → s ≡ dead
+pub only-dead : (s : State) → ((s ≡ dead → ⊥) → ⊥) → s ≡ dead
 unfolding dead-or
 only-dead start f = absurd (f (λ e. let z : _≡_ {A = ℕ} 1 0 = ap dead-or e in omega arith))
 only-dead hyphen f = absurd (f (λ e. let z : _≡_ {A = ℕ} 1 0 = ap dead-or e in omega arith))
@@ -347,16 +347,16 @@ complete-line k v h =
     cases (eqb k 64)
     (λ a. rw a (step-full k v (10 ∷ []) (eqb-true k 64 a) ∙ end-now 0 0 (omega arith) (ends-zero 0 (omega arith))))
     (λ a. let n = eqb-false k 64 a in
-      cases (eqb (k % 4) 0)
-      (λ b. rw (a, b) (end-now k v (omega arith) (unfold endsWell in rw b)))
-      (λ b. let m = eqb-false (k % 4) 0 b in
-        cases (eqb k 63)
-        (λ c. let q = eqb-true k 63 c in
-          rw (a, b, c) (step-char 65 k v (10 ∷ 10 ∷ []) (omega arith) (capital-a .0) ∙ step-full (k + 1) (valueOf 65) (10 ∷ []) (omega arith) ∙ end-now 0 0 (omega arith) (ends-zero 0 (omega arith))))
-        (λ c. let q = eqb-false k 63 c in
-          rw (a, b, c) (step-char 65 k v (10 ∷ []) (omega arith) (capital-a .0) ∙ rw (capital-a .1) (end-now (k + 1) 0 (omega arith) (ends-zero (k + 1) (λ z. m (omega arith))))))))
+    cases (eqb (k % 4) 0)
+    (λ b. rw (a, b) (end-now k v (omega arith) (unfold endsWell in rw b)))
+    (λ b. let m = eqb-false (k % 4) 0 b in
+    cases (eqb k 63)
+    (λ c. let q = eqb-true k 63 c in
+    rw (a, b, c) (step-char 65 k v (10 ∷ 10 ∷ []) (omega arith) (capital-a .0) ∙ step-full (k + 1) (valueOf 65) (10 ∷ []) (omega arith) ∙ end-now 0 0 (omega arith) (ends-zero 0 (omega arith))))
+    (λ c. let q = eqb-false k 63 c in
+    rw (a, b, c) (step-char 65 k v (10 ∷ []) (omega arith) (capital-a .0) ∙ rw (capital-a .1) (end-now (k + 1) 0 (omega arith) (ends-zero (k + 1) (λ z. m (omega arith))))))))
 
-completes : (s : State) → Fits s → (s ≡ dead → ⊥) → after s (completion s) ≡ ended
+pub completes : (s : State) → Fits s → (s ≡ dead → ⊥) → after s (completion s) ≡ ended
 unfolding after next completion isGraphic isCharacter endsWell Fits
 completes start f n = refl
 completes hyphen f n = refl
@@ -370,12 +370,7 @@ completes dead f n = absurd (n refl)
 -- dead behind exactly the texts with which no stanza begins
 pub dead-iff : (p : List ℕ) → (after start p ≡ dead) ↔ ((t : List ℕ) → IsStanza (p ++ t) → ⊥)
 unfolding Fits
-dead-iff p =
-    (λ e t w. after-dead-not t (ap (λ s. after s t) (sym e) ∙ sym (after-append start p t) ∙ ended-iff (p ++ t) .1 w),
-    λ n. only-dead (after start p) (λ a. n (completion (after start p)) (ended-iff (p ++ completion (after start p)) .0 (after-append start p (completion (after start p)) ∙ completes (after start p) (after-fits p start tt) a))))
-
--- ---- where a scan stops
-
--- not dead and not ended: some stanza begins so and is longer
-Alive : State → Type 0
-Alive s = (s ≡ dead → ⊥) × (s ≡ ended → ⊥)
+dead-iff p = (
+  λ e t w. after-dead-not t (ap (λ s. after s t) (sym e) ∙ sym (after-append start p t) ∙ ended-iff (p ++ t) .1 w),
+  λ n. only-dead (after start p) (λ a. n (completion (after start p)) (ended-iff (p ++ completion (after start p)) .0 (after-append start p (completion (after start p)) ∙ completes (after start p) (after-fits p start tt) a))),
+)

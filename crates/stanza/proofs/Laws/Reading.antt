@@ -35,7 +35,7 @@ short-is t n e =
     ]
 
 -- a run that ends within the front is that of the front
-run-front : (class : ℕ → Bool) (k : ℕ) (t : List ℕ) → run class t < k → run class (take k t) ≡ run class t
+pub run-front : (class : ℕ → Bool) (k : ℕ) (t : List ℕ) → run class t < k → run class (take k t) ≡ run class t
 unfolding run
 run-front class zero t h = absurd (omega arith)
 run-front class (suc k) [] h = refl
