@@ -1,0 +1,59 @@
+-- The worked examples of document 01 marked * (the paper's classroom pieces): one table, and what it is for a row to hold.
+-- Texts are lists of bytes: 45 62 32 is "-> ", 10 is LF, 48 to 57 are the digits.
+use Prim.Native.Nat.{ℕ}
+use mathlib.Core.Path.{_≡_}
+use mathlib.Core.Bool.{true}
+use mathlib.Core.List.{List, [], _∷_, _++_}
+use lib.ListN.{length, replicate}
+use Rattle.base64.specs.Code.{encoded}
+use Rattle.base64.specs.Lines.{linesOf}
+use Rattle.stanza.specs.Grammar.{stanzaText}
+use Rattle.stanza.specs.Index as index
+use Rattle.stanza.specs.Reading.{Reading, stanza, refused, readFirst}
+
+-- an example: a text is read so; arguments and a body make so many bytes; so many body bytes make a line of so many characters and then these
+-- bytes; a text is read as an index so
+pub data Row : Type 0 where
+  reads : List ℕ → Reading → Row
+  writes : List ℕ → List ℕ → ℕ → Row
+  makes : ℕ → ℕ → List ℕ → Row
+  counts : List ℕ → index.Reading → Row
+
+-- what the definitions say of it
+abbrev pub Holds : Row → Type 0
+Holds (reads text r) = readFirst text ≡ r
+Holds (writes line body n) = length (stanzaText line body) ≡ n
+Holds (makes n k ending) = linesOf (replicate n 0) ≡ replicate k 65 ++ ending
+Holds (counts text r) = index.readIndex text ≡ r
+
+abbrev pub AllHold : List Row → Type 0
+AllHold [] = Unit {0}
+AllHold (r ∷ rs) = Holds r × AllHold rs
+
+-- "-> done"
+abbrev pub done : List ℕ
+done = 45 ∷ 62 ∷ 32 ∷ 100 ∷ 111 ∷ 110 ∷ 101 ∷ []
+
+-- "wrap-file-key"
+abbrev pub wrapFileKey : List ℕ
+wrapFileKey = 119 ∷ 114 ∷ 97 ∷ 112 ∷ 45 ∷ 102 ∷ 105 ∷ 108 ∷ 101 ∷ 45 ∷ 107 ∷ 101 ∷ 121 ∷ []
+
+abbrev pub rows : List Row
+rows =
+    -- "-> done", LF, LF: 9 bytes, a whole stanza, its first line ending at 7, with no body
+    reads (done ++ (10 ∷ 10 ∷ [])) (stanza 7 0 9) ∷
+    -- the same less its last LF: 2
+    reads (done ++ (10 ∷ [])) (refused 2) ∷
+    -- two spaces between arguments, "-> a  b", LF, LF: 1
+    reads (45 ∷ 62 ∷ 32 ∷ 97 ∷ 32 ∷ 32 ∷ 98 ∷ 10 ∷ 10 ∷ []) (refused 1) ∷
+    -- 16 zero bytes as a wrap-file-key stanza: 40 bytes
+    writes wrapFileKey (replicate 16 0) 40 ∷
+    -- 47 body bytes: 63 characters, one LF; 48: 64 characters, two LFs (zero bytes are the character "A", 65)
+    makes 47 63 (10 ∷ []) ∷
+    makes 48 64 (10 ∷ 10 ∷ []) ∷
+    -- index "0" good, "01" gives 5, "4294967295" good, "4294967296" gives 5
+    counts (48 ∷ []) (index.number 0) ∷
+    counts (48 ∷ 49 ∷ []) (index.refused 5) ∷
+    counts (52 ∷ 50 ∷ 57 ∷ 52 ∷ 57 ∷ 54 ∷ 55 ∷ 50 ∷ 57 ∷ 53 ∷ []) (index.number 4294967295) ∷
+    counts (52 ∷ 50 ∷ 57 ∷ 52 ∷ 57 ∷ 54 ∷ 55 ∷ 50 ∷ 57 ∷ 54 ∷ []) (index.refused 5) ∷
+    []
