@@ -1,0 +1,41 @@
+// Parts of byte strings, cut to what is there, so that no caller owes a bound.
+ghost use mathlib.Core.Path.{_≡_};
+ghost use Prim.Native.Nat.{_≤_, min};
+ghost use lib.ListN.{length};
+
+pub fn least(a: usize, b: usize) -> usize
+    ensures { λ r. ⌜ r ≡ min a b ⌝ }
+{
+    if a < b { a } else { b }
+}
+
+// The bytes from `from` up to `to`.
+pub fn part(bytes: &[u8], from: usize, to: usize) -> &[u8] {
+    let end = least(to, bytes.len());
+    let start = least(from, end);
+    &bytes[start..end]
+}
+
+// The first n bytes.
+pub fn front(bytes: &[u8], n: usize) -> &[u8] {
+    part(bytes, 0, n)
+}
+
+// Copies src to the front of `out`, as much as fits: how many bytes.
+fn copy(src: &[u8], out: &mut [u8]) -> usize
+    ensures { λ r. ⌜ r ≤ length (now (out .entry)) ⌝ }
+{
+    let n = least(src.len(), out.len());
+    let mut i: usize = 0;
+    while i < n {
+        out[i] = src[i];
+        i += 1;
+    }
+    n
+}
+
+// Copies src behind the first `at` bytes of `out`, as much as fits: where the next byte goes.
+pub fn append(src: &[u8], out: &mut [u8], at: usize) -> usize {
+    let from = least(at, out.len());
+    from + copy(src, &mut out[from..])
+}
