@@ -1,0 +1,74 @@
+//! The time and the instructions of one call.
+
+use crate::stanzas::Measured;
+use crate::work::{repeat, Program, Task, PROGRAMS, TASKS};
+use std::process::Command;
+use std::time::{Duration, Instant};
+
+/// A round takes at least this long; the best of the rounds counts.
+const ROUND: Duration = Duration::from_millis(2);
+const ROUNDS: usize = 150;
+
+/// The time of a call, of each program; their rounds take turns, so that a busy machine is as busy for both.
+pub fn nanoseconds(task: Task, on: &Measured) -> [f64; 2] {
+    let round = |program, times: usize| {
+        let start = Instant::now();
+        repeat(program, task, on, times);
+        start.elapsed()
+    };
+    let times = PROGRAMS.map(|program| {
+        let mut times = 1;
+        while round(program, times) < ROUND {
+            times *= 2;
+        }
+        times
+    });
+    let mut best = [Duration::MAX; 2];
+    for _ in 0..ROUNDS {
+        for (at, program) in PROGRAMS.into_iter().enumerate() {
+            best[at] = best[at].min(round(program, times[at]));
+        }
+    }
+    [0, 1].map(|at| best[at].as_nanos() as f64 / times[at] as f64)
+}
+
+/// The instructions of a call, of each program.
+pub fn instructions(task: Task, on: &Measured) -> [f64; 2] {
+    PROGRAMS.map(|program| instructions_of(program, task, on))
+}
+
+/// What twice as many calls take more, so that the start of the program is not counted.
+fn instructions_of(program: Program, task: Task, on: &Measured) -> f64 {
+    let times = 2_000_000 / (on.text.len() * 10);
+    let once = under_valgrind(program, task, on, times);
+    let twice = under_valgrind(program, task, on, 2 * times);
+    (twice - once) as f64 / times as f64
+}
+
+/// The instructions of a whole run of this program that does the task so many times.
+fn under_valgrind(program: Program, task: Task, on: &Measured, times: usize) -> u64 {
+    let this = std::env::current_exe().expect("this program's path");
+    let counts = this.with_file_name("callgrind.out");
+    let output = Command::new("valgrind")
+        .arg("--tool=callgrind")
+        .arg(format!("--callgrind-out-file={}", counts.display()))
+        .arg(&this)
+        .args(["count", &format!("{program:?}"), &format!("{task:?}"), on.name, &times.to_string()])
+        .output()
+        .expect("valgrind runs");
+    let said = String::from_utf8_lossy(&output.stderr);
+    assert!(output.status.success(), "valgrind: {said}");
+    let collected = said.lines().find_map(|line| line.split("Collected : ").nth(1));
+    collected.and_then(|count| count.trim().parse().ok()).expect("valgrind says what it collected")
+}
+
+/// `count PROGRAM TASK STANZA TIMES`: does the task so many times and nothing else.
+pub fn count_one(words: &[String], measured: &[Measured]) {
+    let [_, program, task, stanza, times] = words else {
+        panic!("usage: bench [count PROGRAM TASK STANZA TIMES]");
+    };
+    let program = PROGRAMS.into_iter().find(|one| format!("{one:?}") == *program).expect("a program");
+    let task = TASKS.into_iter().find(|one| format!("{one:?}") == *task).expect("a task");
+    let on = measured.iter().find(|one| one.name == stanza).expect("a stanza");
+    repeat(program, task, on, times.parse().expect("how many times"));
+}

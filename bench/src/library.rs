@@ -1,0 +1,84 @@
+//! The library, as the crate `exports` gives it to C. Nothing checks these declarations against its source.
+
+/// What `read` finds; a refused call leaves it as it was.
+#[derive(Clone, Copy, Debug, PartialEq, Eq)]
+pub struct Parts {
+    pub line: usize,
+    pub body: usize,
+    pub taken: usize,
+}
+
+mod exported {
+    extern "C" {
+        pub fn flugremio_read(
+            text: *const u8,
+            text_len: usize,
+            line: *mut usize,
+            body: *mut usize,
+            taken: *mut usize,
+        ) -> u8;
+
+        pub fn flugremio_body(
+            text: *const u8,
+            text_len: usize,
+            line: usize,
+            taken: usize,
+            out: *mut u8,
+            out_len: usize,
+            length: *mut usize,
+        ) -> u8;
+
+        pub fn flugremio_write(
+            arguments: *const u8,
+            arguments_len: usize,
+            body: *const u8,
+            body_len: usize,
+            out: *mut u8,
+            out_len: usize,
+            length: *mut usize,
+        ) -> u8;
+
+        pub fn flugremio_index(text: *const u8, text_len: usize, value: *mut u32) -> u8;
+    }
+}
+
+/// The first stanza of a text; 0 or the refusal's number.
+#[inline]
+pub fn read(text: &[u8], parts: &mut Parts) -> u8 {
+    let Parts { line, body, taken } = parts;
+    // SAFETY: the pointers come from references, and the function has no `requires`. So below.
+    unsafe { exported::flugremio_read(text.as_ptr(), text.len(), line, body, taken) }
+}
+
+/// The body of the stanza that was read, at the front of `out`.
+#[inline]
+pub fn body(text: &[u8], line: usize, taken: usize, out: &mut [u8], length: &mut usize) -> u8 {
+    // SAFETY: as above.
+    unsafe {
+        exported::flugremio_body(text.as_ptr(), text.len(), line, taken, out.as_mut_ptr(), out.len(), length)
+    }
+}
+
+/// A stanza at the front of `out`.
+#[inline]
+pub fn write(arguments: &[u8], body: &[u8], out: &mut [u8], length: &mut usize) -> u8 {
+    // SAFETY: as above.
+    unsafe {
+        exported::flugremio_write(
+            arguments.as_ptr(),
+            arguments.len(),
+            body.as_ptr(),
+            body.len(),
+            out.as_mut_ptr(),
+            out.len(),
+            length,
+        )
+    }
+}
+
+/// The index that a text is.
+#[inline]
+pub fn index(text: &[u8], value: &mut u32) -> u8 {
+    // SAFETY: as above.
+    unsafe { exported::flugremio_index(text.as_ptr(), text.len(), value) }
+}

@@ -1,0 +1,111 @@
+//! What is measured, each as a loop of so many calls. The output buffer is made once, and no call clears it.
+
+use crate::library::{self, Parts};
+use crate::stanzas::{Measured, ARGUMENTS, LIMIT};
+use reference::stanza;
+use std::hint::black_box;
+
+#[derive(Clone, Copy, Debug, PartialEq, Eq)]
+pub enum Program {
+    Library,
+    Reference,
+}
+
+pub const PROGRAMS: [Program; 2] = [Program::Library, Program::Reference];
+
+#[derive(Clone, Copy, Debug, PartialEq, Eq)]
+pub enum Task {
+    Read,
+    Decode,
+    ReadAndDecode,
+    Write,
+}
+
+pub const TASKS: [Task; 4] = [Task::Read, Task::Decode, Task::ReadAndDecode, Task::Write];
+
+impl Task {
+    pub fn name(self) -> &'static str {
+        match self {
+            Task::Read => "read",
+            Task::Decode => "decode the body",
+            Task::ReadAndDecode => "read and decode",
+            Task::Write => "write",
+        }
+    }
+}
+
+/// Does the task so many times.
+pub fn repeat(program: Program, task: Task, on: &Measured, times: usize) {
+    match program {
+        Program::Library => repeat_library(task, on, times),
+        Program::Reference => repeat_reference(task, on, times),
+    }
+}
+
+fn repeat_library(task: Task, on: &Measured, times: usize) {
+    let out = &mut [0; LIMIT];
+    let mut parts = Parts { line: 0, body: 0, taken: 0 };
+    let mut length = 0;
+    match task {
+        Task::Read => {
+            for _ in 0..times {
+                black_box(library::read(black_box(&on.text), &mut parts));
+                black_box(&mut parts);
+            }
+        }
+        Task::Decode => {
+            library::read(&on.text, &mut parts);
+            for _ in 0..times {
+                black_box(library::body(black_box(&on.text), parts.line, parts.taken, out, &mut length));
+                black_box(&mut *out);
+            }
+        }
+        Task::ReadAndDecode => {
+            for _ in 0..times {
+                let text = black_box(&on.text);
+                if library::read(text, &mut parts) == 0 {
+                    black_box(library::body(text, parts.line, parts.taken, out, &mut length));
+                }
+                black_box(&mut *out);
+            }
+        }
+        Task::Write => {
+            for _ in 0..times {
+                black_box(library::write(black_box(ARGUMENTS), black_box(&on.body), out, &mut length));
+                black_box(&mut *out);
+            }
+        }
+    }
+}
+
+fn repeat_reference(task: Task, on: &Measured, times: usize) {
+    let out = &mut [0; LIMIT];
+    match task {
+        Task::Read => {
+            for _ in 0..times {
+                let _ = black_box(stanza::read(black_box(&on.text)));
+            }
+        }
+        Task::Decode => {
+            let read = stanza::read(&on.text).expect("a stanza");
+            for _ in 0..times {
+                let _ = black_box(black_box(&read).decode_body(out));
+                black_box(&mut *out);
+            }
+        }
+        Task::ReadAndDecode => {
+            for _ in 0..times {
+                if let Ok(read) = stanza::read(black_box(&on.text)) {
+                    let _ = black_box(read.decode_body(out));
+                }
+                black_box(&mut *out);
+            }
+        }
+        Task::Write => {
+            for _ in 0..times {
+                let _ = black_box(stanza::write(black_box(ARGUMENTS), black_box(&on.body), out));
+                black_box(&mut *out);
+            }
+        }
+    }
+}

@@ -1,0 +1,48 @@
+-- The library's answers as an exported function gives them: the paper's number, 0 where nothing was refused, and for each number that the
+-- caller lends what it holds afterwards: the result, or what it held (old) where the call was refused.
+use Prim.Native.Nat.{ℕ, _+_}
+use mathlib.Core.List.{List}
+use lib.ListN.{take, drop}
+use Rattle.refusal.specs.Output.{Answer, bytes, refused}
+use Rattle.base64.specs.Lines.{bodyOf}
+use Rattle.stanza.specs.Index as index
+use Rattle.stanza.specs.Reading as reading
+
+-- writing to a lent buffer: how many bytes
+abbrev pub numberIn : Answer → ℕ
+numberIn (bytes n) = 0
+numberIn (refused k) = k
+
+abbrev pub lengthOr : ℕ → Answer → ℕ
+lengthOr old (bytes n) = n
+lengthOr old (refused k) = old
+
+-- reading a stanza: where its first line ends, how many bytes its body has, how many bytes were taken
+abbrev pub readNumber : reading.Reading → ℕ
+readNumber (reading.stanza line body taken) = 0
+readNumber (reading.refused k) = k
+
+abbrev pub lineOr : ℕ → reading.Reading → ℕ
+lineOr old (reading.stanza line body taken) = line
+lineOr old (reading.refused k) = old
+
+abbrev pub bodyOr : ℕ → reading.Reading → ℕ
+bodyOr old (reading.stanza line body taken) = body
+bodyOr old (reading.refused k) = old
+
+abbrev pub takenOr : ℕ → reading.Reading → ℕ
+takenOr old (reading.stanza line body taken) = taken
+takenOr old (reading.refused k) = old
+
+-- reading an index: its value
+abbrev pub indexNumber : index.Reading → ℕ
+indexNumber (index.number n) = 0
+indexNumber (index.refused k) = k
+
+abbrev pub valueOr : ℕ → index.Reading → ℕ
+valueOr old (index.number n) = n
+valueOr old (index.refused k) = old
+
+-- the body of a stanza that was read at the front of a text: of the lines behind the first LF, up to where the stanza ends
+abbrev pub bodyAt : List ℕ → ℕ → ℕ → List ℕ
+bodyAt t line taken = bodyOf (drop (line + 1) (take taken t))
