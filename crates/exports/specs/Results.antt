@@ -8,37 +8,42 @@ use Rattle.base64.specs.Lines.{bodyOf}
 use Rattle.stanza.specs.Index as index
 use Rattle.stanza.specs.Reading as reading
 
--- writing to a lent buffer: how many bytes
+-- writing to a lent buffer: the number given back, and how many bytes
 abbrev pub numberIn : Answer → ℕ
 numberIn (bytes n) = 0
 numberIn (refused k) = k
 
+-- .. how many bytes were written
 abbrev pub lengthOr : ℕ → Answer → ℕ
 lengthOr old (bytes n) = n
 lengthOr old (refused k) = old
 
--- reading a stanza: where its first line ends, how many bytes its body has, how many bytes were taken
+-- reading a stanza: the number given back
 abbrev pub readNumber : reading.Reading → ℕ
 readNumber (reading.stanza line body taken) = 0
 readNumber (reading.refused k) = k
 
+-- .. where its first line ends
 abbrev pub lineOr : ℕ → reading.Reading → ℕ
 lineOr old (reading.stanza line body taken) = line
 lineOr old (reading.refused k) = old
 
+-- .. how many bytes its body has
 abbrev pub bodyOr : ℕ → reading.Reading → ℕ
 bodyOr old (reading.stanza line body taken) = body
 bodyOr old (reading.refused k) = old
 
+-- .. how many bytes were taken
 abbrev pub takenOr : ℕ → reading.Reading → ℕ
 takenOr old (reading.stanza line body taken) = taken
 takenOr old (reading.refused k) = old
 
--- reading an index: its value
+-- reading an index: the number given back
 abbrev pub indexNumber : index.Reading → ℕ
 indexNumber (index.number n) = 0
 indexNumber (index.refused k) = k
 
+-- .. its value
 abbrev pub valueOr : ℕ → index.Reading → ℕ
 valueOr old (index.number n) = n
 valueOr old (index.refused k) = old

@@ -77,25 +77,28 @@ abbrev pub fits : Meaning (List ℕ) → List ℕ → Bool
 fits (word t) buffer = leb (length t) (length buffer)
 fits bad buffer = false
 
--- written to a buffer: the answer, and the buffer afterwards
+-- written to a buffer: the answer
 abbrev pub answeredBy : Meaning (List ℕ) → List ℕ → Meaning Answer
 answeredBy (word t) buffer = word (answered t buffer)
 answeredBy bad buffer = bad
 
+-- .. and the buffer afterwards
 abbrev pub filledBy : Meaning (List ℕ) → List ℕ → List ℕ
 filledBy (word t) buffer = filled t buffer
 filledBy bad buffer = buffer
 
--- what the code's answers stand for
+-- what the code's answers stand for: of a step
 abbrev pub stepSaid : Step → Effect
 stepSaid (step-is.Moves s) = moves s
 stepSaid (step-is.Gives b) = gives b
 stepSaid step-is.Stops = stops
 
+-- .. of a measured word
 abbrev pub sizeSaid : Size → Meaning ℕ
 sizeSaid (size-is.Bytes n) = word n
 sizeSaid size-is.Bad = bad
 
+-- .. of a word written to a buffer
 abbrev pub unescapedSaid : Unescaped → Meaning Answer
 unescapedSaid (unescaped-is.Word w) = word (said w)
 unescapedSaid unescaped-is.Bad = bad

@@ -8,7 +8,7 @@ ghost use Rattle.refusal.specs.Number.{numberOf};
 ghost use Rattle.refusal.specs.Pick.{pick};
 ghost use Rattle.base64.specs.Lines.{isFull};
 ghost use Rattle.stanza.specs.Automaton.{scan, start, gap, line};
-ghost use Rattle.stanza.specs.Reading.{readSaid, readFirst, lineEnd};
+ghost use Rattle.stanza.specs.Reading.{readSaid, readFirst, found, lineEnd};
 ghost use Rattle.stanza.specs.Steps.{goesOn, EndsAt, bodySaid};
 use crate::arguments::graphic_end;
 use refusal::Refusal;
@@ -51,20 +51,27 @@ pub fn read(text: &[u8]) -> First
     match l {
         FirstLine::Bad => First::Refused(Refusal::NotStanza),
         FirstLine::Short => First::Refused(unfinished(n)),
-        FirstLine::Ends(e) => {
-            let b = body_end(w, e + 1);
-            match b {
-                Body::Bad => First::Refused(Refusal::NotStanza),
-                Body::Short => First::Refused(unfinished(n)),
-                Body::Ends(taken) => {
-                    let size = base64::body_length(taken - e - 1);
-                    First::Stanza(Stanza {
-                        line: e,
-                        body: size,
-                        taken: taken,
-                    })
-                }
-            }
+        FirstLine::Ends(e) => read_body(w, e),
+    }
+}
+
+// The stanza of a window whose first line ends at e, by its body.
+fn read_body(w: &[u8], e: usize) -> First
+    requires { ⌜ lineEnd (now w) ≡ e ⌝ }
+    requires { ⌜ e < length (now w) ⌝ }
+    ensures { λ r. ⌜ readSaid r ≡ found (length (now (w .entry))) (now (w .entry)) (scan (line 0 0) (e + 1) (drop (e + 1) (now (w .entry)))) ⌝ }
+{
+    let b = body_end(w, e + 1);
+    match b {
+        Body::Bad => First::Refused(Refusal::NotStanza),
+        Body::Short => First::Refused(unfinished(w.len())),
+        Body::Ends(taken) => {
+            let size = base64::body_length(taken - e - 1);
+            First::Stanza(Stanza {
+                line: e,
+                body: size,
+                taken: taken,
+            })
         }
     }
 }

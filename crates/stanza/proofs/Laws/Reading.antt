@@ -1,7 +1,7 @@
 -- Reading: what the window and the body's size come to.
 use Prim.Native.Nat.{ℕ, zero, suc, _+_, _-_, _<_, _≤_, min}
 use mathlib.Core.Path.{_≡_, refl, sym, ap, _∙_}
-use mathlib.Core.Bool.{Bool}
+use mathlib.Core.Bool.{Bool, true, false}
 use mathlib.Core.List.{List, [], _∷_}
 use lib.Dec.{ltb}
 use lib.ListN.{length, take, drop, length-take, length-drop}
@@ -15,7 +15,7 @@ use Rattle.refusal.proofs.Laws.Booleans.{cases}
 use Rattle.base64.specs.Lines.{bodyOf}
 use Rattle.base64.specs.Tables.{bodySize}
 use Rattle.base64.proofs.Laws.Lines.{body-length}
-use Rattle.stanza.specs.Automaton.{whole}
+use Rattle.stanza.specs.Automaton.{Scan, bad, short, whole}
 use Rattle.stanza.specs.Reading.{Reading, stanza, refused, found, isNotLf, lineEnd, linesIn}
 
 -- the window is the first 8,192 bytes
@@ -26,13 +26,28 @@ window-is t n e =
       | no h ↦ let f : n ≡ 8192 = omega arith in rw f
     ]
 
--- the fault of a stanza that has not ended goes by the window's length
-pub short-is : (t : List ℕ) (n : ℕ) → n ≡ min 8192 (length t) → refused (pick (ltb n 8192) 2 3) ≡ pick (ltb (length t) 8192) (refused 2) (refused 3)
-short-is t n e =
+-- the window is short exactly if the text is
+window-test : (t : List ℕ) (n : ℕ) → n ≡ min 8192 (length t) → ltb n 8192 ≡ ltb (length t) 8192
+window-test t n e =
     elim (decLt (length t) 8192) [
       | yes h ↦ rw (lt-ltb (length t) 8192 h, lt-ltb n 8192 (omega arith))
       | no h ↦ rw (le-ltb (length t) 8192 (omega arith), le-ltb n 8192 (omega arith))
     ]
+
+pub pick-refused : (b : Bool) → refused (pick b 2 3) ≡ pick b (refused 2) (refused 3)
+pick-refused true = refl
+pick-refused false = refl
+
+-- the fault of a stanza that has not ended goes by the window's length
+pub short-is : (t : List ℕ) (n : ℕ) → n ≡ min 8192 (length t) → refused (pick (ltb n 8192) 2 3) ≡ pick (ltb (length t) 8192) (refused 2) (refused 3)
+short-is t n e = rw (window-test t n e) (pick-refused (ltb (length t) 8192))
+
+-- what a scan of the window says does not depend on what stands behind the window
+pub found-window : (t : List ℕ) (n : ℕ) → n ≡ min 8192 (length t) → (x : Scan) → found (length (take n t)) (take n t) x ≡ found (length t) (take n t) x
+unfolding found
+found-window t n e bad = refl
+found-window t n e short = rw (length-take-le n t (omega arith), window-test t n e)
+found-window t n e (whole k) = refl
 
 -- a run that ends within the front is that of the front
 pub run-front : (class : ℕ → Bool) (k : ℕ) (t : List ℕ) → run class t < k → run class (take k t) ≡ run class t
