@@ -1,0 +1,2 @@
+-- Bech32: the checksum.
+pub mod Checksum
