@@ -1,2 +1,3 @@
--- Bech32: the checksum.
+-- Bech32: the checksum, and bits regrouped.
 pub mod Checksum
+pub mod Regroup
