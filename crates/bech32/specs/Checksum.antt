@@ -26,3 +26,11 @@ stepped c v = folded (bitXor (c % 33554432 * 32) v) constants (c / 33554432)
 unfoldable pub polymod : ℕ → List ℕ → ℕ
 polymod c [] = c
 polymod c (v ∷ t) = polymod (stepped c v) t
+
+-- a number of 30 bits as six symbols, the first the highest
+abbrev pub sixSymbols : ℕ → List ℕ
+sixSymbols p = (p / 33554432 % 32) ∷ (p / 1048576 % 32) ∷ (p / 32768 % 32) ∷ (p / 1024 % 32) ∷ (p / 32 % 32) ∷ (p % 32) ∷ []
+
+-- the six symbols of the checksum behind a state: with them the final value is 1
+abbrev pub checksum : ℕ → List ℕ
+checksum c = sixSymbols (bitXor (polymod c (0 ∷ 0 ∷ 0 ∷ 0 ∷ 0 ∷ 0 ∷ [])) 1)

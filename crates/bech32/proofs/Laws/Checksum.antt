@@ -6,14 +6,14 @@ use mathlib.Core.List.{List, [], _∷_, _++_, map}
 use lib.Bits.{bitXor, differ, xor-zero-l, xor-zero-r, xor-comm, xor-self, xor-shr, xor-mod, xor-block, xor-shifted, xor-lt}
 use lib.Dec.{eqb, ltb}
 use lib.ListN.{length, drop, getD, drop-of-length-le}
-use native.Mathlib.Nat.{add-zero}
+use native.Mathlib.Nat.{add-zero, div-div-eq-div-mul}
 use native.Mathlib.Omega.{arith}
-use borrow.Author.Tests.{eq-eqb, ne-eqb, ltb-true, eqb-true, eqb-false}
+use borrow.Author.Tests.{eq-eqb, ne-eqb, ltb-true, lt-ltb, eqb-true, eqb-false}
 use Rattle.refusal.specs.Pick.{pick}
 use Rattle.refusal.specs.Run.{all}
 use Rattle.refusal.proofs.Laws.Booleans.{and-true, true-and, cases}
 use Rattle.refusal.proofs.Laws.Lists.{drop-one}
-use Rattle.bech32.specs.Checksum.{constants, taken, folded, stepped, polymod}
+use Rattle.bech32.specs.Checksum.{constants, taken, folded, stepped, polymod, sixSymbols, checksum}
 use Rattle.bech32.proofs.Laws.Xor.{xor-assoc, xor-exchange, xor-right-comm, xor-cancel, xor-half, xor-odd}
 
 -- ---- one step
@@ -121,3 +121,101 @@ polymod-packed (d ∷ ds) c x a h =
 
 pub polymod-symbols : (ds : List ℕ) (c : ℕ) → areSymbols ds ≡ true → packed 0 ds < 1073741824 → polymod c ds ≡ bitXor (polymod c (zeros ds)) (packed 0 ds)
 polymod-symbols ds c a h = ap (λ y. polymod y ds) (sym (xor-zero-r c)) ∙ polymod-packed ds c 0 a h
+
+-- a state has 30 bits
+folded-lt : (gs : List ℕ) (a t : ℕ) → all (λ g. ltb g 1073741824) gs ≡ true → a < 1073741824 → folded a gs t < 1073741824
+unfolding folded all
+folded-lt [] a t h l = l
+folded-lt (g ∷ gs) a t h l =
+    let b = and-true (ltb g 1073741824) (all (λ g. ltb g 1073741824) gs) h in
+    folded-lt gs (bitXor a (taken (t % 2) g)) (t / 2) (b .1) (xor-lt 30 a (taken (t % 2) g) l (taken-lt (t % 2) g (ltb-true g 1073741824 (b .0))))
+  where
+    taken-lt : (x g : ℕ) → g < 1073741824 → taken x g < 1073741824
+    taken-lt x g l = unfold taken in cases (eqb x 1) (λ e. rw e l) (λ e. rw e (omega arith))
+
+pub step-lt : (c v : ℕ) → v < 32 → stepped c v < 1073741824
+unfolding stepped all
+step-lt c v h = folded-lt constants (bitXor (c % 33554432 * 32) v) (c / 33554432) refl (xor-lt 30 (c % 33554432 * 32) v (omega arith) (omega arith))
+
+-- six symbols and the number that they are
+packed-six : (p : ℕ) → p < 1073741824 → packed 0 (sixSymbols p) ≡ p
+unfolding packed
+packed-six p h =
+    let a : p / 32 / 32 ≡ p / 1024 = div-div-eq-div-mul p 32 32 in
+    let b : p / 1024 / 32 ≡ p / 32768 = div-div-eq-div-mul p 1024 32 in
+    let c : p / 32768 / 32 ≡ p / 1048576 = div-div-eq-div-mul p 32768 32 in
+    let d : p / 1048576 / 32 ≡ p / 33554432 = div-div-eq-div-mul p 1048576 32 in
+    let e1 : 0 * 32 + p / 33554432 % 32 ≡ p / 33554432 = omega arith in
+    let e2 : p / 33554432 * 32 + p / 1048576 % 32 ≡ p / 1048576 = rw (← d) (omega arith) in
+    let e3 : p / 1048576 * 32 + p / 32768 % 32 ≡ p / 32768 = rw (← c) (omega arith) in
+    let e4 : p / 32768 * 32 + p / 1024 % 32 ≡ p / 1024 = rw (← b) (omega arith) in
+    let e5 : p / 1024 * 32 + p / 32 % 32 ≡ p / 32 = rw (← a) (omega arith) in
+    let e6 : p / 32 * 32 + p % 32 ≡ p = omega arith in
+    rw (e1, e2, e3, e4, e5, e6)
+
+-- one symbol taken off again
+unpack : (x d : ℕ) → d < 32 → ((x * 32 + d) / 32 ≡ x) × ((x * 32 + d) % 32 ≡ d)
+unpack x d h = (omega arith, omega arith)
+
+six-lt : (p : ℕ) → areSymbols (sixSymbols p) ≡ true
+unfolding all
+six-lt p =
+    rw (lt-ltb (p / 33554432 % 32) 32 (omega arith), lt-ltb (p / 1048576 % 32) 32 (omega arith), lt-ltb (p / 32768 % 32) 32 (omega arith), lt-ltb (p / 1024 % 32) 32 (omega arith), lt-ltb (p / 32 % 32) 32 (omega arith), lt-ltb (p % 32) 32 (omega arith))
+
+-- with its checksum a text's final value is 1
+pub checksum-closes : (c : ℕ) → polymod c (checksum c) ≡ 1
+unfolding polymod zeros
+checksum-closes c =
+    let z = polymod c (0 ∷ 0 ∷ 0 ∷ 0 ∷ 0 ∷ 0 ∷ []) in
+    let h : bitXor z 1 < 1073741824 = xor-lt 30 z 1 (step-lt _ 0 (omega arith)) (omega arith) in
+    polymod-symbols (checksum c) c (six-lt (bitXor z 1)) (rw (packed-six (bitXor z 1) h) h) ∙ ap (bitXor z) (packed-six (bitXor z 1) h) ∙ xor-cancel z 1
+
+-- and no other six symbols have it
+six-packed : (a b c d e f : ℕ) → a < 32 → b < 32 → c < 32 → d < 32 → e < 32 → f < 32 →
+    (packed 0 (a ∷ b ∷ c ∷ d ∷ e ∷ f ∷ []) < 1073741824) × (sixSymbols (packed 0 (a ∷ b ∷ c ∷ d ∷ e ∷ f ∷ [])) ≡ a ∷ b ∷ c ∷ d ∷ e ∷ f ∷ [])
+unfolding packed
+six-packed a b c d e f ha hb hc hd he hf =
+    let x1 : ℕ = 0 * 32 + a in
+    let x2 : ℕ = x1 * 32 + b in
+    let x3 : ℕ = x2 * 32 + c in
+    let x4 : ℕ = x3 * 32 + d in
+    let x5 : ℕ = x4 * 32 + e in
+    let x6 : ℕ = x5 * 32 + f in
+    let q5 : x6 / 32 ≡ x5 = unpack x5 f hf .0 in
+    let q4 : x6 / 1024 ≡ x4 = sym (div-div-eq-div-mul x6 32 32) ∙ ap (λ y. y / 32) q5 ∙ unpack x4 e he .0 in
+    let q3 : x6 / 32768 ≡ x3 = sym (div-div-eq-div-mul x6 1024 32) ∙ ap (λ y. y / 32) q4 ∙ unpack x3 d hd .0 in
+    let q2 : x6 / 1048576 ≡ x2 = sym (div-div-eq-div-mul x6 32768 32) ∙ ap (λ y. y / 32) q3 ∙ unpack x2 c hc .0 in
+    let q1 : x6 / 33554432 ≡ x1 = sym (div-div-eq-div-mul x6 1048576 32) ∙ ap (λ y. y / 32) q2 ∙ unpack x1 b hb .0 in
+    let l : x1 < 32 = omega arith in
+    (omega arith,
+    rows (ap (λ y. y % 32) q1 ∙ omega arith) (ap (λ y. y % 32) q2 ∙ unpack x1 b hb .1) (ap (λ y. y % 32) q3 ∙ unpack x2 c hc .1) (ap (λ y. y % 32) q4 ∙ unpack x3 d hd .1) (ap (λ y. y % 32) q5 ∙ unpack x4 e he .1) (unpack x5 f hf .1))
+  where
+    rows : {a b c d e f a′ b′ c′ d′ e′ f′ : ℕ} → a ≡ a′ → b ≡ b′ → c ≡ c′ → d ≡ d′ → e ≡ e′ → f ≡ f′ → _≡_ {A = List ℕ} (a ∷ b ∷ c ∷ d ∷ e ∷ f ∷ []) (a′ ∷ b′ ∷ c′ ∷ d′ ∷ e′ ∷ f′ ∷ [])
+    rows p q r s t u = cc
+
+symbol-lt : (d : ℕ) (t : List ℕ) → areSymbols (d ∷ t) ≡ true → (d < 32) × (areSymbols t ≡ true)
+unfolding all
+symbol-lt d t h = let a = and-true (ltb d 32) (areSymbols t) h in (ltb-true d 32 (a .0), a .1)
+
+pub checksum-unique : (c : ℕ) (ds : List ℕ) → areSymbols ds ≡ true → length ds ≡ 6 → polymod c ds ≡ 1 → ds ≡ checksum c
+unfolding zeros
+checksum-unique c [] a l h = absurd (omega arith)
+checksum-unique c (d1 ∷ []) a l h = absurd (omega arith)
+checksum-unique c (d1 ∷ d2 ∷ []) a l h = absurd (omega arith)
+checksum-unique c (d1 ∷ d2 ∷ d3 ∷ []) a l h = absurd (omega arith)
+checksum-unique c (d1 ∷ d2 ∷ d3 ∷ d4 ∷ []) a l h = absurd (omega arith)
+checksum-unique c (d1 ∷ d2 ∷ d3 ∷ d4 ∷ d5 ∷ []) a l h = absurd (omega arith)
+checksum-unique c (d1 ∷ d2 ∷ d3 ∷ d4 ∷ d5 ∷ d6 ∷ x ∷ t) a l h = absurd (omega arith)
+checksum-unique c (d1 ∷ d2 ∷ d3 ∷ d4 ∷ d5 ∷ d6 ∷ []) a l h =
+    let ds : List ℕ = d1 ∷ d2 ∷ d3 ∷ d4 ∷ d5 ∷ d6 ∷ [] in
+    let z = polymod c (0 ∷ 0 ∷ 0 ∷ 0 ∷ 0 ∷ 0 ∷ []) in
+    let h1 = symbol-lt d1 (d2 ∷ d3 ∷ d4 ∷ d5 ∷ d6 ∷ []) a in
+    let h2 = symbol-lt d2 (d3 ∷ d4 ∷ d5 ∷ d6 ∷ []) (h1 .1) in
+    let h3 = symbol-lt d3 (d4 ∷ d5 ∷ d6 ∷ []) (h2 .1) in
+    let h4 = symbol-lt d4 (d5 ∷ d6 ∷ []) (h3 .1) in
+    let h5 = symbol-lt d5 (d6 ∷ []) (h4 .1) in
+    let h6 = symbol-lt d6 [] (h5 .1) in
+    let s = six-packed d1 d2 d3 d4 d5 d6 (h1 .0) (h2 .0) (h3 .0) (h4 .0) (h5 .0) (h6 .0) in
+    let e : bitXor z (packed 0 ds) ≡ 1 = sym (polymod-symbols ds c a (s .0)) ∙ h in
+    let q : packed 0 ds ≡ bitXor z 1 = sym (xor-cancel z (packed 0 ds)) ∙ ap (bitXor z) e in
+    sym (s .1) ∙ ap sixSymbols q
