@@ -116,7 +116,7 @@ polymod-packed (d ∷ ds) c x a h =
     let hd = ltb-true d 32 (b .0) in
     let hx : x < 33554432 = omega (arith, packed-le ds (x * 32 + d)) in
     let e : stepped (bitXor c x) d ≡ bitXor (stepped c 0) (x * 32 + d) =
-        step-symbol (bitXor c x) d ∙ ap (λ y. bitXor y d) (step-linear c x) ∙ xor-assoc (stepped c 0) (stepped x 0) d ∙ ap (bitXor (stepped c 0)) (sym (step-symbol x d) ∙ step-small x d hx hd) in
+    step-symbol (bitXor c x) d ∙ ap (λ y. bitXor y d) (step-linear c x) ∙ xor-assoc (stepped c 0) (stepped x 0) d ∙ ap (bitXor (stepped c 0)) (sym (step-symbol x d) ∙ step-small x d hx hd) in
     ap (λ y. polymod y ds) e ∙ polymod-packed ds (stepped c 0) (x * 32 + d) (b .1) h
 
 pub polymod-symbols : (ds : List ℕ) (c : ℕ) → areSymbols ds ≡ true → packed 0 ds < 1073741824 → polymod c ds ≡ bitXor (polymod c (zeros ds)) (packed 0 ds)
@@ -186,9 +186,10 @@ six-packed a b c d e f ha hb hc hd he hf =
     let q3 : x6 / 32768 ≡ x3 = sym (div-div-eq-div-mul x6 1024 32) ∙ ap (λ y. y / 32) q4 ∙ unpack x3 d hd .0 in
     let q2 : x6 / 1048576 ≡ x2 = sym (div-div-eq-div-mul x6 32768 32) ∙ ap (λ y. y / 32) q3 ∙ unpack x2 c hc .0 in
     let q1 : x6 / 33554432 ≡ x1 = sym (div-div-eq-div-mul x6 1048576 32) ∙ ap (λ y. y / 32) q2 ∙ unpack x1 b hb .0 in
-    let l : x1 < 32 = omega arith in
-    (omega arith,
-    rows (ap (λ y. y % 32) q1 ∙ omega arith) (ap (λ y. y % 32) q2 ∙ unpack x1 b hb .1) (ap (λ y. y % 32) q3 ∙ unpack x2 c hc .1) (ap (λ y. y % 32) q4 ∙ unpack x3 d hd .1) (ap (λ y. y % 32) q5 ∙ unpack x4 e he .1) (unpack x5 f hf .1))
+    let l : x1 < 32 = omega arith in (
+      omega arith,
+      rows (ap (λ y. y % 32) q1 ∙ omega arith) (ap (λ y. y % 32) q2 ∙ unpack x1 b hb .1) (ap (λ y. y % 32) q3 ∙ unpack x2 c hc .1) (ap (λ y. y % 32) q4 ∙ unpack x3 d hd .1) (ap (λ y. y % 32) q5 ∙ unpack x4 e he .1) (unpack x5 f hf .1),
+    )
   where
     rows : {a b c d e f a′ b′ c′ d′ e′ f′ : ℕ} → a ≡ a′ → b ≡ b′ → c ≡ c′ → d ≡ d′ → e ≡ e′ → f ≡ f′ → _≡_ {A = List ℕ} (a ∷ b ∷ c ∷ d ∷ e ∷ f ∷ []) (a′ ∷ b′ ∷ c′ ∷ d′ ∷ e′ ∷ f′ ∷ [])
     rows p q r s t u = cc

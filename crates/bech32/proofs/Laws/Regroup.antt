@@ -120,7 +120,7 @@ whole-group p q r s t u v w [] =
 whole-group p q r s t u v w (x ∷ l) =
     let n = length l in
     let e : suc (suc (suc (suc (suc (suc (suc (suc (suc n)))))))) * 5 % 8 ≡ suc n * 5 % 8 = omega arith in
-    let f : suc (suc (suc (suc (suc (suc (suc (suc (suc n)))))))) - 1 ≡ suc (suc (suc (suc (suc (suc (suc (suc (suc n - 1))))))))= omega arith in
+    let f : suc (suc (suc (suc (suc (suc (suc (suc (suc n)))))))) - 1 ≡ suc (suc (suc (suc (suc (suc (suc (suc (suc n - 1)))))))) = omega arith in
     rw (e, f)
 
 -- whole symbols are the symbols of their bytes

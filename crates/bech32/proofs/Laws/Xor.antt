@@ -33,11 +33,11 @@ xor-odd a b = ap (λ x. x % 2) (xor-step a b) ∙ omega (arith, differ-lt (a % 2
 pub xor-assoc : (a b c : ℕ) → bitXor (bitXor a b) c ≡ bitXor a (bitXor b c)
 xor-assoc = bin-ind (λ a. (b c : ℕ) → bitXor (bitXor a b) c ≡ bitXor a (bitXor b c)) (λ b c. ap (λ x. bitXor x c) (xor-zero-l b) ∙ sym (xor-zero-l (bitXor b c)))
     (λ a ih b c.
-      xor-step (bitXor a b) c
-      ∙ ap₂ (λ x y. x * 2 + y)
-        (ap (λ x. bitXor x (c / 2)) (xor-half a b) ∙ ih (b / 2) (c / 2) ∙ ap (bitXor (a / 2)) (sym (xor-half b c)))
-        (ap (λ x. differ x (c % 2)) (xor-odd a b) ∙ differ-assoc (a % 2) (b % 2) (c % 2) (omega arith) (omega arith) (omega arith) ∙ ap (differ (a % 2)) (sym (xor-odd b c)))
-      ∙ sym (xor-step a (bitXor b c)))
+    xor-step (bitXor a b) c
+    ∙ ap₂ (λ x y. x * 2 + y)
+    (ap (λ x. bitXor x (c / 2)) (xor-half a b) ∙ ih (b / 2) (c / 2) ∙ ap (bitXor (a / 2)) (sym (xor-half b c)))
+    (ap (λ x. differ x (c % 2)) (xor-odd a b) ∙ differ-assoc (a % 2) (b % 2) (c % 2) (omega arith) (omega arith) (omega arith) ∙ ap (differ (a % 2)) (sym (xor-odd b c)))
+    ∙ sym (xor-step a (bitXor b c)))
 
 -- exchanging the inner two of four
 pub xor-exchange : (a b c d : ℕ) → bitXor (bitXor a b) (bitXor c d) ≡ bitXor (bitXor a c) (bitXor b d)

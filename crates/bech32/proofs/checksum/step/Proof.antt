@@ -13,7 +13,7 @@ use Rattle.bech32.proofs.checksum.step.Lts as lts
 use Rattle.bech32.proofs.checksum.take_if.Reads as take-if-reads
 
 abbrev Inv-loop : tie.InvT-loop
-Inv-loop state symbol constants bits₀ r₀ i₀ bits r i = 
+Inv-loop state symbol constants bits₀ r₀ i₀ bits r i =
     (i ≤ 5) × (stepped state symbol ≡ folded r (drop i generators) bits)
 
 abbrev μ-loop : tie.MeasureT-loop
