@@ -20,7 +20,7 @@ window-requires c κs = search needs
 
 -- src/reading.rt:49:9
 slice-aggregate-w : tie.Need-slice-aggregate-w
-slice-aggregate-w c = sym (length-take-le _ (now (c .before*3 .args .text)) (omega (arith, c .before .window .ensures)))
+slice-aggregate-w c = sym (length-take-le _ (now (c .before .before .before .args .text)) (omega (arith, c .before .window .ensures)))
 
 -- src/reading.rt:50:9
 first-line-requires : tie.Need-first-line-requires
@@ -44,22 +44,22 @@ enum-known-l c = search needs
 
 -- src/reading.rt:54:31
 read-body-requires : tie.Need-read-body-requires
-read-body-requires c κs = rw (c .before .l .given .1) at (c .before*3 .first-line .ensures .1)
+read-body-requires c κs = rw (c .before .l .given .1) at (c .before .before .before .first-line .ensures .1)
 
 -- src/reading.rt:45:1
 returns : tie.Need-returns
 unfolding found
-returns c = rw (window-is (now (c .before*6 .args .text)) (c .before*4 .window .result) (c .before*4 .window .ensures), c .before*2 .first-line .ensures .0, c .enum-told .given .1)
+returns c = rw (window-is (now (c .before .before .before .before .before .before .args .text)) (c .before .before .before .before .window .result) (c .before .before .before .before .window .ensures), c .before .before .first-line .ensures .0, c .enum-told .given .1)
 
 -- src/reading.rt:45:1
 returns-2 : tie.Need-returns-2
 unfolding found
-returns-2 c = rw (window-is (now (c .before*7 .args .text)) (c .before*5 .window .result) (c .before*5 .window .ensures), c .before*3 .first-line .ensures .0, c .before .enum-told2 .given .1, c .unfinished .ensures) (short-is (now (c .before*7 .args .text)) (c .before*5 .window .result) (c .before*5 .window .ensures))
+returns-2 c = rw (window-is (now (c .before .before .before .before .before .before .before .args .text)) (c .before .before .before .before .before .window .result) (c .before .before .before .before .before .window .ensures), c .before .before .before .first-line .ensures .0, c .before .enum-told2 .given .1, c .unfinished .ensures) (short-is (now (c .before .before .before .before .before .before .before .args .text)) (c .before .before .before .before .before .window .result) (c .before .before .before .before .before .window .ensures))
 
 -- src/reading.rt:45:1
 returns-3 : tie.Need-returns-3
 returns-3 c =
-    rw (window-is (now (c .before*8 .args .text)) (c .before*6 .window .result) (c .before*6 .window .ensures), rw (c .before*2 .l .given .1) at (c .before*4 .first-line .ensures .0)) (c .read-body .ensures ∙ found-window (now (c .before*8 .args .text)) (c .before*6 .window .result) (c .before*6 .window .ensures) _)
+    rw (window-is (now (c .before .before .before .before .before .before .before .before .args .text)) (c .before .before .before .before .before .before .window .result) (c .before .before .before .before .before .before .window .ensures), rw (c .before .before .l .given .1) at (c .before .before .before .before .first-line .ensures .0)) (c .read-body .ensures ∙ found-window (now (c .before .before .before .before .before .before .before .before .args .text)) (c .before .before .before .before .before .before .window .result) (c .before .before .before .before .before .before .window .ensures) _)
 
 pub read-spec : {M : Type 1} → statement M
 read-spec =

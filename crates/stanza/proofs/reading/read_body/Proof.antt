@@ -44,11 +44,11 @@ enum-known-b c = search needs
 
 -- src/reading.rt:69:44
 sub-body-length : tie.Need-sub-body-length
-sub-body-length c = omega (arith, (scan-whole (drop (c .before*5 .args .e + 1) (now (c .before*5 .args .w))) (line 0 0) (c .before*5 .args .e + 1) (c .before .b .given .0 .0) (c .before*3 .body-end .ensures ∙ ap bodySaid (c .before .b .given .1))) .0)
+sub-body-length c = omega (arith, (scan-whole (drop (c .before .before .before .before .before .args .e + 1) (now (c .before .before .before .before .before .args .w))) (line 0 0) (c .before .before .before .before .before .args .e + 1) (c .before .b .given .0 .0) (c .before .before .before .body-end .ensures ∙ ap bodySaid (c .before .b .given .1))) .0)
 
 -- src/reading.rt:69:44
 sub-body-length-2 : tie.Need-sub-body-length-2
-sub-body-length-2 c = omega (arith, (scan-whole (drop (c .before*5 .args .e + 1) (now (c .before*5 .args .w))) (line 0 0) (c .before*5 .args .e + 1) (c .before .b .given .0 .0) (c .before*3 .body-end .ensures ∙ ap bodySaid (c .before .b .given .1))) .0)
+sub-body-length-2 c = omega (arith, (scan-whole (drop (c .before .before .before .before .before .args .e + 1) (now (c .before .before .before .before .before .args .w))) (line 0 0) (c .before .before .before .before .before .args .e + 1) (c .before .b .given .0 .0) (c .before .before .before .body-end .ensures ∙ ap bodySaid (c .before .b .given .1))) .0)
 
 -- src/reading.rt:69:17
 body-length-requires : tie.Need-body-length-requires
@@ -57,18 +57,18 @@ body-length-requires c κs = search needs
 -- src/reading.rt:59:1
 returns : tie.Need-returns
 unfolding found
-returns c = rw (c .before*2 .body-end .ensures, c .enum-told .given .1)
+returns c = rw (c .before .before .body-end .ensures, c .enum-told .given .1)
 
 -- src/reading.rt:59:1
 returns-2 : tie.Need-returns-2
 unfolding found
-returns-2 c = rw (c .before*3 .body-end .ensures, c .before .enum-told2 .given .1, c .unfinished .ensures) (pick-refused (ltb (length (now (c .before*5 .args .w))) 8192))
+returns-2 c = rw (c .before .before .before .body-end .ensures, c .before .enum-told2 .given .1, c .unfinished .ensures) (pick-refused (ltb (length (now (c .before .before .before .before .before .args .w))) 8192))
 
 -- src/reading.rt:59:1
 returns-3 : tie.Need-returns-3
 returns-3 c =
-    let b = (scan-whole (drop (c .before*6 .args .e + 1) (now (c .before*6 .args .w))) (line 0 0) (c .before*6 .args .e + 1) (c .before*2 .b .given .0 .0) (c .before*4 .body-end .ensures ∙ ap bodySaid (c .before*2 .b .given .1))) in
-    rw ((c .before*4 .body-end .ensures ∙ ap bodySaid (c .before*2 .b .given .1)), c .body-length .ensures) (sym (found-whole (length (now (c .before*6 .args .w))) (now (c .before*6 .args .w)) (c .before*6 .args .e) (c .before*2 .b .given .0 .0) (c .before*6 .pre .0) (omega arith) (omega (arith, length-drop (c .before*6 .args .e + 1) (now (c .before*6 .args .w)), c .before*6 .pre .1, b .1))))
+    let b = (scan-whole (drop (c .before .before .before .before .before .before .args .e + 1) (now (c .before .before .before .before .before .before .args .w))) (line 0 0) (c .before .before .before .before .before .before .args .e + 1) (c .before .before .b .given .0 .0) (c .before .before .before .before .body-end .ensures ∙ ap bodySaid (c .before .before .b .given .1))) in
+    rw ((c .before .before .before .before .body-end .ensures ∙ ap bodySaid (c .before .before .b .given .1)), c .body-length .ensures) (sym (found-whole (length (now (c .before .before .before .before .before .before .args .w))) (now (c .before .before .before .before .before .before .args .w)) (c .before .before .before .before .before .before .args .e) (c .before .before .b .given .0 .0) (c .before .before .before .before .before .before .pre .0) (omega arith) (omega (arith, length-drop (c .before .before .before .before .before .before .args .e + 1) (now (c .before .before .before .before .before .before .args .w)), c .before .before .before .before .before .before .pre .1, b .1))))
 
 pub read-body-spec : {M : Type 1} → statement M
 read-body-spec =
