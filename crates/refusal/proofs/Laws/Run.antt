@@ -7,7 +7,7 @@ use lib.ListN.{length, take, drop, getD, length-drop, drop-of-length-le}
 use lib.Seq.{drop-cons, drop-drop, getD-drop}
 use native.Mathlib.Numerals.{add-one}
 use native.Mathlib.Omega.{arith}
-use native.Mathlib.Nat.{not-suc-le-zero, le-of-suc-le-suc}
+use native.Mathlib.Nat.{add-zero, not-suc-le-zero, le-of-suc-le-suc}
 use Rattle.refusal.specs.Pick.{pick}
 use Rattle.refusal.proofs.Laws.Booleans.{and-true, true-and, cases, and-assoc, and-true-right}
 use Rattle.refusal.proofs.Laws.Lists.{drop-one, take-one}
@@ -80,3 +80,56 @@ module _ (class : ℕ → Bool) where
   unfolding run all
   run-part [] h = absurd (not-suc-le-zero h)
   run-part (b ∷ t) h = cases (class b) (λ e. rw e (run-part t (omega (arith, rw e at h)))) (λ e. rw e)
+
+  -- the byte behind a run is not in the class
+  run-stop-at : (t : List ℕ) → run class t < length t → class (getD t (run class t) 0) ≡ false
+  unfolding run
+  run-stop-at [] h = absurd (omega arith)
+  run-stop-at (b ∷ t) h = cases (class b) (λ e. rw e (run-stop-at t (omega (arith, rw e at h)))) (λ e. rw e e)
+
+  pub run-stop : (t : List ℕ) (i e : ℕ) → e ≡ i + run class (drop i t) → e < length t → class (getD t e 0) ≡ false
+  run-stop t i e p h =
+      let q : run class (drop i t) < length (drop i t) = simp length-drop (omega arith) in
+      rw p (rw getD-drop at (run-stop-at (drop i t) q))
+
+  -- each byte of a run is in the class
+  pub run-in-class : (n : ℕ) (t : List ℕ) → n < run class t → class (getD t n 0) ≡ true
+  unfolding run
+  run-in-class n [] h = absurd (omega arith)
+  run-in-class zero (b ∷ t) h = cases (class b) (λ e. e) (λ e. absurd (omega (arith, rw e at h)))
+  run-in-class (suc n) (b ∷ t) h = cases (class b) (λ e. run-in-class n t (omega (arith, rw e at h))) (λ e. absurd (omega (arith, rw e at h)))
+
+  -- the first byte of a run that is not empty is in the class
+  run-first-at : (t : List ℕ) → (run class t ≡ 0 → ⊥) → class (getD t 0 0) ≡ true
+  unfolding run
+  run-first-at [] h = absurd (h refl)
+  run-first-at (b ∷ t) h = cases (class b) (λ e. e) (λ e. absurd (h (rw e)))
+
+  pub run-first : (t : List ℕ) (i e : ℕ) → e ≡ i + run class (drop i t) → (e ≡ i → ⊥) → class (getD t i 0) ≡ true
+  run-first t i e p h =
+      let n : run class (drop i t) ≡ 0 → ⊥ = λ z. h (omega arith) in
+      rw (getD-drop, add-zero) at (run-first-at (drop i t) n)
+
+  -- where a run ends that begins inside a text
+  pub end-le : (t : List ℕ) (i : ℕ) → i ≤ length t → i + run class (drop i t) ≤ length t
+  end-le t i h = omega (arith, run-le (drop i t), length-drop i t)
+
+  -- a run that ends within the front is that of the front
+  pub run-front : (k : ℕ) (t : List ℕ) → run class t < k → run class (take k t) ≡ run class t
+  unfolding run
+  run-front zero t h = absurd (omega arith)
+  run-front (suc k) [] h = refl
+  run-front (suc k) (b ∷ t) h = cases (class b) (λ e. rw e (ap suc (run-front k t (omega (arith, rw e at h))))) (λ e. rw e)
+
+  -- a run up to a byte outside the class
+  pub run-stop-append : (s : List ℕ) (b : ℕ) (t : List ℕ) → all class s ≡ true → class b ≡ false → run class (s ++ b ∷ t) ≡ length s
+  unfolding run all
+  run-stop-append [] b t h e = rw e
+  run-stop-append (a ∷ s) b t h e = let g = and-true (class a) (all class s) h in rw (g .0) (ap suc (run-stop-append s b t (g .1) e))
+
+  -- a run that ends within the front of a text is that of the text
+  pub run-back : (k : ℕ) (t : List ℕ) → run class (take k t) < length (take k t) → run class t ≡ run class (take k t)
+  unfolding run
+  run-back zero t h = absurd (omega arith)
+  run-back (suc k) [] h = refl
+  run-back (suc k) (b ∷ t) h = cases (class b) (λ e. rw e (ap suc (run-back k t (omega (arith, rw e at h))))) (λ e. rw e)

@@ -50,10 +50,6 @@ same-one a b i h k = rw (drop-one a i 0 h, drop-one b i 0 k)
 
 -- ---- runs
 
--- where a run ends that begins inside a text
-pub end-le : (class : ℕ → Bool) (t : List ℕ) (i : ℕ) → i ≤ length t → i + run class (drop i t) ≤ length t
-end-le class t i h = omega (arith, run-le class (drop i t), length-drop i t)
-
 -- ---- the words of a text
 
 -- the first word is what stands before the first space, and the others are the words behind it

@@ -14,7 +14,7 @@ use Rattle.refusal.specs.Pick.{pick}
 use Rattle.refusal.specs.Run.{all, run}
 use Rattle.refusal.proofs.Laws.Booleans.{and-true, true-and, cases}
 use Rattle.refusal.proofs.Laws.Lists.{drop-one}
-use Rattle.refusal.proofs.Laws.Run.{run-take, run-le, run-more, run-in, all-wider}
+use Rattle.refusal.proofs.Laws.Run.{run-stop, run-first, run-in-class, run-take, run-le, run-more, run-in, all-wider}
 use Rattle.base64.specs.Alphabet.{isCharacter, valueOf}
 use Rattle.base64.specs.Code.{endsWell}
 use Rattle.base64.specs.Lines.{isFull}
@@ -48,35 +48,6 @@ scan-whole (b ∷ u) s i n e = go (next s b) (λ s′ q. let w = scan-whole u s�
     go gap f q = f gap q
     go word f q = f word q
     go (line k v) f q = f (line k v) q
-
--- the byte behind a run is not in the class
-run-stop-at : (class : ℕ → Bool) (t : List ℕ) → run class t < length t → class (getD t (run class t) 0) ≡ false
-unfolding run
-run-stop-at class [] h = absurd (omega arith)
-run-stop-at class (b ∷ t) h = cases (class b) (λ e. rw e (run-stop-at class t (omega (arith, rw e at h)))) (λ e. rw e e)
-
-pub run-stop : (class : ℕ → Bool) (t : List ℕ) (i e : ℕ) → e ≡ i + run class (drop i t) → e < length t → class (getD t e 0) ≡ false
-run-stop class t i e p h =
-    let q : run class (drop i t) < length (drop i t) = simp length-drop (omega arith) in
-    rw p (rw getD-drop at (run-stop-at class (drop i t) q))
-
--- each byte of a run is in the class
-run-in-class : (class : ℕ → Bool) (n : ℕ) (t : List ℕ) → n < run class t → class (getD t n 0) ≡ true
-unfolding run
-run-in-class class n [] h = absurd (omega arith)
-run-in-class class zero (b ∷ t) h = cases (class b) (λ e. e) (λ e. absurd (omega (arith, rw e at h)))
-run-in-class class (suc n) (b ∷ t) h = cases (class b) (λ e. run-in-class class n t (omega (arith, rw e at h))) (λ e. absurd (omega (arith, rw e at h)))
-
--- the first byte of a run that is not empty is in the class
-run-first-at : (class : ℕ → Bool) (t : List ℕ) → (run class t ≡ 0 → ⊥) → class (getD t 0 0) ≡ true
-unfolding run
-run-first-at class [] h = absurd (h refl)
-run-first-at class (b ∷ t) h = cases (class b) (λ e. e) (λ e. absurd (h (rw e)))
-
-pub run-first : (class : ℕ → Bool) (t : List ℕ) (i e : ℕ) → e ≡ i + run class (drop i t) → (e ≡ i → ⊥) → class (getD t i 0) ≡ true
-run-first class t i e p h =
-    let n : run class (drop i t) ≡ 0 → ⊥ = λ z. h (omega arith) in
-    rw (getD-drop, add-zero) at (run-first-at class (drop i t) n)
 
 -- "-> "
 module _ (t : List ℕ) where

@@ -11,7 +11,7 @@ use native.Mathlib.Decide.{decLe, decLt}
 use borrow.Author.Tests.{lt-ltb, le-ltb}
 use Rattle.refusal.specs.Pick.{pick}
 use Rattle.refusal.specs.Run.{run}
-use Rattle.refusal.proofs.Laws.Booleans.{cases}
+use Rattle.refusal.proofs.Laws.Run.{run-front}
 use Rattle.base64.specs.Lines.{bodyOf}
 use Rattle.base64.specs.Tables.{bodySize}
 use Rattle.base64.proofs.Laws.Lines.{body-length}
@@ -48,13 +48,6 @@ unfolding found
 found-window t n e bad = refl
 found-window t n e short = rw (length-take-le n t (omega arith), window-test t n e)
 found-window t n e (whole k) = refl
-
--- a run that ends within the front is that of the front
-pub run-front : (class : ℕ → Bool) (k : ℕ) (t : List ℕ) → run class t < k → run class (take k t) ≡ run class t
-unfolding run
-run-front class zero t h = absurd (omega arith)
-run-front class (suc k) [] h = refl
-run-front class (suc k) (b ∷ t) h = cases (class b) (λ e. rw e (ap suc (run-front class k t (omega (arith, rw e at h))))) (λ e. rw e)
 
 -- the size of a body whose first line ends at e, in k bytes
 pub found-whole : (m : ℕ) (w : List ℕ) (e k : ℕ) → lineEnd w ≡ e → e < k → k ≤ length w → found m w (whole k) ≡ stanza e (bodySize (k - e - 1)) k

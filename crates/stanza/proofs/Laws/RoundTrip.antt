@@ -11,6 +11,7 @@ use native.Mathlib.Omega.{arith}
 use borrow.Author.Tests.{le-leb, leb-true, ne-eqb, eqb-true}
 use Rattle.refusal.specs.Pick.{pick}
 use Rattle.refusal.specs.Run.{all, run}
+use Rattle.refusal.proofs.Laws.Run.{run-back, run-stop-append}
 use Rattle.refusal.proofs.Laws.Booleans.{and-true, true-and, cases}
 use Rattle.base64.specs.Lines.{linesOf, bodyOf}
 use Rattle.base64.proofs.Laws.RoundTrip.{body-lines}
@@ -22,7 +23,6 @@ use Rattle.stanza.specs.Writing.{isWritable}
 use Rattle.stanza.proofs.Laws.Arguments.{goesOn, line-cons, line-nil, goes-space, goes-cons}
 use Rattle.stanza.proofs.Laws.Automaton.{graphic-not-lf}
 use Rattle.stanza.proofs.Laws.Exact.{Taken, scan-taken, taken-iff, found-whole}
-use Rattle.stanza.proofs.Laws.Reading.{run-front}
 use Rattle.stanza.proofs.Laws.Writing.{text-length}
 
 -- ---- where the parts of a stanza's text are
@@ -50,11 +50,6 @@ unfolding all
 line-no-lf [] h = absurd (false≢true (sym line-nil ∙ h))
 line-no-lf (b ∷ t) h = let g = and-true (isGraphic b) (goesOn t) (sym (line-cons b t) ∙ h) in rw (graphic-not-lf b (g .0)) (goes-no-lf t (g .1))
 
-run-stop-append : (class : ℕ → Bool) (s : List ℕ) (b : ℕ) (t : List ℕ) → all class s ≡ true → class b ≡ false → run class (s ++ b ∷ t) ≡ length s
-unfolding run all
-run-stop-append class [] b t h e = rw e
-run-stop-append class (a ∷ s) b t h e = let g = and-true (class a) (all class s) h in rw (g .0) (ap suc (run-stop-append class s b t (g .1) e))
-
 -- the text with something behind it, taken apart
 text-is : (l b r : List ℕ) → stanzaText l b ++ r ≡ 45 ∷ 62 ∷ 32 ∷ (l ++ 10 ∷ (linesOf b ++ r))
 text-is l b r = ap (λ x. 45 ∷ 62 ∷ 32 ∷ x) (append-assoc (l ++ (10 ∷ [])) (linesOf b) r ∙ append-assoc l (10 ∷ []) (linesOf b ++ r))
@@ -71,13 +66,6 @@ lines-in-is l b h =
 
 line-end-text : (l b : List ℕ) → isLine l ≡ true → lineEnd (stanzaText l b) ≡ length l + 3
 line-end-text l b h = ap lineEnd (sym (append-nil (stanzaText l b))) ∙ line-end-is l b [] h
-
--- a run that ends within the front of a text is that of the text
-run-back : (class : ℕ → Bool) (k : ℕ) (t : List ℕ) → run class (take k t) < length (take k t) → run class t ≡ run class (take k t)
-unfolding run
-run-back class zero t h = absurd (omega arith)
-run-back class (suc k) [] h = refl
-run-back class (suc k) (b ∷ t) h = cases (class b) (λ e. rw e (ap suc (run-back class k t (omega (arith, rw e at h))))) (λ e. rw e)
 
 -- ---- what is written reads back
 

@@ -5,8 +5,9 @@ use lib.ListN.{length, drop}
 use native.Mathlib.Omega.{arith}
 use borrow.Author.Needs.{needs}
 use denote.Ref.{now}
+use Rattle.refusal.proofs.Laws.Run.{end-le}
 use Rattle.stanza.specs.Arguments.{isWordByte, argumentOf}
-use Rattle.stanza.proofs.Laws.Arguments.{end-le, argument-here, argument-none, argument-next}
+use Rattle.stanza.proofs.Laws.Arguments.{argument-here, argument-none, argument-next}
 use Rattle.stanza.proofs.arguments.argument.Statement.{statement}
 use Rattle.stanza.proofs.arguments.argument.Tie as tie
 

@@ -3,9 +3,9 @@ use mathlib.Core.Path.{_≡_, refl, sym, _∙_}
 use lib.ListN.{length, drop, getD}
 use native.Mathlib.Omega.{arith}
 use denote.Ref.{now}
+use Rattle.refusal.proofs.Laws.Run.{end-le}
 use Rattle.base64.specs.Alphabet.{isCharacter}
 use Rattle.base64.specs.Code.{endsWell}
-use Rattle.stanza.proofs.Laws.Arguments.{end-le}
 use Rattle.stanza.proofs.Laws.Automaton.{line-long, line-short, line-bad, line-lf, line-last, line-not-full}
 use borrow.Author.Needs.{needs}
 use Rattle.stanza.proofs.reading.last_line.Statement.{statement}

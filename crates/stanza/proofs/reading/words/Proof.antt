@@ -3,12 +3,11 @@ use mathlib.Core.Path.{_≡_, refl, sym, _∙_}
 use lib.ListN.{length, drop, getD}
 use native.Mathlib.Omega.{arith}
 use denote.Ref.{now}
-use Rattle.refusal.proofs.Laws.Run.{run-in, run-out}
+use Rattle.refusal.proofs.Laws.Run.{run-in, run-out, end-le, run-first, run-stop}
 use Rattle.stanza.specs.Arguments.{isGraphic}
 use Rattle.stanza.specs.Automaton.{scan, gap, word}
 use Rattle.stanza.specs.Reading.{isNotLf, lineEnd}
-use Rattle.stanza.proofs.Laws.Arguments.{end-le}
-use Rattle.stanza.proofs.Laws.Automaton.{scan-end, run-stop, run-first, gap-bad, gap-word, word-run, word-lf, word-space, word-bad, graphic-line-end}
+use Rattle.stanza.proofs.Laws.Automaton.{scan-end, gap-bad, gap-word, word-run, word-lf, word-space, word-bad, graphic-line-end}
 use borrow.Author.Needs.{needs}
 use Rattle.stanza.proofs.reading.words.Statement.{statement}
 use Rattle.stanza.proofs.reading.words.Tie as tie
