@@ -3,3 +3,4 @@ pub mod Below
 pub mod Booleans
 pub mod Lists
 pub mod Run
+pub mod Same

@@ -1,5 +1,6 @@
--- What all specifications share: the numbers of the refusals, a conditional, runs of bytes, and a lent buffer that is written to.
+-- What all specifications share: the numbers of the refusals, a conditional, runs of bytes, texts compared, and a lent buffer that is written to.
 pub mod Number
 pub mod Output
 pub mod Pick
 pub mod Run
+pub mod Same

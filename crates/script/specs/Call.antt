@@ -2,7 +2,7 @@
 use Prim.Native.Nat.{ℕ}
 use mathlib.Core.List.{List, [], _∷_}
 use Rattle.refusal.specs.Pick.{pick}
-use Rattle.stanza.specs.Arguments.{same}
+use Rattle.refusal.specs.Same.{same}
 use Rattle.script.specs.declared.calls.Call.{Call}
 use Rattle.script.specs.declared.calls.Call.the-variants.{Stanza, Write, Index, Other}
 

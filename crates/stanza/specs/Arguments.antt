@@ -46,10 +46,3 @@ countOf t = length (words t)
 
 abbrev pub argumentOf : List ℕ → ℕ → List ℕ
 argumentOf t k = getD (words t) k []
-
--- two texts are the same, byte for byte
-unfoldable pub same : List ℕ → List ℕ → Bool
-same [] [] = true
-same [] (b ∷ t) = false
-same (a ∷ s) [] = false
-same (a ∷ s) (b ∷ t) = eqb a b && same s t

@@ -4,7 +4,8 @@ ghost use mathlib.Core.Path.{_≡_};
 ghost use Prim.Native.Nat.{_+_};
 ghost use lib.ListN.{drop};
 ghost use Rattle.refusal.specs.Run.{run};
-ghost use Rattle.stanza.specs.Arguments.{isGraphic, isWordByte, isLine, countOf, argumentOf, same};
+ghost use Rattle.refusal.specs.Same.{same};
+ghost use Rattle.stanza.specs.Arguments.{isGraphic, isWordByte, isLine, countOf, argumentOf};
 
 // A byte from 33 to 126.
 fn is_graphic(b: u8) -> bool

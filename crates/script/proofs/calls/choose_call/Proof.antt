@@ -2,7 +2,7 @@
 use mathlib.Core.Path.{_≡_, sym, _∙_}
 use mathlib.Core.Bool.{true, false}
 use denote.Ref.{now}
-use Rattle.stanza.specs.Arguments.{same}
+use Rattle.refusal.specs.Same.{same}
 use Rattle.script.specs.Call.{chosen, stanzaWord, writeWord, indexWord}
 use borrow.Author.Needs.{needs}
 use Rattle.script.proofs.calls.choose_call.Statement.{statement}

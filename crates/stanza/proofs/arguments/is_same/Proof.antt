@@ -7,8 +7,8 @@ use borrow.Author.Needs.{needs}
 use denote.Ref.{now}
 use borrow.Author.Tests.{eq-eqb, ne-eqb}
 use lib.ListN.{length, drop, getD, drop-of-length-le}
-use Rattle.stanza.specs.Arguments.{same}
-use Rattle.stanza.proofs.Laws.Arguments.{same-length, same-one}
+use Rattle.refusal.specs.Same.{same}
+use Rattle.refusal.proofs.Laws.Same.{same-length, same-one}
 use Rattle.stanza.proofs.arguments.is_same.Statement.{statement}
 use Rattle.stanza.proofs.arguments.is_same.Tie as tie
 

@@ -6,6 +6,7 @@ use lib.Dec.{leb, ltb, eqb}
 use lib.ListN.{length, take, drop}
 use Rattle.refusal.specs.Pick.{pick}
 use Rattle.refusal.specs.Run.{all}
+use Rattle.refusal.specs.Same.{same}
 use Rattle.bech32.specs.Charset.{valueOf, characterOf, isUpper, isLower, lower, upper}
 use Rattle.bech32.specs.Checksum.{polymod, checksum}
 use Rattle.bech32.specs.Regroup.{symbols, bytes, isWhole}
@@ -62,3 +63,42 @@ isNotOne b = not (eqb b 49)
 unfoldable pub separator : List ℕ → ℕ
 separator [] = 0
 separator (b ∷ t) = pick (all isNotOne t) (pick (eqb b 49) 0 (suc (length t))) (suc (separator t))
+
+-- the human part holds NAME between what stands before and behind it
+abbrev pub nameIn : Kind → List ℕ → List ℕ
+nameIn k h = take (length h - length (k .front) - length (k .back)) (drop (length (k .front)) h)
+
+-- what a text is read as: a name and a payload, or none
+pub data Parsed : Type 0 where
+  parsed : List ℕ → List ℕ → Parsed
+  none : Parsed
+
+-- the parts of a text in lower case: before the separator, and the values of the characters behind it
+abbrev pub humanIn : List ℕ → List ℕ
+humanIn l = take (separator l) l
+
+abbrev pub valuesIn : List ℕ → List ℕ
+valuesIn l = map valueOf (drop (separator l + 1) l)
+
+-- the values less the checksum's six
+abbrev pub payloadIn : List ℕ → List ℕ
+payloadIn l = take (length (valuesIn l) - 6) (valuesIn l)
+
+-- the checksum holds: a separator, behind it at least six characters of the alphabet, and the final value 1
+unfoldable pub isChecked : List ℕ → Bool
+isChecked l =
+    ltb (separator l) (length l) && leb 6 (length (valuesIn l)) && all (λ v. ltb v 32) (valuesIn l)
+    && eqb (polymod 1 (expanded (humanIn l) ++ valuesIn l)) 1
+
+-- the human part is that of a name
+unfoldable pub isHuman : Kind → List ℕ → Bool
+isHuman k h = same h (humanPart k (nameIn k h)) && isName (nameIn k h)
+
+-- a text of the kind: at most 1,024 characters, none of the wrong case; the rest goes by its lower-case form
+unfoldable pub isText : Kind → List ℕ → Bool
+isText k t =
+    leb (length t) 1024 && isCased k t && isChecked (map lower t) && isWhole (payloadIn (map lower t)) && isHuman k (humanIn (map lower t))
+
+-- reading a text
+abbrev pub parse : Kind → List ℕ → Parsed
+parse k t = pick (isText k t) (parsed (nameIn k (humanIn (map lower t))) (bytes (payloadIn (map lower t)))) none
