@@ -157,7 +157,7 @@ packed-six p h =
 unpack : (x d : ℕ) → d < 32 → ((x * 32 + d) / 32 ≡ x) × ((x * 32 + d) % 32 ≡ d)
 unpack x d h = (omega arith, omega arith)
 
-six-lt : (p : ℕ) → areSymbols (sixSymbols p) ≡ true
+pub six-lt : (p : ℕ) → areSymbols (sixSymbols p) ≡ true
 unfolding all
 six-lt p =
     rw (lt-ltb (p / 33554432 % 32) 32 (omega arith), lt-ltb (p / 1048576 % 32) 32 (omega arith), lt-ltb (p / 32768 % 32) 32 (omega arith), lt-ltb (p / 1024 % 32) 32 (omega arith), lt-ltb (p / 32 % 32) 32 (omega arith), lt-ltb (p % 32) 32 (omega arith))

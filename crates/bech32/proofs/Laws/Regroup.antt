@@ -175,3 +175,99 @@ symbols-bytes (p ∷ q ∷ r ∷ s ∷ t ∷ u ∷ v ∷ w ∷ l) a h =
     let hv = symbol v (w ∷ l) (hu .1) in
     let hw = symbol w l (hv .1) in
     rw (first-symbol p q r s (hp .0) (hq .0) (hr .0) (hs .0), second-symbol p q r s (hp .0) (hq .0) (hr .0) (hs .0), third-symbol p q r s (hp .0) (hq .0) (hr .0) (hs .0), fourth-symbol p q r s (hp .0) (hq .0) (hr .0) (hs .0) t (ht .0), fifth-symbol s t u v (hs .0) (ht .0) (hu .0) (hv .0), sixth-symbol s t u v (hs .0) (ht .0) (hu .0) (hv .0), seventh-symbol s t u v (hs .0) (ht .0) (hu .0) (hv .0) w (hw .0), eighth-symbol v w (hw .0), symbols-bytes l (hw .1) (sym (whole-group p q r s t u v w l) ∙ h))
+
+-- symbols are below 32
+pub symbols-small : (t : List ℕ) → areBytes t ≡ true → areSymbols (symbols t) ≡ true
+unfolding symbols all
+symbols-small [] h = refl
+symbols-small (a ∷ []) h =
+    let ha = byte a [] h in
+    rw (lt-ltb (a / 8) 32 (omega arith), lt-ltb (a % 8 * 4) 32 (omega arith))
+symbols-small (a ∷ b ∷ []) h =
+    let ha = byte a (b ∷ []) h in
+    let hb = byte b [] (ha .1) in
+    rw (lt-ltb (a / 8) 32 (omega arith), lt-ltb (a % 8 * 4 + b / 64) 32 (omega arith), lt-ltb (b / 2 % 32) 32 (omega arith), lt-ltb (b % 2 * 16) 32 (omega arith))
+symbols-small (a ∷ b ∷ c ∷ []) h =
+    let ha = byte a (b ∷ c ∷ []) h in
+    let hb = byte b (c ∷ []) (ha .1) in
+    let hc = byte c [] (hb .1) in
+    rw (lt-ltb (a / 8) 32 (omega arith), lt-ltb (a % 8 * 4 + b / 64) 32 (omega arith), lt-ltb (b / 2 % 32) 32 (omega arith), lt-ltb (b % 2 * 16 + c / 16) 32 (omega arith), lt-ltb (c % 16 * 2) 32 (omega arith))
+symbols-small (a ∷ b ∷ c ∷ d ∷ []) h =
+    let ha = byte a (b ∷ c ∷ d ∷ []) h in
+    let hb = byte b (c ∷ d ∷ []) (ha .1) in
+    let hc = byte c (d ∷ []) (hb .1) in
+    let hd = byte d [] (hc .1) in
+    rw (lt-ltb (a / 8) 32 (omega arith), lt-ltb (a % 8 * 4 + b / 64) 32 (omega arith), lt-ltb (b / 2 % 32) 32 (omega arith), lt-ltb (b % 2 * 16 + c / 16) 32 (omega arith), lt-ltb (c % 16 * 2 + d / 128) 32 (omega arith), lt-ltb (d / 4 % 32) 32 (omega arith), lt-ltb (d % 4 * 8) 32 (omega arith))
+symbols-small (a ∷ b ∷ c ∷ d ∷ e ∷ t) h =
+    let ha = byte a (b ∷ c ∷ d ∷ e ∷ t) h in
+    let hb = byte b (c ∷ d ∷ e ∷ t) (ha .1) in
+    let hc = byte c (d ∷ e ∷ t) (hb .1) in
+    let hd = byte d (e ∷ t) (hc .1) in
+    let he = byte e t (hd .1) in
+    rw (lt-ltb (a / 8) 32 (omega arith), lt-ltb (a % 8 * 4 + b / 64) 32 (omega arith), lt-ltb (b / 2 % 32) 32 (omega arith), lt-ltb (b % 2 * 16 + c / 16) 32 (omega arith), lt-ltb (c % 16 * 2 + d / 128) 32 (omega arith), lt-ltb (d / 4 % 32) 32 (omega arith), lt-ltb (d % 4 * 8 + e / 32) 32 (omega arith), lt-ltb (e % 32) 32 (omega arith)) (symbols-small t (he .1))
+
+-- the symbols of bytes are whole
+pub symbols-whole : (t : List ℕ) → isWhole (symbols t) ≡ true
+unfolding symbols isWhole
+symbols-whole [] = refl
+symbols-whole (a ∷ []) = let e : a % 8 * 4 % 4 ≡ 0 = omega arith in rw e
+symbols-whole (a ∷ b ∷ []) = let e : b % 2 * 16 % 16 ≡ 0 = omega arith in rw e
+symbols-whole (a ∷ b ∷ c ∷ []) = let e : c % 16 * 2 % 2 ≡ 0 = omega arith in rw e
+symbols-whole (a ∷ b ∷ c ∷ d ∷ []) = let e : d % 4 * 8 % 8 ≡ 0 = omega arith in rw e
+symbols-whole (a ∷ b ∷ c ∷ d ∷ e ∷ t) =
+    whole-group (a / 8) (a % 8 * 4 + b / 64) (b / 2 % 32) (b % 2 * 16 + c / 16) (c % 16 * 2 + d / 128) (d / 4 % 32) (d % 4 * 8 + e / 32) (e % 32) (symbols t) ∙ symbols-whole t
+
+-- the bytes of symbols are bytes
+pub bytes-are : (l : List ℕ) → areSymbols l ≡ true → areBytes (bytes l) ≡ true
+unfolding bytes
+bytes-are [] h = refl
+bytes-are (p ∷ []) h = refl
+bytes-are (p ∷ q ∷ []) h =
+    let hp = symbol p (q ∷ []) h in
+    let hq = symbol q [] (hp .1) in
+    rw (lt-ltb (p * 8 + q / 4) 256 (omega arith))
+bytes-are (p ∷ q ∷ r ∷ []) h =
+    let hp = symbol p (q ∷ r ∷ []) h in
+    let hq = symbol q (r ∷ []) (hp .1) in
+    let hr = symbol r [] (hq .1) in
+    rw (lt-ltb (p * 8 + q / 4) 256 (omega arith))
+bytes-are (p ∷ q ∷ r ∷ s ∷ []) h =
+    let hp = symbol p (q ∷ r ∷ s ∷ []) h in
+    let hq = symbol q (r ∷ s ∷ []) (hp .1) in
+    let hr = symbol r (s ∷ []) (hq .1) in
+    let hs = symbol s [] (hr .1) in
+    rw (lt-ltb (p * 8 + q / 4) 256 (omega arith), lt-ltb (q % 4 * 64 + r * 2 + s / 16) 256 (omega arith))
+bytes-are (p ∷ q ∷ r ∷ s ∷ t ∷ []) h =
+    let hp = symbol p (q ∷ r ∷ s ∷ t ∷ []) h in
+    let hq = symbol q (r ∷ s ∷ t ∷ []) (hp .1) in
+    let hr = symbol r (s ∷ t ∷ []) (hq .1) in
+    let hs = symbol s (t ∷ []) (hr .1) in
+    let ht = symbol t [] (hs .1) in
+    rw (lt-ltb (p * 8 + q / 4) 256 (omega arith), lt-ltb (q % 4 * 64 + r * 2 + s / 16) 256 (omega arith), lt-ltb (s % 16 * 16 + t / 2) 256 (omega arith))
+bytes-are (p ∷ q ∷ r ∷ s ∷ t ∷ u ∷ []) h =
+    let hp = symbol p (q ∷ r ∷ s ∷ t ∷ u ∷ []) h in
+    let hq = symbol q (r ∷ s ∷ t ∷ u ∷ []) (hp .1) in
+    let hr = symbol r (s ∷ t ∷ u ∷ []) (hq .1) in
+    let hs = symbol s (t ∷ u ∷ []) (hr .1) in
+    let ht = symbol t (u ∷ []) (hs .1) in
+    let hu = symbol u [] (ht .1) in
+    rw (lt-ltb (p * 8 + q / 4) 256 (omega arith), lt-ltb (q % 4 * 64 + r * 2 + s / 16) 256 (omega arith), lt-ltb (s % 16 * 16 + t / 2) 256 (omega arith))
+bytes-are (p ∷ q ∷ r ∷ s ∷ t ∷ u ∷ v ∷ []) h =
+    let hp = symbol p (q ∷ r ∷ s ∷ t ∷ u ∷ v ∷ []) h in
+    let hq = symbol q (r ∷ s ∷ t ∷ u ∷ v ∷ []) (hp .1) in
+    let hr = symbol r (s ∷ t ∷ u ∷ v ∷ []) (hq .1) in
+    let hs = symbol s (t ∷ u ∷ v ∷ []) (hr .1) in
+    let ht = symbol t (u ∷ v ∷ []) (hs .1) in
+    let hu = symbol u (v ∷ []) (ht .1) in
+    let hv = symbol v [] (hu .1) in
+    rw (lt-ltb (p * 8 + q / 4) 256 (omega arith), lt-ltb (q % 4 * 64 + r * 2 + s / 16) 256 (omega arith), lt-ltb (s % 16 * 16 + t / 2) 256 (omega arith), lt-ltb (t % 2 * 128 + u * 4 + v / 8) 256 (omega arith))
+bytes-are (p ∷ q ∷ r ∷ s ∷ t ∷ u ∷ v ∷ w ∷ l) h =
+    let hp = symbol p (q ∷ r ∷ s ∷ t ∷ u ∷ v ∷ w ∷ l) h in
+    let hq = symbol q (r ∷ s ∷ t ∷ u ∷ v ∷ w ∷ l) (hp .1) in
+    let hr = symbol r (s ∷ t ∷ u ∷ v ∷ w ∷ l) (hq .1) in
+    let hs = symbol s (t ∷ u ∷ v ∷ w ∷ l) (hr .1) in
+    let ht = symbol t (u ∷ v ∷ w ∷ l) (hs .1) in
+    let hu = symbol u (v ∷ w ∷ l) (ht .1) in
+    let hv = symbol v (w ∷ l) (hu .1) in
+    let hw = symbol w l (hv .1) in
+    rw (lt-ltb (p * 8 + q / 4) 256 (omega arith), lt-ltb (q % 4 * 64 + r * 2 + s / 16) 256 (omega arith), lt-ltb (s % 16 * 16 + t / 2) 256 (omega arith), lt-ltb (t % 2 * 128 + u * 4 + v / 8) 256 (omega arith), lt-ltb (v % 8 * 32 + w) 256 (omega arith)) (bytes-are l (hw .1))
