@@ -17,23 +17,26 @@ unfoldable pub placeOf : ℕ → List ℕ → ℕ
 placeOf b [] = 0
 placeOf b (x ∷ xs) = pick (eqb b x) 0 (suc (placeOf b xs))
 
--- the value of a character, 32 for a byte outside the alphabet, and the character of a value
+-- the value of a character, 32 for a byte outside the alphabet
 abbrev pub valueOf : ℕ → ℕ
 valueOf b = placeOf b charset
 
+-- the character of a value
 abbrev pub characterOf : ℕ → ℕ
 characterOf v = getD charset v 0
 
--- a letter A to Z, and a letter a to z
+-- a letter A to Z
 unfoldable pub isUpper : ℕ → Bool
 isUpper b = leb 65 b && leb b 90
 
+-- a letter a to z
 unfoldable pub isLower : ℕ → Bool
 isLower b = leb 97 b && leb b 122
 
--- a byte in lower case, and in upper case
+-- a byte in lower case
 unfoldable pub lower : ℕ → ℕ
 lower b = pick (isUpper b) (b + 32) b
 
+-- a byte in upper case
 unfoldable pub upper : ℕ → ℕ
 upper b = pick (isLower b) (b - 32) b

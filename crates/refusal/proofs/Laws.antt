@@ -4,3 +4,4 @@ pub mod Booleans
 pub mod Lists
 pub mod Run
 pub mod Same
+pub mod Bytes

@@ -12,16 +12,13 @@ use native.Mathlib.Omega.{arith}
 use borrow.Author.Tests.{ltb-true, lt-ltb, eqb-true}
 use Rattle.refusal.specs.Pick.{pick}
 use Rattle.refusal.specs.Run.{all}
+use Rattle.refusal.proofs.Laws.Bytes.{byte}
 use Rattle.refusal.proofs.Laws.Booleans.{and-true, true-and}
 use Rattle.base64.specs.Alphabet.{isCharacter, valueOf, characterOf}
 use Rattle.base64.specs.Code.{encoded, decoded, endsWell, isBase64, last}
 use Rattle.base64.specs.Lines.{wrapped, unwrapped, linesOf, bodyOf}
 use Rattle.base64.proofs.Laws.Alphabet.{value-lt, value-character, character-is, character-value}
 use Rattle.base64.proofs.Laws.Lines.{unwrapped-wrapped}
-
--- a byte's bound, and the rest of the bytes
-byte : (b : ℕ) (t : List ℕ) → areBytes (b ∷ t) ≡ true → (b < 256) × (areBytes t ≡ true)
-byte b t h = let a = and-true (ltb b 256) (areBytes t) h in (ltb-true b 256 (a .0), a .1)
 
 -- what is encoded decodes to the same bytes
 pub decoded-encoded : (t : List ℕ) → areBytes t ≡ true → decoded (encoded t) ≡ t

@@ -102,6 +102,11 @@ packed-le (d ∷ ds) x = omega (arith, packed-le ds (x * 32 + d))
 abbrev pub areSymbols : List ℕ → Bool
 areSymbols ds = all (λ d. ltb d 32) ds
 
+-- the first symbol's bound, and the rest of the symbols
+pub symbol-lt : (d : ℕ) (t : List ℕ) → areSymbols (d ∷ t) ≡ true → (d < 32) × (areSymbols t ≡ true)
+unfolding all
+symbol-lt d t h = let a = and-true (ltb d 32) (areSymbols t) h in (ltb-true d 32 (a .0), a .1)
+
 -- as many zeros
 pub zeros : List ℕ → List ℕ
 zeros [] = []
@@ -193,10 +198,6 @@ six-packed a b c d e f ha hb hc hd he hf =
   where
     rows : {a b c d e f a′ b′ c′ d′ e′ f′ : ℕ} → a ≡ a′ → b ≡ b′ → c ≡ c′ → d ≡ d′ → e ≡ e′ → f ≡ f′ → _≡_ {A = List ℕ} (a ∷ b ∷ c ∷ d ∷ e ∷ f ∷ []) (a′ ∷ b′ ∷ c′ ∷ d′ ∷ e′ ∷ f′ ∷ [])
     rows p q r s t u = cc
-
-symbol-lt : (d : ℕ) (t : List ℕ) → areSymbols (d ∷ t) ≡ true → (d < 32) × (areSymbols t ≡ true)
-unfolding all
-symbol-lt d t h = let a = and-true (ltb d 32) (areSymbols t) h in (ltb-true d 32 (a .0), a .1)
 
 pub checksum-unique : (c : ℕ) (ds : List ℕ) → areSymbols ds ≡ true → length ds ≡ 6 → polymod c ds ≡ 1 → ds ≡ checksum c
 unfolding zeros

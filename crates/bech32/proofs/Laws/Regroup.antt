@@ -10,16 +10,10 @@ use native.Mathlib.Nat.{div-div-eq-div-mul}
 use native.Mathlib.Omega.{arith}
 use borrow.Author.Tests.{ltb-true, lt-ltb, eqb-true}
 use Rattle.refusal.specs.Run.{all}
+use Rattle.refusal.proofs.Laws.Bytes.{byte}
 use Rattle.refusal.proofs.Laws.Booleans.{and-true, true-and}
 use Rattle.bech32.specs.Regroup.{symbols, bytes, isWhole, remaining, last}
-use Rattle.bech32.proofs.Laws.Checksum.{areSymbols}
-
-byte : (b : ℕ) (t : List ℕ) → areBytes (b ∷ t) ≡ true → (b < 256) × (areBytes t ≡ true)
-byte b t h = let a = and-true (ltb b 256) (areBytes t) h in (ltb-true b 256 (a .0), a .1)
-
-symbol : (d : ℕ) (t : List ℕ) → areSymbols (d ∷ t) ≡ true → (d < 32) × (areSymbols t ≡ true)
-unfolding all
-symbol d t h = let a = and-true (ltb d 32) (areSymbols t) h in (ltb-true d 32 (a .0), a .1)
+use Rattle.bech32.proofs.Laws.Checksum.{areSymbols, symbol-lt as symbol}
 
 -- the bytes of two symbols, each equation once
 first-byte : (a b : ℕ) → a < 256 → b < 256 → a / 8 * 8 + (a % 8 * 4 + b / 64) / 4 ≡ a
