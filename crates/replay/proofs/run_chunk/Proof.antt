@@ -2,7 +2,7 @@
 use native.Mathlib.Omega.{arith}
 use denote.Ref.{now}
 use Rattle.script.specs.Line.{isLineByte}
-use Rattle.stanza.proofs.Laws.Arguments.{end-le}
+use Rattle.refusal.proofs.Laws.Run.{end-le}
 use Prim.Native.Nat.{_-_}
 use mathlib.Core.Path.{_≡_}
 use lib.ListN.{length}
