@@ -1,0 +1,86 @@
+use borrow.Author.Needs.{needs}
+use Rattle.bech32.proofs.writing.put_checksum.Statement.{statement}
+use Rattle.bech32.proofs.writing.put_checksum.Tie as tie
+use Rattle.bech32.proofs.writing.put_checksum.Reads as reads
+use Rattle.bech32.proofs.writing.put_checksum.Lts as lts
+use Rattle.bech32.proofs.writing.six_zeros.Reads as six-zeros-reads
+
+-- src/writing.rt:86:13
+six-zeros-requires : tie.Need-six-zeros-requires
+six-zeros-requires c κs = search needs
+
+-- src/writing.rt:87:14
+cast-out : tie.Need-cast-out
+cast-out c = search needs
+
+-- src/writing.rt:87:5
+slice-write-out : tie.Need-slice-write-out
+slice-write-out c = search needs
+
+-- src/writing.rt:88:14
+cast-out-2 : tie.Need-cast-out-2
+cast-out-2 c = search needs
+
+-- src/writing.rt:88:5
+slice-write-out-2 : tie.Need-slice-write-out-2
+slice-write-out-2 c = ?
+
+-- src/writing.rt:89:14
+cast-out-3 : tie.Need-cast-out-3
+cast-out-3 c = search needs
+
+-- src/writing.rt:89:5
+slice-write-out-3 : tie.Need-slice-write-out-3
+slice-write-out-3 c = ?
+
+-- src/writing.rt:90:14
+cast-out-4 : tie.Need-cast-out-4
+cast-out-4 c = search needs
+
+-- src/writing.rt:90:5
+slice-write-out-4 : tie.Need-slice-write-out-4
+slice-write-out-4 c = ?
+
+-- src/writing.rt:91:14
+cast-out-5 : tie.Need-cast-out-5
+cast-out-5 c = search needs
+
+-- src/writing.rt:91:5
+slice-write-out-5 : tie.Need-slice-write-out-5
+slice-write-out-5 c = ?
+
+-- src/writing.rt:92:14
+cast-out-6 : tie.Need-cast-out-6
+cast-out-6 c = search needs
+
+-- src/writing.rt:92:5
+slice-write-out-6 : tie.Need-slice-write-out-6
+slice-write-out-6 c = search needs
+
+-- src/writing.rt:82:1
+same-length : tie.Need-same-length
+same-length c = search needs
+
+-- src/writing.rt:82:1
+returns : tie.Need-returns
+returns c = ?
+
+pub put-checksum-spec : {M : Type 1} → statement M
+put-checksum-spec =
+    tie.close
+    (tie.spec
+    six-zeros-requires
+    cast-out
+    slice-write-out
+    cast-out-2
+    slice-write-out-2
+    cast-out-3
+    slice-write-out-3
+    cast-out-4
+    slice-write-out-4
+    cast-out-5
+    slice-write-out-5
+    cast-out-6
+    slice-write-out-6
+    same-length
+    returns)
