@@ -1,3 +1,7 @@
+use mathlib.Core.Path.{sym, _∙_}
+use native.Mathlib.Omega.{arith}
+use Rattle.bech32.specs.Charset.{upper}
+use Rattle.bech32.proofs.Laws.Charset.{lower-bounds}
 use borrow.Author.Needs.{needs}
 use Rattle.bech32.proofs.charset.cased.Statement.{statement}
 use Rattle.bech32.proofs.charset.cased.Tie as tie
@@ -19,19 +23,21 @@ is-lower-requires c κs = search needs
 
 -- src/charset.rt:347:24
 sub-result : tie.Need-sub-result
-sub-result c = ?
+sub-result c = let a = lower-bounds (c .before .before .before .before .args .b) (sym (c .before .is-lower .ensures) ∙ c .if1 .taken) in omega arith
 
 -- src/charset.rt:347:17
 returns : tie.Need-returns
-returns c = ?
+unfolding upper
+returns c = rw (c .before .before .enum-told2 .given .1, sym (c .before .is-lower .ensures) ∙ c .if1 .taken)
 
 -- src/charset.rt:340:1
 returns-2 : tie.Need-returns-2
-returns-2 c = search needs
+returns-2 c = rw (c .enum-told .given .1)
 
 -- src/charset.rt:340:1
 returns-3 : tie.Need-returns-3
-returns-3 c = ?
+unfolding upper
+returns-3 c = rw (c .before .before .enum-told2 .given .1, sym (c .before .is-lower .ensures) ∙ c .if1 .left)
 
 pub cased-spec : {M : Type 1} → statement M
 cased-spec =

@@ -15,7 +15,7 @@ element-copy-out-result c = search needs
 
 -- src/charset.rt:309:1
 returns : tie.Need-returns
-returns c = ?
+returns c = rw (c .before .wide .ensures) (c .before .before .pre .0 (c .before .before .args .v) (c .before .before .pre .1))
 
 pub character-spec : {M : Type 1} → statement M
 character-spec = tie.close (tie.spec wide-requires element-copy-out-result returns)

@@ -15,7 +15,7 @@ element-copy-out-result c = search needs
 
 -- src/charset.rt:301:1
 returns : tie.Need-returns
-returns c = ?
+returns c = rw (c .before .wide .ensures) (c .before .before .pre (c .before .before .args .b) (search needs))
 
 pub look-up-spec : {M : Type 1} → statement M
 look-up-spec = tie.close (tie.spec wide-requires element-copy-out-result returns)
