@@ -1,3 +1,4 @@
+pub mod Maps
 pub mod Checksum
 pub mod Xor
 pub mod Regroup
@@ -6,3 +7,5 @@ pub mod Text
 pub mod Folds
 pub mod Parsing
 pub mod Writing
+pub mod Groups
+pub mod Human

@@ -8,7 +8,8 @@ use lib.ListN.{length, take, drop, getD}
 use Rattle.refusal.specs.Pick.{pick}
 use Rattle.refusal.specs.Same.{same}
 use Rattle.bech32.specs.Charset.{valueOf, characterOf, lower, upper}
-use Rattle.bech32.specs.Checksum.{stepped}
+use Rattle.bech32.specs.Checksum.{stepped, polymod, checksum}
+use Rattle.bech32.specs.Regroup.{symbols}
 use Rattle.bech32.specs.Text.{Form, isName, isHuman, nameIn, isText, humanIn}
 
 -- the value of a byte in either case
@@ -38,6 +39,10 @@ bytesSize n = n * 5 / 8
 
 abbrev pub symbolsSize : ℕ → ℕ
 symbolsSize n = (n * 8 + 4) / 5
+
+-- the symbols of a payload, and those of the checksum behind a state
+abbrev pub withChecksum : ℕ → List ℕ → List ℕ
+withChecksum c payload = symbols payload ++ checksum (polymod c (symbols payload))
 
 -- fewer than 5 bits remain and all are zero, by how many remain and the last symbol
 abbrev pub isClear : ℕ → ℕ → Bool

@@ -13,6 +13,7 @@ pub enum Kind {
 
 // The character of each value, in lower and in upper case.
 const ALPHABET: [u8; 32] = *b"qpzry9x8gf2tvdw0s3jn54khce6mua7l";
+
 const CAPITALS: [u8; 32] = *b"QPZRY9X8GF2TVDW0S3JN54KHCE6MUA7L";
 
 // The value of each byte, a letter's in either case; 32 for one outside the alphabet.

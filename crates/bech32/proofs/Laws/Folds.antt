@@ -9,14 +9,10 @@ use native.Mathlib.Omega.{arith}
 use Rattle.refusal.specs.Pick.{pick}
 use Rattle.refusal.specs.Run.{all}
 use Rattle.refusal.proofs.Laws.Booleans.{cases, and-assoc}
-use Rattle.refusal.proofs.Laws.Lists.{drop-one}
 use Rattle.bech32.specs.Charset.{isUpper, lower}
 use Rattle.bech32.specs.Checksum.{areSymbols, stepped, polymod}
 use Rattle.bech32.specs.Steps.{closes}
-
--- what stands at a place of a mapped list
-pub map-one : (f : ℕ → ℕ) (l : List ℕ) (i : ℕ) → i < length l → map f (drop i l) ≡ f (getD l i 0) ∷ map f (drop (i + 1) l)
-map-one f l i h = ap (map f) (drop-one l i 0 h)
+use Rattle.bech32.proofs.Laws.Maps.{map-one}
 
 -- one symbol more
 pub polymod-at : (f : ℕ → ℕ) (l : List ℕ) (i c : ℕ) → i < length l → polymod c (map f (drop i l)) ≡ polymod (stepped c (f (getD l i 0))) (map f (drop (i + 1) l))
@@ -42,15 +38,6 @@ pub closes-is : (l : List ℕ) (c : ℕ) → closes c l ≡ (areSymbols l && eqb
 unfolding closes polymod all
 closes-is [] c = refl
 closes-is (v ∷ l) c = ap (λ b. ltb v 32 && b) (closes-is l (stepped c v)) ∙ and-assoc (ltb v 32) (areSymbols l) (eqb (polymod (stepped c v) l) 1)
-
--- a map after a map
-pub map-map : (f g : ℕ → ℕ) (l : List ℕ) → map f (map g l) ≡ map (λ b. f (g b)) l
-map-map f g [] = refl
-map-map f g (b ∷ l) = ap (λ t. f (g b) ∷ t) (map-map f g l)
-
-pub map-id : (l : List ℕ) → map (λ b. b) l ≡ l
-map-id [] = refl
-map-id (b ∷ l) = ap (λ t. b ∷ t) (map-id l)
 
 -- a letter has the same low bits in either case
 pub lower-low : (b : ℕ) → lower b % 32 ≡ b % 32

@@ -6,19 +6,24 @@ use mathlib.Core.List.{List, [], _∷_, _++_, map}
 use lib.Dec.{eqb, ltb, leb}
 use lib.ListN.{length, take, drop, getD, length-map, length-drop}
 use native.Mathlib.Omega.{arith}
-use borrow.Author.Tests.{leb-true, leb-false, lt-ltb, le-leb, lt-leb, eq-eqb, ne-eqb}
+use borrow.Author.Tests.{leb-true, leb-false, lt-ltb, le-ltb, le-leb, lt-leb, eq-eqb, ne-eqb}
 use Rattle.refusal.specs.Pick.{pick}
 use Rattle.refusal.specs.Run.{all}
-use Rattle.refusal.proofs.Laws.Booleans.{cases, and-assoc, and-false-right}
+use Rattle.refusal.specs.Same.{same}
+use Rattle.refusal.proofs.Laws.Booleans.{cases, and-true, and-assoc, and-false-right}
 use Rattle.refusal.proofs.Laws.Lists.{drop-one}
 use Rattle.refusal.proofs.Laws.Run.{all-more}
 use Rattle.bech32.specs.Charset.{valueOf, isUpper, lower}
 use Rattle.bech32.specs.Checksum.{areSymbols, polymod}
-use Rattle.bech32.specs.Text.{expanded, isNotOne, separator, humanIn, valuesIn, isChecked}
-use Rattle.bech32.specs.Steps.{valueAt, closes}
+use Rattle.bech32.specs.Regroup.{isWhole, bytes}
+use Rattle.bech32.specs.Calls.{readAnswer, readName, readBuffer, markOf}
+use Rattle.refusal.specs.Output.{Answer, refused, bytes as accepted}
+use Rattle.bech32.specs.Text.{Form, parse, humanPart, expanded, isNameByte, isName, isNotOne, isCased, separator, nameIn, humanIn, valuesIn, payloadIn, isChecked, isHuman, isText}
+use Rattle.bech32.specs.Steps.{valueAt, closes, nameOr, nameOf}
 use Rattle.bech32.proofs.Laws.Charset.{upper-bounds}
 use Rattle.bech32.proofs.Laws.Checksum.{polymod-append}
-use Rattle.bech32.proofs.Laws.Folds.{closes-is, map-map}
+use Rattle.bech32.proofs.Laws.Folds.{closes-is}
+use Rattle.bech32.proofs.Laws.Maps.{map-take, map-drop, map-map}
 
 -- one byte more of a class
 pub all-one : (class : ℕ → Bool) (t : List ℕ) (i : ℕ) {good r : Bool} → i < length t → good ≡ all class (take i t) → r ≡ class (getD t i 0) → (good && r) ≡ all class (take (i + 1) t)
@@ -78,16 +83,6 @@ separator-lower (b ∷ t) = rw (lower-ones t, lower-one b, separator-lower t, le
 
 -- ---- the parts of the lower-case form
 
-pub map-take : (f : ℕ → ℕ) (n : ℕ) (l : List ℕ) → take n (map f l) ≡ map f (take n l)
-map-take f zero l = refl
-map-take f (suc n) [] = refl
-map-take f (suc n) (b ∷ l) = ap (λ t. f b ∷ t) (map-take f n l)
-
-pub map-drop : (f : ℕ → ℕ) (n : ℕ) (l : List ℕ) → drop n (map f l) ≡ map f (drop n l)
-map-drop f zero l = refl
-map-drop f (suc n) [] = refl
-map-drop f (suc n) (b ∷ l) = map-drop f n l
-
 pub human-lower : (t : List ℕ) → humanIn (map lower t) ≡ map lower (take (separator t) t)
 human-lower t = ap (λ n. take n (map lower t)) (separator-lower t) ∙ map-take lower (separator t) t
 
@@ -119,3 +114,74 @@ unfolding isChecked
 checked-is t =
     rw (separator-lower t, length-map t lower, values-part (separator t + 1) t, map-take lower (separator t) t)
     (parts (separator t) (length t) (map lower (take (separator t) t)) (map valueAt (drop (separator t + 1) t)) (length-map (drop (separator t + 1) t) valueAt ∙ length-drop (separator t + 1) t))
+
+-- the payload's values in the lower-case form, by the part of the text between separator and checksum
+pub payload-lower : (t : List ℕ) → payloadIn (map lower t) ≡ map valueAt (take (length t - 6 - (separator t + 1)) (drop (separator t + 1) t))
+payload-lower t =
+    let s = separator t in
+    let d = drop (s + 1) t in
+    let n : length (map valueAt d) - 6 ≡ length t - 6 - (s + 1) = omega (arith, length-map d valueAt, length-drop (s + 1) t) in
+    ap (λ vs. take (length vs - 6) vs) (values-lower t) ∙ ap (λ m. take m (map valueAt d)) n ∙ map-take valueAt (length t - 6 - (s + 1)) d
+
+-- ---- the tests in the order of the code
+
+-- a text that is one passes them all
+pub text-checked : (k : Form) (t : List ℕ) → isText k t ≡ true → isChecked (map lower t) ≡ true
+unfolding isText
+text-checked k t e =
+    let l = map lower t in
+    let a = and-true (leb (length t) 1024 && isCased k t && isChecked l && isWhole (payloadIn l)) (isHuman k (humanIn l)) e in
+    let b = and-true (leb (length t) 1024 && isCased k t && isChecked l) (isWhole (payloadIn l)) (a .0) in
+    and-true (leb (length t) 1024 && isCased k t) (isChecked l) (b .0) .1
+
+-- a checksum that holds has six characters behind the separator
+pub checked-long : (t : List ℕ) → isChecked (map lower t) ≡ true → separator t + 7 ≤ length t
+checked-long t e =
+    let a = and-true (leb 7 (length t - separator t)) (closes (polymod 1 (expanded (map lower (take (separator t) t)))) (map valueAt (drop (separator t + 1) t))) (sym (checked-is t) ∙ e) in
+    let b = leb-true 7 (length t - separator t) (a .0) in
+    omega arith
+
+-- its name is not empty
+pub text-named : (k : Form) (t : List ℕ) → isText k t ≡ true → 1 ≤ length (nameIn k (humanIn (map lower t)))
+unfolding isText isHuman isName
+text-named k t e =
+    let l = map lower t in
+    let n = nameIn k (humanIn l) in
+    let a = and-true (leb (length t) 1024 && isCased k t && isChecked l && isWhole (payloadIn l)) (isHuman k (humanIn l)) e in
+    let f = and-true (same (humanIn l) (humanPart k n)) (isName n) (a .1) in
+    let g = and-true (leb 1 (length n) && leb (length n) 32) (all isNameByte n) (f .1) in
+    leb-true 1 (length n) (and-true (leb 1 (length n)) (leb (length n) 32) (g .0) .0)
+
+-- so the name tells whether the text is one
+pub is-text : (k : Form) (t : List ℕ) → (length (nameOf k t) ≡ 0 → ⊥) → isText k t ≡ true
+is-text k t h = cases (isText k t) (λ e. e) (λ e. absurd (h (rw e)))
+
+pub no-text : (k : Form) (t : List ℕ) → length (nameOf k t) ≡ 0 → isText k t ≡ false
+no-text k t h = cases (isText k t) (λ e. let q : length (nameIn k (humanIn (map lower t))) ≡ 0 = rw e at h in absurd (omega (arith, text-named k t e))) (λ e. e)
+
+-- where all else holds, the human part decides
+pub human-decides : (k : Form) (t : List ℕ) → length t ≤ 1024 → isCased k t ≡ true → isChecked (map lower t) ≡ true → isWhole (payloadIn (map lower t)) ≡ true →
+    nameOf k t ≡ nameOr k (map lower (take (separator t) t))
+unfolding isText
+human-decides k t n a b c = rw (le-leb (length t) 1024 n, a, b, c) (ap (nameOr k) (human-lower t))
+
+-- ---- the three answers
+
+module _ (k : Form) (t o : List ℕ) where
+  pub reads-not : isText k t ≡ false → (refused 16 ≡ readAnswer (parse k t) o) × ([] ≡ readName (parse k t) o) × (o ≡ readBuffer (parse k t) o)
+  reads-not e = rw e (refl, refl, refl)
+
+  pub reads-short : (p : List ℕ) → isText k t ≡ true → p ≡ bytes (payloadIn (map lower t)) → length o < length p →
+      (refused 15 ≡ readAnswer (parse k t) o) × ([] ≡ readName (parse k t) o) × (o ≡ readBuffer (parse k t) o)
+  reads-short p e q h = rw (e, ← q, lt-ltb (length o) (length p) h) (refl, refl, refl)
+
+  pub reads : (p : List ℕ) → isText k t ≡ true → p ≡ bytes (payloadIn (map lower t)) → length p ≤ length o →
+      (accepted (length p) ≡ readAnswer (parse k t) o) × (nameOf k t ≡ readName (parse k t) o) × (p ++ drop (length p) o ≡ readBuffer (parse k t) o)
+  reads p e q h = rw (e, ← q, le-ltb (length o) (length p) h) (refl, refl, refl)
+
+-- the mark
+pub mark-none : (k : Form) (t plugin : List ℕ) → isText k t ≡ false → 16 ≡ markOf (parse k t) plugin
+mark-none k t plugin e = rw e
+
+pub mark-is : (k : Form) (t plugin : List ℕ) → isText k t ≡ true → pick (same (map lower plugin) (nameOf k t)) 0 16 ≡ markOf (parse k t) plugin
+mark-is k t plugin e = rw e

@@ -19,7 +19,10 @@ use Rattle.refusal.proofs.Laws.Same.{same-refl, same-eq}
 use Rattle.bech32.specs.Charset.{valueOf, characterOf, isUpper, isLower, lower, upper}
 use Rattle.bech32.specs.Checksum.{areSymbols, polymod, checksum}
 use Rattle.bech32.specs.Regroup.{symbols, bytes, isWhole}
-use Rattle.bech32.specs.Text.{recipient, identity, isNameByte, isName, Form, humanPart, expanded, plainText, textOf, isCased, isNotOne, separator, nameIn, Parsed, parsed, none, humanIn, valuesIn, payloadIn, isChecked, isHuman, isText, parse}
+use Rattle.bech32.specs.Text.{recipient, identity, isNameByte, isName, Form, humanPart, expanded, plainText, textOf, isCased, inCase, noUpper, isNotOne, separator, nameIn, Parsed, parsed, none, humanIn, valuesIn, payloadIn, isChecked, isHuman, isText, parse}
+use Rattle.bech32.specs.Calls.{formOf}
+use Rattle.bech32.specs.declared.charset.Kind.{Kind}
+use Rattle.bech32.specs.declared.charset.Kind.the-variants.{Recipient, Identity}
 use Rattle.bech32.proofs.Laws.Charset.{character-value, value-character, character-plain, lower-upper, upper-lower, lower-plain, upper-plain, upper-not-lower}
 use Rattle.bech32.proofs.Laws.Checksum.{polymod-append, checksum-closes, checksum-unique, six-lt}
 use Rattle.bech32.proofs.Laws.Regroup.{bytes-symbols, symbols-bytes, symbols-small, symbols-whole, bytes-are}
@@ -158,19 +161,29 @@ module _ (h vs : List ℕ) (a : areSymbols vs ≡ true) where
       ap (λ m. map valueOf (drop (m + 1) (h ++ 49 ∷ map characterOf vs))) sep-at
       ∙ ap (λ l. map valueOf (drop (length h + 1) l)) e ∙ ap (map valueOf) (drop-at (h ++ (49 ∷ [])) (map characterOf vs) (length h + 1) n) ∙ values-characters vs a
 
+-- no letter of a human part is in upper case
+human-plain : (k : Form) → Plain k → (name : List ℕ) → all isNameByte name ≡ true → noUpper (humanPart k name) ≡ true
+human-plain k pl name hn =
+    all-append (λ b. not (isUpper b)) (k .front ++ name) (k .back)
+    ∙ true-and (noUpper (k .front ++ name)) (noUpper (k .back))
+    (all-append (λ b. not (isUpper b)) (k .front) name
+    ∙ true-and (noUpper (k .front)) (noUpper name) (pl .front) (all-wider isNameByte (λ b. not (isUpper b)) name-byte-plain name hn))
+    (pl .back)
+
+-- put into the form's case and lowered, it is what it was
+pub human-lowered : (k : Form) → Plain k → (name : List ℕ) → isName name ≡ true → map lower (inCase k (humanPart k name)) ≡ humanPart k name
+unfolding isName
+human-lowered k pl name hn =
+    let b = and-true (leb 1 (length name) && leb (length name) 32) (all isNameByte name) hn in
+    cased k (humanPart k name) (human-plain k pl name (b .1)) .1
+
 -- no letter of a text in lower case is in upper case
 text-plain : (k : Form) → Plain k → (name vs : List ℕ) → all isNameByte name ≡ true → areSymbols vs ≡ true →
     all (λ b. not (isUpper b)) (humanPart k name ++ 49 ∷ map characterOf vs) ≡ true
 unfolding all isUpper
 text-plain k pl name vs hn a =
     all-append (λ b. not (isUpper b)) (humanPart k name) (49 ∷ map characterOf vs)
-    ∙ true-and (all (λ b. not (isUpper b)) (humanPart k name)) (all (λ b. not (isUpper b)) (49 ∷ map characterOf vs))
-    (all-append (λ b. not (isUpper b)) (k .front ++ name) (k .back)
-    ∙ true-and (all (λ b. not (isUpper b)) (k .front ++ name)) (all (λ b. not (isUpper b)) (k .back))
-    (all-append (λ b. not (isUpper b)) (k .front) name
-    ∙ true-and (all (λ b. not (isUpper b)) (k .front)) (all (λ b. not (isUpper b)) name) (pl .front) (all-wider isNameByte (λ b. not (isUpper b)) name-byte-plain name hn))
-    (pl .back))
-    (characters-plain vs a .1)
+    ∙ true-and (noUpper (humanPart k name)) (noUpper (49 ∷ map characterOf vs)) (human-plain k pl name hn) (characters-plain vs a .1)
 
 -- the checksum of a text holds
 checked-is : (h v : List ℕ) → areSymbols v ≡ true → isChecked (plainText h v) ≡ true
@@ -256,7 +269,8 @@ checked-text l e =
     let u : cs ≡ checksum (polymod 1 (expanded h ++ pay)) = checksum-unique (polymod 1 (expanded h ++ pay)) cs (sym2 .1) (simp length-drop (omega arith)) one in
     separator-split l s ∙ ap (λ x. h ++ 49 ∷ x) (sym (characters-values (drop (separator l + 1) l) (b .1)) ∙ ap (map characterOf) (sym split ∙ ap (λ x. pay ++ x) u))
 
-payload-symbols : (l : List ℕ) → isChecked l ≡ true → areSymbols (payloadIn l) ≡ true
+-- the payload's values are symbols
+pub payload-symbols : (l : List ℕ) → isChecked l ≡ true → areSymbols (payloadIn l) ≡ true
 unfolding isChecked
 payload-symbols l e =
     let a = and-true (ltb (separator l) (length l) && leb 6 (length (valuesIn l)) && areSymbols (valuesIn l)) (eqb (polymod 1 (expanded (humanIn l) ++ valuesIn l)) 1) e in
@@ -315,3 +329,7 @@ recipient-plain = record { front = refl; back = refl }
 pub identity-plain : Plain identity
 unfolding all isUpper
 identity-plain = record { front = refl; back = refl }
+
+pub form-plain : (k : Kind) → Plain (formOf k)
+form-plain Recipient = recipient-plain
+form-plain Identity = identity-plain

@@ -7,7 +7,8 @@ use borrow.Author.Needs.{needs}
 use denote.Ref.{now}
 use Rattle.bech32.specs.Checksum.{polymod, stepped}
 use Rattle.bech32.specs.Charset.{lower}
-use Rattle.bech32.proofs.Laws.Folds.{polymod-at, polymod-end, map-map, map-id, lower-low}
+use Rattle.bech32.proofs.Laws.Folds.{polymod-at, polymod-end}
+use Rattle.bech32.proofs.Laws.Maps.{map-map}
 use Rattle.bech32.proofs.checksum.fold_high.Statement.{statement}
 use Rattle.bech32.proofs.checksum.fold_high.Tie as tie
 use Rattle.bech32.proofs.checksum.fold_high.Reads as reads

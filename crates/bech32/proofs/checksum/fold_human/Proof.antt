@@ -31,7 +31,7 @@ fold-low-requires c κs = search needs
 -- src/checksum.rt:75:1
 returns : tie.Need-returns
 unfolding polymod
-returns c = 
+returns c =
     let h = map lower (now (c .before .before .before .before .args .human)) in
     rw (c .fold-low .ensures, c .before .step .ensures, c .before .before .fold-high .ensures) (sym (polymod-append (map (λ b. b / 32) h) (0 ∷ map (λ b. b % 32) h) 1))
 

@@ -6,7 +6,8 @@ use native.Mathlib.Omega.{arith}
 use borrow.Author.Needs.{needs}
 use denote.Ref.{now}
 use Rattle.bech32.specs.Checksum.{polymod, stepped}
-use Rattle.bech32.proofs.Laws.Folds.{polymod-at, polymod-end, map-map, map-id, lower-low}
+use Rattle.bech32.proofs.Laws.Folds.{polymod-at, polymod-end}
+use Rattle.bech32.proofs.Laws.Maps.{map-id}
 use Rattle.bech32.proofs.checksum.fold_symbols.Statement.{statement}
 use Rattle.bech32.proofs.checksum.fold_symbols.Tie as tie
 use Rattle.bech32.proofs.checksum.fold_symbols.Reads as reads

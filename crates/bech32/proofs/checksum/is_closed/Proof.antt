@@ -39,7 +39,7 @@ look-up-requires c κs = c .before .before .before .before .pre
 
 -- src/checksum.rt:105:13
 returns : tie.Need-returns Inv-loop μ-loop
-returns c = 
+returns c =
     let e : ltb (valueAt (getD (now (c .before .before .before .before .before .before .args .text)) (c .before .before .before .before .loop .i) 0)) 32 ≡ false = le-ltb (valueAt (getD (now (c .before .before .before .before .before .before .args .text)) (c .before .before .before .before .loop .i) 0)) 32 (omega (arith, c .before .look-up .ensures)) in
     sym (c .before .before .before .before .loop .inv .1 ∙ closes-at valueAt (now (c .before .before .before .before .before .before .args .text)) (c .before .before .before .before .loop .i) (c .before .before .before .before .loop .state) (omega arith) ∙ rw e)
 
@@ -61,7 +61,7 @@ loop-less c = search needs
 
 -- src/checksum.rt:102:5
 loop-again : tie.Need-loop-again Inv-loop μ-loop
-loop-again c = 
+loop-again c =
     let e : ltb (valueAt (getD (now (c .before .before .before .before .before .before .before .before .args .text)) (c .before .before .before .before .before .before .loop .i) 0)) 32 ≡ true = lt-ltb (valueAt (getD (now (c .before .before .before .before .before .before .before .before .args .text)) (c .before .before .before .before .before .before .loop .i) 0)) 32 (omega (arith, c .before .before .before .look-up .ensures)) in
     (search needs, rw (c .step .ensures, c .before .wide .ensures, c .before .before .before .look-up .ensures) (c .before .before .before .before .before .before .loop .inv .1 ∙ closes-at valueAt (now (c .before .before .before .before .before .before .before .before .args .text)) (c .before .before .before .before .before .before .loop .i) (c .before .before .before .before .before .before .loop .state) (omega arith) ∙ rw e))
 

@@ -37,7 +37,7 @@ shared-slice-read-if1 c = search needs
 
 -- src/parsing.rt:61:13
 returns : tie.Need-returns Inv-loop μ-loop
-returns c = 
+returns c =
     let n : c .before .before .before .loop .i - 1 + 1 ≡ c .before .before .before .loop .i = omega arith in
     sym (separator-here (now (c .before .before .before .before .args .text)) (c .before .before .before .loop .i - 1) (omega arith) (c .if1 .taken) (rw n (c .before .before .before .loop .inv .1)))
 
@@ -47,13 +47,13 @@ loop-less c = search needs
 
 -- src/parsing.rt:58:5
 loop-again : tie.Need-loop-again Inv-loop μ-loop
-loop-again c = 
+loop-again c =
     let n : c .before .before .before .loop .i - 1 + 1 ≡ c .before .before .before .loop .i = omega arith in
     (search needs, none-more (now (c .before .before .before .before .args .text)) (c .before .before .before .loop .i - 1) (omega arith) (c .if1 .left) (rw n (c .before .before .before .loop .inv .1)))
 
 -- src/parsing.rt:54:1
 returns-2 : tie.Need-returns-2 Inv-loop μ-loop
-returns-2 c = 
+returns-2 c =
     let n : c .before .loop .i ≡ 0 = omega arith in
     sym (separator-none (now (c .before .before .args .text)) (rw n at (c .before .loop .inv .1)))
 

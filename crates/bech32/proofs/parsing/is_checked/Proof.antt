@@ -27,7 +27,7 @@ sub-if1 c = rw (c .before .pre .1) (separator-le (now (c .before .args .text)))
 
 -- src/parsing.rt:74:9
 returns : tie.Need-returns
-returns c = 
+returns c =
     let t = now (c .before .before .args .text) in
     sym (checked-is t ∙ rw (lt-leb 7 (length t - separator t) (omega (arith, c .before .before .pre .1))))
 
@@ -61,12 +61,12 @@ is-closed-requires c κs = search needs
 
 -- src/parsing.rt:68:1
 returns-2 : tie.Need-returns-2
-returns-2 c = 
+returns-2 c =
     let t = now (c .before .before .before .before .before .before .args .text) in
     let at = c .before .before .before .before .before .before .args .at in
     let e = c .before .before .before .before .before .before .pre .1 in
     let q : isChecked (map lower t) ≡ closes (polymod 1 (expanded (map lower (take at t)))) (map valueAt (drop (at + 1) t)) =
-        rw e (checked-is t ∙ rw (le-leb 7 (length t - separator t) (omega (arith, e)))) in
+    rw e (checked-is t ∙ rw (le-leb 7 (length t - separator t) (omega (arith, e)))) in
     c .is-closed .ensures ∙ ap₂ closes (c .before .fold-human .ensures) (ap (map valueAt) (part-rest (at + 1) t)) ∙ sym q
 
 pub is-checked-spec : {M : Type 1} → statement M

@@ -72,7 +72,7 @@ same-length c = search needs
 
 -- src/writing.rt:20:1
 returns : tie.Need-returns
-returns c = 
+returns c =
     let o = now (c .before .before .args .out) in
     rw (c .six-zeros .ensures) (sets-eq (checksum (c .before .before .args .from)) o 0 (c .before .before .pre))
 

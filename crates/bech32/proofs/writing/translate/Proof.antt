@@ -11,7 +11,11 @@ use mathlib.Core.List.{append-nil}
 use Rattle.bech32.specs.Charset.{characterOf}
 use Rattle.bech32.specs.Text.{inCase}
 use Rattle.bech32.specs.Calls.{formOf}
-use Rattle.bech32.proofs.Laws.Writing.{front-next, in-case-length, symbol-at, translated}
+use Rattle.bech32.proofs.Laws.Writing.{front-next, translated}
+use Rattle.bech32.proofs.Laws.Human.{case-length}
+use Rattle.bech32.proofs.Laws.Groups.{symbol-at}
+use Rattle.bech32.proofs.Laws.Maps.{map-id}
+use Rattle.bech32.specs.Checksum.{areSymbols}
 use Rattle.bech32.proofs.writing.translate.Statement.{statement}
 use Rattle.bech32.proofs.writing.translate.Tie as tie
 use Rattle.bech32.proofs.writing.translate.Reads as reads
@@ -35,11 +39,11 @@ slice-read-character c = search needs
 
 -- src/writing.rt:53:18
 character-requires : tie.Need-character-requires Inv-loop μ-loop
-character-requires c κs = 
+character-requires c κs =
     let out₀ = now (c .before .before .before .before .args .out) in
     let k = formOf (c .before .before .before .before .args .kind) in
-    let e = front-next (inCase k (map characterOf out₀)) (c .before .before .loop .out) out₀ (c .before .before .loop .i) (c .before .before .loop .inv .2) (omega (arith, in-case-length k (map characterOf out₀), length-map out₀ characterOf)) in
-    (c .before .before .before .before .pre .0, rw e (symbol-at out₀ (c .before .before .loop .i) (c .before .before .before .before .pre .1) (omega arith)))
+    let e = front-next (inCase k (map characterOf out₀)) (c .before .before .loop .out) out₀ (c .before .before .loop .i) (c .before .before .loop .inv .2) (omega (arith, case-length k (map characterOf out₀), length-map out₀ characterOf)) in
+    (c .before .before .before .before .pre .0, rw e (symbol-at (λ v. v) out₀ (c .before .before .loop .i) (ap areSymbols (map-id out₀) ∙ c .before .before .before .before .pre .1) (omega arith)))
 
 -- src/writing.rt:53:9
 slice-write-out : tie.Need-slice-write-out Inv-loop μ-loop
@@ -55,7 +59,7 @@ loop-less c = search needs
 
 -- src/writing.rt:52:5
 loop-again : tie.Need-loop-again Inv-loop μ-loop
-loop-again c = 
+loop-again c =
     (search needs, simp length-set (c .before .before .before .loop .inv .1), translated (formOf (c .before .before .before .before .before .args .kind)) (c .before .before .before .loop .out) (now (c .before .before .before .before .before .args .out)) (c .before .before .before .loop .i) (c .character .result) (c .before .before .before .loop .inv .2) (omega arith) (c .character .ensures))
 
 -- src/writing.rt:46:1
@@ -64,10 +68,10 @@ same-length c = c .before .loop .inv .1
 
 -- src/writing.rt:46:1
 returns : tie.Need-returns Inv-loop μ-loop
-returns c = 
+returns c =
     let out₀ = now (c .before .before .before .args .out) in
     let w = inCase (formOf (c .before .before .before .args .kind)) (map characterOf out₀) in
-    let n : length w ≡ length out₀ = in-case-length (formOf (c .before .before .before .args .kind)) (map characterOf out₀) ∙ length-map out₀ characterOf in
+    let n : length w ≡ length out₀ = case-length (formOf (c .before .before .before .args .kind)) (map characterOf out₀) ∙ length-map out₀ characterOf in
     let i = c .before .loop .i in
     c .before .loop .inv .2 ∙ ap₂ (λ a b. a ++ b) (take-all i w (omega arith)) (drop-of-length-le out₀ {i = i} (omega arith)) ∙ append-nil w
 
