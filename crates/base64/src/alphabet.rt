@@ -271,13 +271,13 @@ const VALUES: [u8; 256] = [
 const CHARACTERS: [u8; 64] = *b"ABCDEFGHIJKLMNOPQRSTUVWXYZabcdefghijklmnopqrstuvwxyz0123456789+/";
 
 // The tables by value: a caller copies one once and lends it to each look-up.
-pub fn values() -> [u8; 256]
+pub(crate) fn values() -> [u8; 256]
     ensures { λ r. ⌜ Values r ⌝ }
 {
     VALUES
 }
 
-pub fn alphabet_characters() -> [u8; 64]
+pub(crate) fn alphabet_characters() -> [u8; 64]
     ensures { λ r. ⌜ Characters r ⌝ }
 {
     CHARACTERS
@@ -350,7 +350,7 @@ pub fn ends_well(n: usize, last: u8) -> bool
 }
 
 // The value of one byte, with no table.
-pub fn value(b: u8) -> u8
+pub(crate) fn value(b: u8) -> u8
     ensures { λ r. ⌜ r ≡ valueOf b ⌝ }
 {
     if (65 <= b) & (b <= 90) {

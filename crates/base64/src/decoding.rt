@@ -76,7 +76,7 @@ fn look_up(table: &[u8; 256], b: u8) -> u8
 }
 
 // The bytes of a text at the front of `out`, which is long enough; any text.
-pub fn decode_into(table: &[u8; 256], text: &[u8], out: &mut [u8])
+pub(crate) fn decode_into(table: &[u8; 256], text: &[u8], out: &mut [u8])
     requires { ⌜ Values (now table) ⌝ }
     requires { ⌜ decodedSize (length (now text)) ≤ length (now out) ⌝ }
     ensures { λ _. ⌜ now (out .exit) ≡ decoded (now (text .entry)) ++ drop (length (decoded (now (text .entry)))) (now (out .entry)) ⌝ }

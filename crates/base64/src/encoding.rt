@@ -12,7 +12,7 @@ use refusal::Refusal;
 use refusal::Written;
 
 // How many characters some bytes make.
-pub fn encoded_length(bytes: &[u8]) -> usize
+pub(crate) fn encoded_length(bytes: &[u8]) -> usize
     ensures { λ r. ⌜ r ≡ length (encoded (now (bytes .entry))) ⌝ }
 {
     let n = bytes.len();
@@ -69,7 +69,7 @@ fn fourth(table: &[u8; 64], c: u8) -> u8
 }
 
 // The characters of some bytes at the front of `out`, which is long enough.
-pub fn encode_into(table: &[u8; 64], bytes: &[u8], out: &mut [u8])
+pub(crate) fn encode_into(table: &[u8; 64], bytes: &[u8], out: &mut [u8])
     requires { ⌜ Characters (now table) ⌝ }
     requires { ⌜ encodedSize (length (now bytes)) ≤ length (now out) ⌝ }
     ensures { λ _. ⌜ now (out .exit) ≡ encoded (now (bytes .entry)) ++ drop (length (encoded (now (bytes .entry)))) (now (out .entry)) ⌝ }

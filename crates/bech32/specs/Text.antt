@@ -11,10 +11,11 @@ use Rattle.bech32.specs.Charset.{valueOf, characterOf, isUpper, isLower,
 use Rattle.bech32.specs.Checksum.{areSymbols, polymod, checksum}
 use Rattle.bech32.specs.Regroup.{symbols, bytes, isWhole}
 
--- NAME: 1 to 32 of a to z, 0 to 9, "+", "-", ".", "_"
+-- a byte of NAME: a to z, 0 to 9, "+", "-", ".", "_"
 unfoldable pub isNameByte : ℕ → Bool
 isNameByte b = isLower b || leb 48 b && leb b 57 || eqb b 43 || eqb b 45 || eqb b 46 || eqb b 95
 
+-- NAME: 1 to 32 of these
 unfoldable pub isName : List ℕ → Bool
 isName n = leb 1 (length n) && leb (length n) 32 && all isNameByte n
 
@@ -54,10 +55,11 @@ textOf k name payload = inCase k (plainText (humanPart k name) (symbols payload)
 
 -- ---- reading
 
--- no letter in lower case, no letter in upper case
+-- no letter in lower case
 abbrev pub noLower : List ℕ → Bool
 noLower t = all (λ b. not (isLower b)) t
 
+-- no letter in upper case
 abbrev pub noUpper : List ℕ → Bool
 noUpper t = all (λ b. not (isUpper b)) t
 
@@ -83,10 +85,11 @@ pub data Parsed : Type 0 where
   parsed : List ℕ → List ℕ → Parsed
   none : Parsed
 
--- the parts of a text in lower case: before the separator, and the values of the characters behind it
+-- the human part of a text in lower case: what stands before the separator
 abbrev pub humanIn : List ℕ → List ℕ
 humanIn l = take (separator l) l
 
+-- the values of the characters behind it
 abbrev pub valuesIn : List ℕ → List ℕ
 valuesIn l = map valueOf (drop (separator l + 1) l)
 

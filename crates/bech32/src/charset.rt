@@ -277,13 +277,13 @@ const VALUES: [u8; 256] = [
 ];
 
 // The tables by value: a caller copies one once and lends it to each look-up.
-pub fn values() -> [u8; 256]
+pub(crate) fn values() -> [u8; 256]
     ensures { λ r. ⌜ Values r ⌝ }
 {
     VALUES
 }
 
-pub fn characters(kind: Kind) -> [u8; 32]
+pub(crate) fn characters(kind: Kind) -> [u8; 32]
     ensures { λ r. ⌜ Characters (formOf kind) r ⌝ }
 {
     match kind {
@@ -299,7 +299,7 @@ fn wide(b: u8) -> usize
 }
 
 // The value of a byte, by the table.
-pub fn look_up(table: &[u8; 256], b: u8) -> u8
+pub(crate) fn look_up(table: &[u8; 256], b: u8) -> u8
     requires { ⌜ Values (now table) ⌝ }
     ensures { λ r. ⌜ r ≡ valueAt b ⌝ }
 {
@@ -307,7 +307,7 @@ pub fn look_up(table: &[u8; 256], b: u8) -> u8
 }
 
 // A value's character, by the table.
-pub fn character(kind: Kind, table: &[u8; 32], v: u8) -> u8
+pub(crate) fn character(kind: Kind, table: &[u8; 32], v: u8) -> u8
     requires { ⌜ Characters (formOf kind) (now table) ⌝ }
     requires { ⌜ v < 32 ⌝ }
     ensures { λ r. ⌜ r ≡ casedByte (formOf kind) (characterOf v) ⌝ }
@@ -315,20 +315,20 @@ pub fn character(kind: Kind, table: &[u8; 32], v: u8) -> u8
     table[wide(v)]
 }
 
-pub fn is_upper(b: u8) -> bool
+pub(crate) fn is_upper(b: u8) -> bool
     ensures { λ r. ⌜ r ≡ isUpper b ⌝ }
 {
     (65 <= b) & (b <= 90)
 }
 
-pub fn is_lower(b: u8) -> bool
+pub(crate) fn is_lower(b: u8) -> bool
     ensures { λ r. ⌜ r ≡ isLower b ⌝ }
 {
     (97 <= b) & (b <= 122)
 }
 
 // A byte in lower case.
-pub fn lowered(b: u8) -> u8
+pub(crate) fn lowered(b: u8) -> u8
     ensures { λ r. ⌜ r ≡ lower b ⌝ }
 {
     if is_upper(b) {
@@ -338,7 +338,7 @@ pub fn lowered(b: u8) -> u8
 }
 
 // A byte in the kind's case.
-pub fn cased(kind: Kind, b: u8) -> u8
+pub(crate) fn cased(kind: Kind, b: u8) -> u8
     ensures { λ r. ⌜ r ≡ casedByte (formOf kind) b ⌝ }
 {
     match kind {

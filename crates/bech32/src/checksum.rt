@@ -72,7 +72,7 @@ fn fold_low(human: &[u8], from: u32) -> u32
 }
 
 // The state after a human part, taken in lower case.
-pub fn fold_human(human: &[u8]) -> u32
+pub(crate) fn fold_human(human: &[u8]) -> u32
     ensures { λ r. ⌜ r ≡ polymod 1 (expanded (map lower (now (human .entry)))) ⌝ }
 {
     let high = fold_high(human);
@@ -80,7 +80,7 @@ pub fn fold_human(human: &[u8]) -> u32
 }
 
 // The state after some symbols.
-pub fn fold_symbols(symbols: &[u8], from: u32) -> u32
+pub(crate) fn fold_symbols(symbols: &[u8], from: u32) -> u32
     ensures { λ r. ⌜ r ≡ polymod from (now (symbols .entry)) ⌝ }
 {
     let mut state = from;
@@ -93,7 +93,7 @@ pub fn fold_symbols(symbols: &[u8], from: u32) -> u32
 }
 
 // Whether some bytes are all characters and bring the state to 1.
-pub fn is_closed(table: &[u8; 256], text: &[u8], from: u32) -> bool
+pub(crate) fn is_closed(table: &[u8; 256], text: &[u8], from: u32) -> bool
     requires { ⌜ Values (now table) ⌝ }
     ensures { λ r. ⌜ r ≡ closes from (map valueAt (now (text .entry))) ⌝ }
 {

@@ -20,7 +20,7 @@ pub struct Name {
 }
 
 // No name.
-pub fn nameless() -> Name
+pub(crate) fn nameless() -> Name
     ensures bytes { λ r. ⌜ r .bytes ≡ padded [] ⌝ }
     ensures length { λ r. ⌜ r .length ≡ 0 ⌝ }
 {
@@ -55,7 +55,7 @@ fn are_name_bytes(text: &[u8]) -> bool
 }
 
 // Whether a text is a plugin's name in lower case.
-pub fn is_name(text: &[u8]) -> bool
+pub(crate) fn is_name(text: &[u8]) -> bool
     ensures { λ r. ⌜ r ≡ isName (now (text .entry)) ⌝ }
 {
     if text.len() == 0 {
@@ -137,7 +137,7 @@ fn name_between(human: &[u8], front: &[u8], back: &[u8]) -> Name
 }
 
 // The name in a human part of the kind, in lower case; no name where there is none.
-pub fn name_in(kind: Kind, human: &[u8]) -> Name
+pub(crate) fn name_in(kind: Kind, human: &[u8]) -> Name
     ensures bytes { λ r. ⌜ r .bytes ≡ padded (nameOr (formOf kind) (map lower (now (human .entry)))) ⌝ }
     ensures length { λ r. ⌜ r .length ≡ length (nameOr (formOf kind) (map lower (now (human .entry)))) ⌝ }
 {
@@ -148,7 +148,7 @@ pub fn name_in(kind: Kind, human: &[u8]) -> Name
 }
 
 // How long the human part of a name of n bytes is.
-pub fn human_length(kind: Kind, n: usize) -> usize
+pub(crate) fn human_length(kind: Kind, n: usize) -> usize
     requires { ⌜ n ≤ 32 ⌝ }
     ensures { λ r. ⌜ r ≡ n + length (humanPart (formOf kind) []) ⌝ }
 {
@@ -183,7 +183,7 @@ fn put_words(kind: Kind, front: &[u8], name: &[u8], back: &[u8], out: &mut [u8])
 }
 
 // The human part of a name at the front of `out`, which is long enough.
-pub fn put_human(kind: Kind, name: &[u8], out: &mut [u8])
+pub(crate) fn put_human(kind: Kind, name: &[u8], out: &mut [u8])
     requires { ⌜ length (humanPart (formOf kind) (now name)) ≤ length (now out) ⌝ }
     ensures { λ _. ⌜ now (out .exit) ≡ inCase (formOf kind) (humanPart (formOf kind) (now (name .entry))) ++ drop (length (humanPart (formOf kind) (now (name .entry)))) (now (out .entry)) ⌝ }
 {

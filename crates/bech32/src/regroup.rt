@@ -10,14 +10,14 @@ ghost use Rattle.bech32.specs.Steps.{Values, valueAt, bytesSize, symbols
 use crate::charset::look_up;
 
 // How many bytes n symbols make.
-pub fn bytes_length(n: usize) -> usize
+pub(crate) fn bytes_length(n: usize) -> usize
     ensures { λ r. ⌜ r ≡ bytesSize n ⌝ }
 {
     n / 8 * 5 + n % 8 * 5 / 8
 }
 
 // How many symbols n bytes make.
-pub fn symbols_length(n: usize) -> usize
+pub(crate) fn symbols_length(n: usize) -> usize
     requires { ⌜ n ≤ 1024 ⌝ }
     ensures { λ r. ⌜ r ≡ symbolsSize n ⌝ }
 {
@@ -47,7 +47,7 @@ fn is_clear(left: usize, last: u8) -> bool
 }
 
 // Whether the symbols of some characters are whole bytes.
-pub fn is_whole(table: &[u8; 256], text: &[u8]) -> bool
+pub(crate) fn is_whole(table: &[u8; 256], text: &[u8]) -> bool
     requires { ⌜ Values (now table) ⌝ }
     ensures { λ r. ⌜ r ≡ isWhole (map valueAt (now (text .entry))) ⌝ }
 {
@@ -109,7 +109,7 @@ fn fifth(v: u8, w: u8) -> u8
 }
 
 // The bytes of some characters at the front of `out`, which is long enough.
-pub fn decode_into(table: &[u8; 256], text: &[u8], out: &mut [u8])
+pub(crate) fn decode_into(table: &[u8; 256], text: &[u8], out: &mut [u8])
     requires { ⌜ Values (now table) ⌝ }
     requires { ⌜ areSymbols (map valueAt (now text)) ≡ true ⌝ }
     requires { ⌜ bytesSize (length (now text)) ≤ length (now out) ⌝ }
@@ -187,7 +187,7 @@ fn decode_rest(table: &[u8; 256], text: &[u8], out: &mut [u8])
 }
 
 // The symbols of some bytes at the front of `out`, which is long enough.
-pub fn symbols_into(payload: &[u8], out: &mut [u8])
+pub(crate) fn symbols_into(payload: &[u8], out: &mut [u8])
     requires { ⌜ symbolsSize (length (now payload)) ≤ length (now out) ⌝ }
     ensures { λ _. ⌜ now (out .exit) ≡ symbols (now (payload .entry)) ++ drop (length (symbols (now (payload .entry)))) (now (out .entry)) ⌝ }
 {

@@ -15,7 +15,7 @@ fn is_graphic(b: u8) -> bool
 }
 
 // The end of the run of bytes from 33 to 126 that begins at `from`; `from` itself where that is no place of the text.
-pub fn graphic_end(text: &[u8], from: usize) -> usize
+pub(crate) fn graphic_end(text: &[u8], from: usize) -> usize
     ensures { λ r. ⌜ r ≡ from + run isGraphic (drop from (now (text .entry))) ⌝ }
 {
     let mut i = from;

@@ -1,14 +1,12 @@
 -- Laws of the alphabet and of case.
-use Prim.Native.Nat.{ℕ, zero, suc, _+_, _-_, _<_, _≤_}
-use mathlib.Core.Path.{_≡_, refl, sym, ap, _∙_}
-use mathlib.Core.Bool.{Bool, true, false, _&&_, not, false≢true}
-use mathlib.Core.List.{List, [], _∷_, map}
-use lib.Dec.{T, eqb, ltb, leb, eqb→eq}
+use Prim.Native.Nat.{ℕ, _+_, _-_, _<_, _≤_}
+use mathlib.Core.Path.{_≡_, sym, ap, _∙_}
+use mathlib.Core.Bool.{true, false, _&&_, not}
+use mathlib.Core.List.{List, [], _∷_}
+use lib.Dec.{eqb, leb, eqb→eq}
 use lib.ListN.{length, getD}
 use native.Mathlib.Omega.{arith}
-use borrow.Author.Tests.{eqb-true, leb-true, le-leb, lt-leb, ltb-true}
-use Rattle.refusal.specs.Pick.{pick}
-use Rattle.refusal.specs.Run.{all}
+use borrow.Author.Tests.{eqb-true, leb-true, le-leb, lt-leb}
 use Rattle.refusal.proofs.Laws.Below.{below}
 use Rattle.refusal.proofs.Laws.Booleans.{T-true, and-true, true-and, cases}
 use Rattle.bech32.specs.Charset.{charset, placeOf, valueOf, characterOf, isUpper, isLower, lower, upper}

@@ -1,17 +1,16 @@
 -- The checksum is linear, and six symbols can be chosen, in one way only, so that its final value is 1.
-use Prim.Native.Nat.{ℕ, zero, suc, _+_, _-_, _*_, _/_, _%_, _^_, _<_, _≤_}
+use Prim.Native.Nat.{ℕ, zero, suc, _+_, _*_, _/_, _%_, _<_, _≤_}
 use mathlib.Core.Path.{_≡_, refl, sym, ap, ap₂, _∙_}
-use mathlib.Core.Bool.{Bool, true, false, _&&_}
-use mathlib.Core.List.{List, [], _∷_, _++_, map}
-use lib.Bits.{bitXor, differ, xor-zero-l, xor-zero-r, xor-comm, xor-self, xor-shr, xor-mod, xor-block, xor-shifted, xor-lt}
+use mathlib.Core.Bool.{true}
+use mathlib.Core.List.{List, [], _∷_, _++_}
+use lib.Bits.{bitXor, differ, xor-zero-l, xor-zero-r, xor-self, xor-shr, xor-mod, xor-block, xor-shifted, xor-lt}
 use lib.Dec.{eqb, ltb}
 use lib.ListN.{length, drop, getD, drop-of-length-le}
 use native.Mathlib.Nat.{add-zero, div-div-eq-div-mul}
 use native.Mathlib.Omega.{arith}
-use borrow.Author.Tests.{eq-eqb, ne-eqb, ltb-true, lt-ltb, eqb-true, eqb-false}
-use Rattle.refusal.specs.Pick.{pick}
+use borrow.Author.Tests.{ltb-true, lt-ltb}
 use Rattle.refusal.specs.Run.{all}
-use Rattle.refusal.proofs.Laws.Booleans.{and-true, true-and, cases}
+use Rattle.refusal.proofs.Laws.Booleans.{and-true, cases}
 use Rattle.refusal.proofs.Laws.Lists.{drop-one}
 use Rattle.bech32.specs.Checksum.{areSymbols, constants, taken, folded, stepped, polymod, sixSymbols, checksum}
 use Rattle.bech32.proofs.Laws.Xor.{xor-assoc, xor-exchange, xor-right-comm, xor-cancel, xor-half, xor-odd}

@@ -17,7 +17,7 @@ use Rattle.bech32.specs.Charset.{valueOf, isUpper, lower}
 use Rattle.bech32.specs.Checksum.{areSymbols, polymod}
 use Rattle.bech32.specs.Regroup.{isWhole, bytes}
 use Rattle.bech32.specs.Calls.{readAnswer, readName, readBuffer, markOf}
-use Rattle.refusal.specs.Output.{Answer, refused, bytes as accepted}
+use Rattle.refusal.specs.Output.{refused, bytes as accepted}
 use Rattle.bech32.specs.Text.{Form, parse, humanPart, expanded, isNameByte, isName, isNotOne, isCased, separator, nameIn, humanIn, valuesIn, payloadIn, isChecked, isHuman, isText}
 use Rattle.bech32.specs.Steps.{valueAt, closes, nameOr, nameOf}
 use Rattle.bech32.proofs.Laws.Charset.{upper-bounds}

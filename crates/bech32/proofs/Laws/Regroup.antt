@@ -1,19 +1,17 @@
 -- Bits regrouped there and back.
-use Prim.Native.Nat.{ℕ, zero, suc, _+_, _-_, _*_, _/_, _%_, _^_, _<_, _≤_}
-use mathlib.Core.Path.{_≡_, refl, sym, ap, _∙_}
-use mathlib.Core.Bool.{Bool, true, false, _&&_, false≢true}
-use mathlib.Core.List.{List, [], _∷_, _++_}
-use lib.Dec.{eqb, ltb}
-use lib.ListN.{length, getD}
+use Prim.Native.Nat.{ℕ, suc, _+_, _-_, _*_, _/_, _%_, _<_}
+use mathlib.Core.Path.{_≡_, refl, sym, _∙_}
+use mathlib.Core.Bool.{true, false≢true}
+use mathlib.Core.List.{List, [], _∷_}
+use lib.ListN.{length}
 use lib.Pow.{areBytes}
 use native.Mathlib.Nat.{div-div-eq-div-mul}
 use native.Mathlib.Omega.{arith}
-use borrow.Author.Tests.{ltb-true, lt-ltb, eqb-true}
+use borrow.Author.Tests.{lt-ltb, eqb-true}
 use Rattle.refusal.specs.Run.{all}
 use Rattle.refusal.proofs.Laws.Bytes.{byte}
-use Rattle.refusal.proofs.Laws.Booleans.{and-true, true-and}
 use Rattle.bech32.specs.Checksum.{areSymbols}
-use Rattle.bech32.specs.Regroup.{symbols, bytes, isWhole, remaining, last}
+use Rattle.bech32.specs.Regroup.{symbols, bytes, isWhole}
 use Rattle.bech32.proofs.Laws.Checksum.{symbol-lt as symbol}
 
 -- the bytes of two symbols, each equation once

@@ -1,15 +1,15 @@
 -- Texts of recipients and identities: what is written reads back, and what is read would be written so again. Shown once, over the kind.
-use Prim.Native.Nat.{ℕ, zero, suc, _+_, _-_, _<_, _≤_}
+use Prim.Native.Nat.{ℕ, suc, _+_, _-_, _<_, _≤_}
 use mathlib.Core.Path.{_≡_, refl, sym, ap, ap₂, _∙_, subst}
-use mathlib.Core.Bool.{Bool, true, false, _&&_, _||_, not, false≢true, true≢false}
+use mathlib.Core.Bool.{true, false, _&&_, not, false≢true}
 use mathlib.Core.Logic.{_↔_}
 use mathlib.Core.List.{List, [], _∷_, _++_, map, append-assoc}
 use lib.Dec.{eqb, ltb, leb}
-use lib.ListN.{length, take, drop, getD, length-append, length-take, length-drop, length-map, take-append-drop}
+use lib.ListN.{length, take, drop, length-append, length-drop, take-append-drop}
 use lib.Pow.{areBytes}
-use lib.Seq.{take-at, drop-at, take-append-seam, drop-append-seam, length-take-le, drop-cons}
+use lib.Seq.{take-at, drop-at, take-append-seam, drop-append-seam}
 use native.Mathlib.Omega.{arith}
-use borrow.Author.Tests.{ne-eqb, lt-leb, eqb-true, eq-eqb, ltb-true, lt-ltb, leb-true, le-leb, not-true, not-false}
+use borrow.Author.Tests.{ne-eqb, lt-leb, eqb-true, eq-eqb, ltb-true, lt-ltb, leb-true, le-leb, not-true}
 use Rattle.refusal.specs.Pick.{pick}
 use Rattle.refusal.specs.Run.{all}
 use Rattle.refusal.specs.Same.{same}
@@ -19,11 +19,11 @@ use Rattle.refusal.proofs.Laws.Same.{same-refl, same-eq}
 use Rattle.bech32.specs.Charset.{valueOf, characterOf, isUpper, isLower, lower, upper}
 use Rattle.bech32.specs.Checksum.{areSymbols, polymod, checksum}
 use Rattle.bech32.specs.Regroup.{symbols, bytes, isWhole}
-use Rattle.bech32.specs.Text.{recipient, identity, isNameByte, isName, Form, humanPart, expanded, plainText, textOf, isCased, inCase, noUpper, isNotOne, separator, nameIn, Parsed, parsed, none, humanIn, valuesIn, payloadIn, isChecked, isHuman, isText, parse}
+use Rattle.bech32.specs.Text.{recipient, identity, isNameByte, isName, Form, humanPart, expanded, plainText, textOf, isCased, inCase, noUpper, isNotOne, separator, nameIn, parsed, none, humanIn, valuesIn, payloadIn, isChecked, isHuman, isText, parse}
 use Rattle.bech32.specs.Calls.{formOf}
 use Rattle.bech32.specs.declared.charset.Kind.{Kind}
 use Rattle.bech32.specs.declared.charset.Kind.the-variants.{Recipient, Identity}
-use Rattle.bech32.proofs.Laws.Charset.{character-value, value-character, character-plain, lower-upper, upper-lower, lower-plain, upper-plain, upper-not-lower}
+use Rattle.bech32.proofs.Laws.Charset.{character-value, value-character, character-plain, lower-upper, upper-lower, lower-plain, upper-not-lower}
 use Rattle.bech32.proofs.Laws.Checksum.{polymod-append, checksum-closes, checksum-unique, six-lt}
 use Rattle.bech32.proofs.Laws.Regroup.{bytes-symbols, symbols-bytes, symbols-small, symbols-whole, bytes-are}
 

@@ -1,7 +1,7 @@
 -- Writing a text as the code does: symbols first, then their characters in place.
-use Prim.Native.Nat.{ℕ, zero, suc, _+_, _-_, _<_, _≤_}
+use Prim.Native.Nat.{ℕ, suc, _+_, _-_, _<_, _≤_}
 use mathlib.Core.Path.{_≡_, refl, sym, ap, ap₂, _∙_}
-use mathlib.Core.Bool.{Bool, true, false, _&&_}
+use mathlib.Core.Bool.{true, false, _&&_}
 use mathlib.Core.List.{List, [], _∷_, _++_, map, append-assoc}
 use lib.Dec.{ltb, leb}
 use lib.ListN.{length, take, drop, getD, set, length-map, length-append}
@@ -9,21 +9,21 @@ use lib.Pow.{areBytes}
 use borrow.Author.Tests.{leb-true, lt-ltb, le-ltb, le-leb, lt-leb}
 use lib.Seq.{length-take-le, getD-append-add, getD-drop, take-set-le, take-at, set-at, append-snoc}
 use native.Mathlib.Omega.{arith}
-use Rattle.refusal.specs.Pick.{pick}
 use Rattle.refusal.specs.Run.{all}
 use Rattle.refusal.proofs.Laws.Booleans.{and-true, true-and, and-false-right, cases}
 use Rattle.refusal.proofs.Laws.Run.{all-append}
 use Rattle.refusal.proofs.Laws.Lists.{drop-one, part-rest, put-rest, overwrite-part}
-use Rattle.bech32.specs.Charset.{characterOf, isLower, upper}
+use Rattle.bech32.specs.Charset.{characterOf, isLower, lower, upper}
 use Rattle.bech32.specs.Checksum.{areSymbols, polymod, checksum}
 use Rattle.bech32.specs.Text.{Form, inCase, humanPart, expanded, textOf, isName, isNameByte}
 use Rattle.bech32.specs.Calls.{formOf, isWritable, writeAnswer, writeBuffer}
 use Rattle.bech32.specs.declared.charset.Kind.{Kind}
 use Rattle.bech32.specs.declared.charset.Kind.the-variants.{Recipient, Identity}
-use Rattle.refusal.specs.Output.{Answer, bytes, refused}
+use Rattle.refusal.specs.Output.{bytes, refused}
 use Rattle.bech32.specs.Steps.{casedByte, symbolsSize, withChecksum}
 use Rattle.bech32.specs.Regroup.{symbols}
 use Rattle.bech32.proofs.Laws.Checksum.{six-lt, polymod-append}
+use Rattle.bech32.proofs.Laws.Text.{Plain, human-lowered}
 use Rattle.bech32.proofs.Laws.Regroup.{symbols-small}
 use Rattle.bech32.proofs.Laws.Groups.{symbols-length}
 use Rattle.bech32.proofs.Laws.Maps.{map-map}
@@ -107,25 +107,36 @@ pub human-size : (k : Form) (name : List ℕ) → length (humanPart k name) ≡ 
 human-size k name = omega (arith, human-length k name, human-length k [])
 
 -- the human part is still there when the separator stands behind it
-pub human-front : (k : Form) (h a o₀ : List ℕ) (n : ℕ) → a ≡ inCase k h ++ drop n o₀ → n ≡ length h → take n (set a n 49) ≡ inCase k h
+human-front : (k : Form) (h a o₀ : List ℕ) (n : ℕ) → a ≡ inCase k h ++ drop n o₀ → n ≡ length h → take n (set a n 49) ≡ inCase k h
 human-front k h a o₀ n e q = take-set-le n a n 49 (omega arith) ∙ ap (take n) e ∙ take-at (inCase k h) (drop n o₀) n (case-length k h ∙ sym q)
 
+-- and so is the state behind it
+human-state : (k : Form) → Plain k → (name a o₀ : List ℕ) (n c : ℕ) → isName name ≡ true → a ≡ inCase k (humanPart k name) ++ drop n o₀ → n ≡ length (humanPart k name) →
+    c ≡ polymod 1 (expanded (map lower (take n (set a n 49)))) → c ≡ polymod 1 (expanded (humanPart k name))
+human-state k pl name a o₀ n c hn e q s =
+    s ∙ ap (λ x. polymod 1 (expanded (map lower x))) (human-front k (humanPart k name) a o₀ n e q) ∙ ap (λ x. polymod 1 (expanded x)) (human-lowered k pl name hn)
+
 -- human part, separator and characters put one behind the other are the text
-pub assembled : (k : Form) (name payload a o₀ part : List ℕ) (n : ℕ) → a ≡ inCase k (humanPart k name) ++ drop n o₀ → n ≡ length (humanPart k name) → n < length o₀ →
-    part ≡ charactersOf k (humanPart k name) payload ++ drop (symbolsSize (length payload) + 6) (take (length (set a n 49) - (n + 1)) (drop (n + 1) (set a n 49))) →
+pub assembled : (k : Form) → Plain k → (name payload a o₀ part : List ℕ) (m n c : ℕ) → isName name ≡ true → a ≡ inCase k (humanPart k name) ++ drop m o₀ →
+    m ≡ length (humanPart k name) → n ≡ m → n < length o₀ → c ≡ polymod 1 (expanded (map lower (take n (set a n 49)))) →
+    part ≡ inCase k (map characterOf (withChecksum c payload)) ++ drop (symbolsSize (length payload) + 6) (take (length (set a n 49) - (n + 1)) (drop (n + 1) (set a n 49))) →
     take (n + 1) (set a n 49) ++ (part ++ drop (length (set a n 49) - (n + 1)) (drop (n + 1) (set a n 49))) ≡
     textOf k name payload ++ drop (length (textOf k name payload)) o₀
-assembled k name payload a o₀ part n e q h p =
+assembled k pl name payload a o₀ part m n c hn e₀ q₀ z h r p₀ =
+    let e : a ≡ inCase k (humanPart k name) ++ drop n o₀ = e₀ ∙ ap (λ j. inCase k (humanPart k name) ++ drop j o₀) (sym z) in
+    let q : n ≡ length (humanPart k name) = z ∙ q₀ in
+    let d : c ≡ polymod 1 (expanded (humanPart k name)) = human-state k pl name a o₀ n c hn e q r in
+    let p = p₀ ∙ ap (λ s. inCase k (map characterOf (withChecksum s payload)) ++ drop (symbolsSize (length payload) + 6) (take (length (set a n 49) - (n + 1)) (drop (n + 1) (set a n 49)))) d in
     let f = inCase k (humanPart k name) in
-    let c = charactersOf k (humanPart k name) payload in
-    let m = symbolsSize (length payload) + 6 in
+    let l₀ = charactersOf k (humanPart k name) payload in
+    let j = symbolsSize (length payload) + 6 in
     let b = set a n 49 in
     let l : length f ≡ n = case-length k (humanPart k name) ∙ sym q in
     let g : length (f ++ (49 ∷ [])) ≡ n + 1 = omega (arith, length-append f (49 ∷ [])) in
     let s : b ≡ (f ++ (49 ∷ [])) ++ drop (n + 1) o₀ =
     ap (λ x. set x n 49) (e ∙ ap (λ x. f ++ x) (drop-one o₀ n 0 h)) ∙ set-at f (getD o₀ n 0) (drop (n + 1) o₀) 49 n l ∙ sym (append-snoc f 49 (drop (n + 1) o₀)) in
-    let t : n + 1 + m ≡ length (textOf k name payload) = omega (arith, text-length k name payload) in
-    put-behind b o₀ (f ++ (49 ∷ [])) c part (n + 1) m s g (characters-length k (humanPart k name) payload) p
+    let t : n + 1 + j ≡ length (textOf k name payload) = omega (arith, text-length k name payload) in
+    put-behind b o₀ (f ++ (49 ∷ [])) l₀ part (n + 1) j s g (characters-length k (humanPart k name) payload) p
     ∙ ap₂ (λ x y. x ++ drop y o₀) (sym (text-parts k name payload)) t
 
 -- ---- the three answers
@@ -137,9 +148,9 @@ module _ (k : Form) (name payload o : List ℕ) where
   pub writes-short : isWritable k name payload ≡ true → length o < length (textOf k name payload) → (refused 15 ≡ writeAnswer k name payload o) × (o ≡ writeBuffer k name payload o)
   writes-short e h = rw (e, lt-ltb (length o) (length (textOf k name payload)) h) (refl, refl)
 
-  pub writes : isWritable k name payload ≡ true → length (textOf k name payload) ≤ length o →
-      (bytes (length (textOf k name payload)) ≡ writeAnswer k name payload o) × (textOf k name payload ++ drop (length (textOf k name payload)) o ≡ writeBuffer k name payload o)
-  writes e h = rw (e, le-ltb (length o) (length (textOf k name payload)) h) (refl, refl)
+  pub writes : (n : ℕ) (x : List ℕ) → isWritable k name payload ≡ true → length (textOf k name payload) ≤ length o → length (textOf k name payload) ≡ n →
+      x ≡ textOf k name payload ++ drop (length (textOf k name payload)) o → (bytes n ≡ writeAnswer k name payload o) × (x ≡ writeBuffer k name payload o)
+  writes n x e h q z = rw (e, le-ltb (length o) (length (textOf k name payload)) h) (ap bytes (sym q), z)
 
   pub writable : isName name ≡ true → length (textOf k name payload) ≤ 1024 → isWritable k name payload ≡ true
   writable e h = true-and (isName name) (leb (length (textOf k name payload)) 1024) e (le-leb (length (textOf k name payload)) 1024 h)

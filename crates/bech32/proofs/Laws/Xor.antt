@@ -1,9 +1,8 @@
 -- Exclusive or: associativity, and what follows from it.
-use Prim.Native.Nat.{ℕ, zero, suc, _+_, _*_, _/_, _%_, _^_, _<_}
+use Prim.Native.Nat.{ℕ, zero, suc, _+_, _*_, _/_, _%_, _<_}
 use mathlib.Core.Path.{_≡_, refl, sym, ap, ap₂, _∙_}
 use lib.Arith.{bin-ind}
-use lib.Bits.{bitXor, differ, xor-step, xor-zero-l, xor-zero-r, xor-comm, xor-self, xor-shr, xor-mod, xor-block}
-use native.Mathlib.Nat.{add-zero}
+use lib.Bits.{bitXor, differ, xor-step, xor-zero-l, xor-comm, xor-self}
 use native.Mathlib.Omega.{arith}
 
 -- of two digits

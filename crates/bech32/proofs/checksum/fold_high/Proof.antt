@@ -1,11 +1,11 @@
-use Prim.Native.Nat.{_+_, _-_, _/_, _%_, _≤_, _<_}
+use Prim.Native.Nat.{_-_, _/_, _≤_}
 use mathlib.Core.Path.{_≡_, refl, sym, ap, _∙_}
 use mathlib.Core.List.{map}
-use lib.ListN.{length, drop, getD}
+use lib.ListN.{length, drop}
 use native.Mathlib.Omega.{arith}
 use borrow.Author.Needs.{needs}
 use denote.Ref.{now}
-use Rattle.bech32.specs.Checksum.{polymod, stepped}
+use Rattle.bech32.specs.Checksum.{polymod}
 use Rattle.bech32.specs.Charset.{lower}
 use Rattle.bech32.proofs.Laws.Folds.{polymod-at, polymod-end}
 use Rattle.bech32.proofs.Laws.Maps.{map-map}

@@ -1,8 +1,6 @@
-use Prim.Native.Nat.{_+_, _-_, _/_, _%_, _≤_, _<_}
-use mathlib.Core.Path.{_≡_, refl, sym, ap, _∙_}
+use Prim.Native.Nat.{_/_, _%_}
+use mathlib.Core.Path.{sym}
 use mathlib.Core.List.{_∷_, map}
-use lib.ListN.{length, drop, getD}
-use native.Mathlib.Omega.{arith}
 use denote.Ref.{now}
 use Rattle.bech32.specs.Checksum.{polymod}
 use Rattle.bech32.specs.Charset.{lower}

@@ -1,6 +1,5 @@
 use borrow.Author.Tests.{eq-eqb, ne-eqb}
 use Rattle.bech32.specs.Checksum.{taken}
-use borrow.Author.Needs.{needs}
 use Rattle.bech32.proofs.checksum.take_if.Statement.{statement}
 use Rattle.bech32.proofs.checksum.take_if.Tie as tie
 use Rattle.bech32.proofs.checksum.take_if.Reads as reads

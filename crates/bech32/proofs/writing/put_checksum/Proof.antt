@@ -1,8 +1,4 @@
-use Prim.Native.Nat.{_+_, _-_, _/_, _%_, _≤_, _<_}
-use mathlib.Core.Path.{_≡_, refl, sym, ap, ap₂, _∙_}
-use mathlib.Core.Bool.{Bool, true, false, _&&_, not}
-use mathlib.Core.List.{List, [], _∷_, _++_, map}
-use lib.ListN.{length, take, drop, getD, set, length-set}
+use lib.ListN.{length-set}
 use native.Mathlib.Omega.{arith}
 use denote.Ref.{now}
 use lib.Seq.{sets-eq}

@@ -1,12 +1,9 @@
-use Prim.Native.Nat.{_+_, _-_, _/_, _%_, _≤_, _<_}
-use mathlib.Core.Path.{_≡_, refl, sym, ap, ap₂, _∙_}
-use mathlib.Core.Bool.{Bool, true, false, _&&_, not}
-use mathlib.Core.List.{List, [], _∷_, _++_, map}
-use lib.ListN.{length, take, drop, getD, set, length-set}
+use Prim.Native.Nat.{_+_}
+use mathlib.Core.Path.{_≡_, sym, ap₂, _∙_}
+use lib.ListN.{length}
 use native.Mathlib.Omega.{arith}
 use denote.Ref.{now}
 use borrow.Author.Tests.{not-true, not-false}
-use Rattle.refusal.specs.Output.{bytes}
 use Rattle.bech32.specs.Text.{textOf}
 use Rattle.bech32.specs.Calls.{formOf}
 use Rattle.bech32.proofs.Laws.Writing.{name-short, form-short, human-size, text-length, writes-not, writes-short, writes, writable, nameless, too-long}
@@ -120,8 +117,7 @@ returns-5 c =
     let s = name-short name (sym (c .before .before .before .before .before .before .before .before .before .before .is-name .ensures) ∙ not-false (c .before .before .before .before .before .before .before .before .before .before .is-name .result) (c .before .before .before .before .before .before .before .before .before .if1 .left)) in
     let n : length (textOf k name payload) ≡ c .before .before .before .before .before .before .before .human-length .result + c .before .before .before .before .before .before .symbols-length .result + 7 =
     text-length k name payload ∙ ap₂ (λ x y. x + y + 7) (human-size k name ∙ sym (c .before .before .before .before .before .before .before .human-length .ensures)) (sym (c .before .before .before .before .before .before .symbols-length .ensures)) in
-    let q = writes k name payload o (writable k name payload o (sym (c .before .before .before .before .before .before .before .before .before .before .is-name .ensures) ∙ not-false (c .before .before .before .before .before .before .before .before .before .before .is-name .result) (c .before .before .before .before .before .before .before .before .before .if1 .left)) (omega arith)) (omega arith) in
-    (ap bytes (sym n) ∙ q .0, c .before .before .write-into .ensures ∙ q .1)
+    writes k name payload o _ _ (writable k name payload o (sym (c .before .before .before .before .before .before .before .before .before .before .is-name .ensures) ∙ not-false (c .before .before .before .before .before .before .before .before .before .before .is-name .result) (c .before .before .before .before .before .before .before .before .before .if1 .left)) (omega arith)) (omega arith) n (c .before .before .write-into .ensures)
 
 pub write-spec : {M : Type 1} → statement M
 write-spec =

@@ -1,20 +1,15 @@
-use Prim.Native.Nat.{_+_, _-_, _/_, _%_, _≤_, _<_}
-use mathlib.Core.Path.{_≡_, refl, sym, ap, ap₂, _∙_}
-use mathlib.Core.Bool.{Bool, true, false, _&&_, not}
-use mathlib.Core.List.{List, [], _∷_, _++_, map}
-use lib.ListN.{length, take, drop, getD, set, length-set, length-drop}
+use Prim.Native.Nat.{_+_, _-_}
+use mathlib.Core.Path.{_≡_, refl, sym, _∙_}
+use lib.ListN.{length, set, length-set, length-drop}
 use native.Mathlib.Omega.{arith}
 use denote.Ref.{now}
 use lib.Seq.{length-take-le}
 use borrow.Rule.Slice.PartMut.{same-len-mid}
 use Rattle.refusal.proofs.Laws.Lists.{part-rest}
-use Rattle.bech32.specs.Charset.{lower, characterOf}
-use Rattle.bech32.specs.Checksum.{polymod}
-use Rattle.bech32.specs.Text.{inCase, humanPart, expanded}
+use Rattle.bech32.specs.Text.{humanPart}
 use Rattle.bech32.specs.Calls.{formOf}
-use Rattle.bech32.specs.Steps.{symbolsSize, withChecksum}
-use Rattle.bech32.proofs.Laws.Text.{form-plain, human-lowered}
-use Rattle.bech32.proofs.Laws.Writing.{name-short, human-size, human-front, assembled}
+use Rattle.bech32.proofs.Laws.Text.{form-plain}
+use Rattle.bech32.proofs.Laws.Writing.{name-short, human-size, assembled}
 use borrow.Author.Needs.{needs}
 use Rattle.bech32.proofs.writing.write_into.Statement.{statement}
 use Rattle.bech32.proofs.writing.write_into.Tie as tie
@@ -120,16 +115,9 @@ returns c =
     let k = formOf (c .before .before .before .before .before .before .before .before .before .before .before .before .before .before .args .kind) in
     let name = now (c .before .before .before .before .before .before .before .before .before .before .before .before .before .before .args .name) in
     let n : c .before .before .before .before .before .before .before .before .before .before .human-length .result ≡ length (humanPart k name) = c .before .before .before .before .before .before .before .before .before .before .human-length .ensures ∙ sym (human-size k name) in
-    let payload = now (c .before .before .before .before .before .before .before .before .before .before .before .before .before .before .args .payload) in
-    let o₀ = now (c .before .before .before .before .before .before .before .before .before .before .before .before .before .before .args .out) in
-    let m = c .before .before .before .before .before .before .before .before .before .before .human-length .result in
-    let a = c .before .before .before .before .before .before .before .before .put-human .last .1 .1 .0 in
-    let h = humanPart k name in
-    let e : a ≡ inCase k h ++ drop m o₀ = c .before .before .before .before .before .before .before .before .put-human .ensures ∙ ap (λ j. inCase k h ++ drop j o₀) (sym n) in
-    let f : c .before .before .before .before .fold-human .result ≡ polymod 1 (expanded h) =
-    c .before .before .before .before .fold-human .ensures ∙ ap (λ x. polymod 1 (expanded (map lower x))) (human-front k h a o₀ m e n) ∙ ap (λ x. polymod 1 (expanded x)) (human-lowered k (form-plain (c .before .before .before .before .before .before .before .before .before .before .before .before .before .before .args .kind)) name (c .before .before .before .before .before .before .before .before .before .before .before .before .before .before .pre .0)) in
-    assembled k name payload a o₀ (c .before .before .put-characters .last .1 .1 .1 .0) m e n (omega (arith, c .before .before .before .before .before .before .before .before .before .before .before .before .before .before .pre .1 .1))
-    (c .before .before .put-characters .ensures ∙ ap (λ s. inCase k (map characterOf (withChecksum s payload)) ++ drop (symbolsSize (length payload) + 6) (take (length (set a m 49) - (m + 1)) (drop (m + 1) (set a m 49)))) f)
+    assembled k (form-plain (c .before .before .before .before .before .before .before .before .before .before .before .before .before .before .args .kind)) name (now (c .before .before .before .before .before .before .before .before .before .before .before .before .before .before .args .payload)) (c .before .before .before .before .before .before .before .before .put-human .last .1 .1 .0) (now (c .before .before .before .before .before .before .before .before .before .before .before .before .before .before .args .out))
+    (c .before .before .put-characters .last .1 .1 .1 .0) (length (humanPart k name)) (c .before .before .before .before .before .before .before .before .before .before .human-length .result) (c .before .before .before .before .fold-human .result) (c .before .before .before .before .before .before .before .before .before .before .before .before .before .before .pre .0) (c .before .before .before .before .before .before .before .before .put-human .ensures) refl n
+    (omega (arith, c .before .before .before .before .before .before .before .before .before .before .before .before .before .before .pre .1 .1)) (c .before .before .before .before .fold-human .ensures) (c .before .before .put-characters .ensures)
 
 pub write-into-spec : {M : Type 1} → statement M
 write-into-spec =
