@@ -4,13 +4,18 @@ use mathlib.Core.List.{List, [], _∷_}
 use Rattle.refusal.specs.Pick.{pick}
 use Rattle.refusal.specs.Same.{same}
 use Rattle.script.specs.declared.calls.Call.{Call}
-use Rattle.script.specs.declared.calls.Call.the-variants.{Stanza, Write, Index, Other}
+use Rattle.script.specs.declared.calls.Call.the-variants.{Stanza, Write, Index, Checksum, Recipient, Identity, WriteRecipient, WriteIdentity, Other}
 
 -- the calls that are built
 pub data Choice : Type 0 where
   stanza : Choice
   write : Choice
   index : Choice
+  checksum : Choice
+  recipient : Choice
+  identity : Choice
+  writeRecipient : Choice
+  writeIdentity : Choice
   other : Choice
 
 -- what the code's answer stands for
@@ -18,6 +23,11 @@ abbrev pub callSaid : Call → Choice
 callSaid Stanza = stanza
 callSaid Write = write
 callSaid Index = index
+callSaid Checksum = checksum
+callSaid Recipient = recipient
+callSaid Identity = identity
+callSaid WriteRecipient = writeRecipient
+callSaid WriteIdentity = writeIdentity
 callSaid Other = other
 
 -- the words "stanza", "write" and "index"
@@ -30,6 +40,30 @@ writeWord = 119 ∷ 114 ∷ 105 ∷ 116 ∷ 101 ∷ []
 abbrev pub indexWord : List ℕ
 indexWord = 105 ∷ 110 ∷ 100 ∷ 101 ∷ 120 ∷ []
 
+-- the words "checksum", "recipient", "identity", "write-recipient" and "write-identity"
+abbrev pub checksumWord : List ℕ
+checksumWord = 99 ∷ 104 ∷ 101 ∷ 99 ∷ 107 ∷ 115 ∷ 117 ∷ 109 ∷ []
+
+abbrev pub recipientWord : List ℕ
+recipientWord = 114 ∷ 101 ∷ 99 ∷ 105 ∷ 112 ∷ 105 ∷ 101 ∷ 110 ∷ 116 ∷ []
+
+abbrev pub identityWord : List ℕ
+identityWord = 105 ∷ 100 ∷ 101 ∷ 110 ∷ 116 ∷ 105 ∷ 116 ∷ 121 ∷ []
+
+abbrev pub writeRecipientWord : List ℕ
+writeRecipientWord = 119 ∷ 114 ∷ 105 ∷ 116 ∷ 101 ∷ 45 ∷ 114 ∷ 101 ∷ 99 ∷ 105 ∷ 112 ∷ 105 ∷ 101 ∷ 110 ∷ 116 ∷ []
+
+abbrev pub writeIdentityWord : List ℕ
+writeIdentityWord = 119 ∷ 114 ∷ 105 ∷ 116 ∷ 101 ∷ 45 ∷ 105 ∷ 100 ∷ 101 ∷ 110 ∷ 116 ∷ 105 ∷ 116 ∷ 121 ∷ []
+
+-- the call of Bech32 that a word names, byte for byte
+unfoldable pub chosenBech32 : List ℕ → Choice
+chosenBech32 w =
+    pick (same w checksumWord) checksum
+    (pick (same w recipientWord) recipient
+    (pick (same w identityWord) identity
+    (pick (same w writeRecipientWord) writeRecipient (pick (same w writeIdentityWord) writeIdentity other))))
+
 -- the call of a word, byte for byte
 unfoldable pub chosen : List ℕ → Choice
-chosen w = pick (same w stanzaWord) stanza (pick (same w writeWord) write (pick (same w indexWord) index other))
+chosen w = pick (same w stanzaWord) stanza (pick (same w writeWord) write (pick (same w indexWord) index (chosenBech32 w)))

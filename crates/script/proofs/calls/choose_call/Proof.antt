@@ -1,5 +1,5 @@
 -- `choose_call` meets its contract: the tests of `chosen` in their order.
-use mathlib.Core.Path.{_≡_, sym, _∙_}
+use mathlib.Core.Path.{_≡_}
 use mathlib.Core.Bool.{true, false}
 use denote.Ref.{now}
 use Rattle.refusal.specs.Same.{same}
@@ -18,7 +18,7 @@ returns : tie.Need-returns
 unfolding chosen
 returns c =
     let word = now (c .before .before .before .before .args .word) in
-    let a : same word stanzaWord ≡ true = sym (c .before .is-same .ensures) ∙ c .if1 .taken in
+    let a : same word stanzaWord ≡ true = cc in
     rw a
 
 slice-aggregate-is-same-2 : tie.Need-slice-aggregate-is-same-2
@@ -31,8 +31,8 @@ returns-2 : tie.Need-returns-2
 unfolding chosen
 returns-2 c =
     let word = now (c .before .before .before .before .before .before .before .args .word) in
-    let a : same word stanzaWord ≡ false = sym (c .before .before .before .before .is-same .ensures) ∙ c .before .before .before .if1 .left in
-    let b : same word writeWord ≡ true = sym (c .before .is-same2 .ensures) ∙ c .if2 .taken in
+    let a : same word stanzaWord ≡ false = cc in
+    let b : same word writeWord ≡ true = cc in
     rw (a, b)
 
 slice-aggregate-is-same-3 : tie.Need-slice-aggregate-is-same-3
@@ -45,19 +45,22 @@ returns-3 : tie.Need-returns-3
 unfolding chosen
 returns-3 c =
     let word = now (c .before .before .before .before .before .before .before .before .before .before .args .word) in
-    let a : same word stanzaWord ≡ false = sym (c .before .before .before .before .before .before .before .is-same .ensures) ∙ c .before .before .before .before .before .before .if1 .left in
-    let b : same word writeWord ≡ false = sym (c .before .before .before .before .is-same2 .ensures) ∙ c .before .before .before .if2 .left in
-    let d : same word indexWord ≡ true = sym (c .before .is-same3 .ensures) ∙ c .if3 .taken in
+    let a : same word stanzaWord ≡ false = cc in
+    let b : same word writeWord ≡ false = cc in
+    let d : same word indexWord ≡ true = cc in
     rw (a, b, d)
+
+choose-bech32-requires : tie.Need-choose-bech32-requires
+choose-bech32-requires c κs = search needs
 
 returns-4 : tie.Need-returns-4
 unfolding chosen
 returns-4 c =
-    let word = now (c .before .before .before .before .before .before .before .before .before .before .args .word) in
-    let a : same word stanzaWord ≡ false = sym (c .before .before .before .before .before .before .before .is-same .ensures) ∙ c .before .before .before .before .before .before .if1 .left in
-    let b : same word writeWord ≡ false = sym (c .before .before .before .before .is-same2 .ensures) ∙ c .before .before .before .if2 .left in
-    let d : same word indexWord ≡ false = sym (c .before .is-same3 .ensures) ∙ c .if3 .left in
-    rw (a, b, d)
+    let word = now (c .before .before .before .before .before .before .before .before .before .before .before .args .word) in
+    let a : same word stanzaWord ≡ false = cc in
+    let b : same word writeWord ≡ false = cc in
+    let d : same word indexWord ≡ false = cc in
+    rw (a, b, d) (c .choose-bech32 .ensures)
 
 pub choose-call-spec : {M : Type 1} → statement M
 choose-call-spec =
@@ -72,4 +75,5 @@ choose-call-spec =
     slice-aggregate-is-same-3
     is-same-requires-3
     returns-3
+    choose-bech32-requires
     returns-4)
