@@ -1,6 +1,7 @@
 -- Which call a line of a script makes, by its first word.
-use Prim.Native.Nat.{ℕ}
+use Prim.Native.Nat.{ℕ, suc}
 use mathlib.Core.List.{List, [], _∷_}
+use lib.ListN.{getD}
 use Rattle.refusal.specs.Pick.{pick}
 use Rattle.refusal.specs.Same.{same}
 use Rattle.script.specs.declared.calls.Call.{Call}
@@ -56,14 +57,18 @@ writeRecipientWord = 119 ∷ 114 ∷ 105 ∷ 116 ∷ 101 ∷ 45 ∷ 114 ∷ 101 
 abbrev pub writeIdentityWord : List ℕ
 writeIdentityWord = 119 ∷ 114 ∷ 105 ∷ 116 ∷ 101 ∷ 45 ∷ 105 ∷ 100 ∷ 101 ∷ 110 ∷ 116 ∷ 105 ∷ 116 ∷ 121 ∷ []
 
--- the call of Bech32 that a word names, byte for byte
-unfoldable pub chosenBech32 : List ℕ → Choice
-chosenBech32 w =
-    pick (same w checksumWord) checksum
-    (pick (same w recipientWord) recipient
-    (pick (same w identityWord) identity
-    (pick (same w writeRecipientWord) writeRecipient (pick (same w writeIdentityWord) writeIdentity other))))
+-- all of them, and their calls in the same order
+abbrev pub callWords : List (List ℕ)
+callWords = stanzaWord ∷ writeWord ∷ indexWord ∷ checksumWord ∷ recipientWord ∷ identityWord ∷ writeRecipientWord ∷ writeIdentityWord ∷ []
 
--- the call of a word, byte for byte
+abbrev pub calls : List Choice
+calls = stanza ∷ write ∷ index ∷ checksum ∷ recipient ∷ identity ∷ writeRecipient ∷ writeIdentity ∷ []
+
+-- the number of a word among words, byte for byte, counted from 0; how many they are where it is none of them
+unfoldable pub place : List ℕ → List (List ℕ) → ℕ
+place w [] = 0
+place w (v ∷ vs) = pick (same w v) 0 (suc (place w vs))
+
+-- the call of a word
 unfoldable pub chosen : List ℕ → Choice
-chosen w = pick (same w stanzaWord) stanza (pick (same w writeWord) write (pick (same w indexWord) index (chosenBech32 w)))
+chosen w = getD calls (place w callWords) other
