@@ -1,9 +1,11 @@
 -- The Bech32 checksum (document 01, "Recipients and identities": the constants, and the final value 1; BIP 173, "Checksum").
 use Prim.Native.Nat.{ℕ, _*_, _/_, _%_}
+use mathlib.Core.Bool.{Bool}
 use mathlib.Core.List.{List, [], _∷_}
 use lib.Bits.{bitXor}
-use lib.Dec.{eqb}
+use lib.Dec.{eqb, ltb}
 use Rattle.refusal.specs.Pick.{pick}
+use Rattle.refusal.specs.Run.{all}
 
 -- what the five top bits of the state fold in, the lowest first
 abbrev pub constants : List ℕ
@@ -21,6 +23,10 @@ folded c (g ∷ gs) bits = folded (bitXor c (taken (bits % 2) g)) gs (bits / 2)
 -- one symbol on: the low 25 bits move up by 5, the symbol comes in, and the 5 top bits choose the constants
 unfoldable pub stepped : ℕ → ℕ → ℕ
 stepped c v = folded (bitXor (c % 33554432 * 32) v) constants (c / 33554432)
+
+-- every value is a symbol, a number of 5 bits
+abbrev pub areSymbols : List ℕ → Bool
+areSymbols t = all (λ v. ltb v 32) t
 
 -- several symbols on
 unfoldable pub polymod : ℕ → List ℕ → ℕ

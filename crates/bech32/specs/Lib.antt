@@ -3,3 +3,5 @@ pub mod Charset
 pub mod Checksum
 pub mod Regroup
 pub mod Text
+pub mod Calls
+pub mod Steps

@@ -8,7 +8,7 @@ use Rattle.refusal.specs.Pick.{pick}
 use Rattle.refusal.specs.Run.{all}
 use Rattle.refusal.specs.Same.{same}
 use Rattle.bech32.specs.Charset.{valueOf, characterOf, isUpper, isLower, lower, upper}
-use Rattle.bech32.specs.Checksum.{polymod, checksum}
+use Rattle.bech32.specs.Checksum.{areSymbols, polymod, checksum}
 use Rattle.bech32.specs.Regroup.{symbols, bytes, isWhole}
 
 -- NAME: 1 to 32 of a to z, 0 to 9, "+", "-", ".", "_"
@@ -18,22 +18,22 @@ isNameByte b = isLower b || leb 48 b && leb b 57 || eqb b 43 || eqb b 45 || eqb 
 unfoldable pub isName : List ℕ → Bool
 isName n = leb 1 (length n) && leb (length n) 32 && all isNameByte n
 
--- a kind of text: what stands before and behind NAME in the human part, and whether it is all upper case
-pub record Kind : Type 0 where
+-- the form of a kind of text: what stands before and behind NAME in the human part, and whether it is all upper case
+pub record Form : Type 0 where
   pub front : List ℕ
   pub back : List ℕ
   pub capital : Bool
 
 -- a recipient: age1NAME, all lower case
-abbrev pub recipient : Kind
+abbrev pub recipient : Form
 recipient = record { front = 97 ∷ 103 ∷ 101 ∷ 49 ∷ []; back = []; capital = false }
 
 -- an identity: AGE-PLUGIN-NAME-, all upper case
-abbrev pub identity : Kind
+abbrev pub identity : Form
 identity = record { front = 97 ∷ 103 ∷ 101 ∷ 45 ∷ 112 ∷ 108 ∷ 117 ∷ 103 ∷ 105 ∷ 110 ∷ 45 ∷ []; back = 45 ∷ []; capital = true }
 
 -- the human part of a name, in lower case
-abbrev pub humanPart : Kind → List ℕ → List ℕ
+abbrev pub humanPart : Form → List ℕ → List ℕ
 humanPart k name = k .front ++ name ++ k .back
 
 -- the human part as the checksum takes it in: the high bits of each byte, 0, and the low five
@@ -44,16 +44,26 @@ expanded h = map (λ b. b / 32) h ++ 0 ∷ map (λ b. b % 32) h
 abbrev pub plainText : List ℕ → List ℕ → List ℕ
 plainText h vs = h ++ 49 ∷ map characterOf (vs ++ checksum (polymod 1 (expanded h ++ vs)))
 
+-- a text in lower case, put into the form's case
+abbrev pub inCase : Form → List ℕ → List ℕ
+inCase k l = pick (k .capital) (map upper l) l
+
 -- the text of a name and a payload
-abbrev pub textOf : Kind → List ℕ → List ℕ → List ℕ
-textOf k name payload =
-    pick (k .capital) (map upper (plainText (humanPart k name) (symbols payload))) (plainText (humanPart k name) (symbols payload))
+abbrev pub textOf : Form → List ℕ → List ℕ → List ℕ
+textOf k name payload = inCase k (plainText (humanPart k name) (symbols payload))
 
 -- ---- reading
 
+-- no letter in lower case, no letter in upper case
+abbrev pub noLower : List ℕ → Bool
+noLower t = all (λ b. not (isLower b)) t
+
+abbrev pub noUpper : List ℕ → Bool
+noUpper t = all (λ b. not (isUpper b)) t
+
 -- no letter of the wrong case
-abbrev pub isCased : Kind → List ℕ → Bool
-isCased k t = pick (k .capital) (all (λ b. not (isLower b)) t) (all (λ b. not (isUpper b)) t)
+abbrev pub isCased : Form → List ℕ → Bool
+isCased k t = pick (k .capital) (noLower t) (noUpper t)
 
 -- no separator among the bytes
 abbrev pub isNotOne : ℕ → Bool
@@ -65,7 +75,7 @@ separator [] = 0
 separator (b ∷ t) = pick (all isNotOne t) (pick (eqb b 49) 0 (suc (length t))) (suc (separator t))
 
 -- the human part holds NAME between what stands before and behind it
-abbrev pub nameIn : Kind → List ℕ → List ℕ
+abbrev pub nameIn : Form → List ℕ → List ℕ
 nameIn k h = take (length h - length (k .front) - length (k .back)) (drop (length (k .front)) h)
 
 -- what a text is read as: a name and a payload, or none
@@ -87,18 +97,18 @@ payloadIn l = take (length (valuesIn l) - 6) (valuesIn l)
 -- the checksum holds: a separator, behind it at least six characters of the alphabet, and the final value 1
 unfoldable pub isChecked : List ℕ → Bool
 isChecked l =
-    ltb (separator l) (length l) && leb 6 (length (valuesIn l)) && all (λ v. ltb v 32) (valuesIn l)
+    ltb (separator l) (length l) && leb 6 (length (valuesIn l)) && areSymbols (valuesIn l)
     && eqb (polymod 1 (expanded (humanIn l) ++ valuesIn l)) 1
 
 -- the human part is that of a name
-unfoldable pub isHuman : Kind → List ℕ → Bool
+unfoldable pub isHuman : Form → List ℕ → Bool
 isHuman k h = same h (humanPart k (nameIn k h)) && isName (nameIn k h)
 
 -- a text of the kind: at most 1,024 characters, none of the wrong case; the rest goes by its lower-case form
-unfoldable pub isText : Kind → List ℕ → Bool
+unfoldable pub isText : Form → List ℕ → Bool
 isText k t =
     leb (length t) 1024 && isCased k t && isChecked (map lower t) && isWhole (payloadIn (map lower t)) && isHuman k (humanIn (map lower t))
 
 -- reading a text
-abbrev pub parse : Kind → List ℕ → Parsed
+abbrev pub parse : Form → List ℕ → Parsed
 parse k t = pick (isText k t) (parsed (nameIn k (humanIn (map lower t))) (bytes (payloadIn (map lower t)))) none

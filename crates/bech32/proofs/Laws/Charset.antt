@@ -33,11 +33,11 @@ unfolding isUpper
 character-plain v h = T-true _ (below (λ v. isNotOne (characterOf v) && not (isUpper (characterOf v))) 32 tt v h)
 
 -- a letter's bounds, and back
-lower-bounds : (b : ℕ) → isLower b ≡ true → (97 ≤ b) × (b ≤ 122)
+pub lower-bounds : (b : ℕ) → isLower b ≡ true → (97 ≤ b) × (b ≤ 122)
 unfolding isLower
 lower-bounds b h = let a = and-true (leb 97 b) (leb b 122) h in (leb-true 97 b (a .0), leb-true b 122 (a .1))
 
-upper-bounds : (b : ℕ) → isUpper b ≡ true → (65 ≤ b) × (b ≤ 90)
+pub upper-bounds : (b : ℕ) → isUpper b ≡ true → (65 ≤ b) × (b ≤ 90)
 unfolding isUpper
 upper-bounds b h = let a = and-true (leb 65 b) (leb b 90) h in (leb-true 65 b (a .0), leb-true b 90 (a .1))
 

@@ -13,7 +13,7 @@ use Rattle.refusal.specs.Pick.{pick}
 use Rattle.refusal.specs.Run.{all}
 use Rattle.refusal.proofs.Laws.Booleans.{and-true, true-and, cases}
 use Rattle.refusal.proofs.Laws.Lists.{drop-one}
-use Rattle.bech32.specs.Checksum.{constants, taken, folded, stepped, polymod, sixSymbols, checksum}
+use Rattle.bech32.specs.Checksum.{areSymbols, constants, taken, folded, stepped, polymod, sixSymbols, checksum}
 use Rattle.bech32.proofs.Laws.Xor.{xor-assoc, xor-exchange, xor-right-comm, xor-cancel, xor-half, xor-odd}
 
 -- ---- one step
@@ -97,10 +97,6 @@ packed-le : (ds : List ℕ) (x : ℕ) → x ≤ packed x ds
 unfolding packed
 packed-le [] x = omega arith
 packed-le (d ∷ ds) x = omega (arith, packed-le ds (x * 32 + d))
-
--- symbols below 32
-abbrev pub areSymbols : List ℕ → Bool
-areSymbols ds = all (λ d. ltb d 32) ds
 
 -- the first symbol's bound, and the rest of the symbols
 pub symbol-lt : (d : ℕ) (t : List ℕ) → areSymbols (d ∷ t) ≡ true → (d < 32) × (areSymbols t ≡ true)

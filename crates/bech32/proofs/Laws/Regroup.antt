@@ -12,8 +12,9 @@ use borrow.Author.Tests.{ltb-true, lt-ltb, eqb-true}
 use Rattle.refusal.specs.Run.{all}
 use Rattle.refusal.proofs.Laws.Bytes.{byte}
 use Rattle.refusal.proofs.Laws.Booleans.{and-true, true-and}
+use Rattle.bech32.specs.Checksum.{areSymbols}
 use Rattle.bech32.specs.Regroup.{symbols, bytes, isWhole, remaining, last}
-use Rattle.bech32.proofs.Laws.Checksum.{areSymbols, symbol-lt as symbol}
+use Rattle.bech32.proofs.Laws.Checksum.{symbol-lt as symbol}
 
 -- the bytes of two symbols, each equation once
 first-byte : (a b : ℕ) → a < 256 → b < 256 → a / 8 * 8 + (a % 8 * 4 + b / 64) / 4 ≡ a

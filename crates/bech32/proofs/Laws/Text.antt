@@ -17,11 +17,14 @@ use Rattle.refusal.proofs.Laws.Booleans.{and-true, true-and, cases}
 use Rattle.refusal.proofs.Laws.Run.{all-append, all-wider}
 use Rattle.refusal.proofs.Laws.Same.{same-refl, same-eq}
 use Rattle.bech32.specs.Charset.{valueOf, characterOf, isUpper, isLower, lower, upper}
-use Rattle.bech32.specs.Checksum.{polymod, checksum}
+use Rattle.bech32.specs.Checksum.{areSymbols, polymod, checksum}
 use Rattle.bech32.specs.Regroup.{symbols, bytes, isWhole}
-use Rattle.bech32.specs.Text.{recipient, identity, isNameByte, isName, Kind, humanPart, expanded, plainText, textOf, isCased, isNotOne, separator, nameIn, Parsed, parsed, none, humanIn, valuesIn, payloadIn, isChecked, isHuman, isText, parse}
+use Rattle.bech32.specs.Text.{recipient, identity, isNameByte, isName, Form, humanPart, expanded, plainText, textOf, isCased, inCase, noUpper, isNotOne, separator, nameIn, Parsed, parsed, none, humanIn, valuesIn, payloadIn, isChecked, isHuman, isText, parse}
+use Rattle.bech32.specs.Calls.{formOf}
+use Rattle.bech32.specs.declared.charset.Kind.{Kind}
+use Rattle.bech32.specs.declared.charset.Kind.the-variants.{Recipient, Identity}
 use Rattle.bech32.proofs.Laws.Charset.{character-value, value-character, character-plain, lower-upper, upper-lower, lower-plain, upper-plain, upper-not-lower}
-use Rattle.bech32.proofs.Laws.Checksum.{areSymbols, polymod-append, checksum-closes, checksum-unique, six-lt}
+use Rattle.bech32.proofs.Laws.Checksum.{polymod-append, checksum-closes, checksum-unique, six-lt}
 use Rattle.bech32.proofs.Laws.Regroup.{bytes-symbols, symbols-bytes, symbols-small, symbols-whole, bytes-are}
 
 -- ---- the separator
@@ -103,12 +106,12 @@ uppers-cased [] = refl
 uppers-cased (b ∷ t) = rw (upper-not-lower b) (uppers-cased t)
 
 -- a text in lower case, put into the kind's case, is of that case; lowered it is what it was
-cased : (k : Kind) (l : List ℕ) → all (λ b. not (isUpper b)) l ≡ true →
+cased : (k : Form) (l : List ℕ) → all (λ b. not (isUpper b)) l ≡ true →
     (isCased k (pick (k .capital) (map upper l) l) ≡ true) × (map lower (pick (k .capital) (map upper l) l) ≡ l)
 cased k l h = cases (k .capital) (λ e. rw e (uppers-cased l, lower-uppers l h)) (λ e. rw e (h, lower-plains l h))
 
 -- and a text of the kind's case is its lower-case form, put into that case
-recased : (k : Kind) (t : List ℕ) → isCased k t ≡ true → pick (k .capital) (map upper (map lower t)) (map lower t) ≡ t
+recased : (k : Form) (t : List ℕ) → isCased k t ≡ true → pick (k .capital) (map upper (map lower t)) (map lower t) ≡ t
 recased k t h = cases (k .capital) (λ e. let a = rw e at h in rw e (upper-lowers t a)) (λ e. let a = rw e at h in rw e (lower-plains t a))
 
 -- no byte of a name is in upper case
@@ -127,16 +130,16 @@ name-byte-plain b h =
 -- ---- what is written reads back
 
 -- a kind whose human part has no letter in upper case
-pub record Plain (k : Kind) : Type 0 where
+pub record Plain (k : Form) : Type 0 where
   pub front : all (λ b. not (isUpper b)) (k .front) ≡ true
   pub back : all (λ b. not (isUpper b)) (k .back) ≡ true
 
-name-in : (k : Kind) (name : List ℕ) → nameIn k (humanPart k name) ≡ name
+name-in : (k : Form) (name : List ℕ) → nameIn k (humanPart k name) ≡ name
 name-in k name =
     let n : length (humanPart k name) - length (k .front) - length (k .back) ≡ length name = simp length-append (omega arith) in
     rw (n, append-assoc (k .front) name (k .back), drop-append-seam (k .front) (name ++ k .back), take-append-seam name (k .back))
 
-human-ok : (k : Kind) (name : List ℕ) → isName name ≡ true → isHuman k (humanPart k name) ≡ true
+human-ok : (k : Form) (name : List ℕ) → isName name ≡ true → isHuman k (humanPart k name) ≡ true
 unfolding isHuman
 human-ok k name hn =
     true-and (same (humanPart k name) (humanPart k (nameIn k (humanPart k name)))) (isName (nameIn k (humanPart k name)))
@@ -158,19 +161,29 @@ module _ (h vs : List ℕ) (a : areSymbols vs ≡ true) where
       ap (λ m. map valueOf (drop (m + 1) (h ++ 49 ∷ map characterOf vs))) sep-at
       ∙ ap (λ l. map valueOf (drop (length h + 1) l)) e ∙ ap (map valueOf) (drop-at (h ++ (49 ∷ [])) (map characterOf vs) (length h + 1) n) ∙ values-characters vs a
 
+-- no letter of a human part is in upper case
+human-plain : (k : Form) → Plain k → (name : List ℕ) → all isNameByte name ≡ true → noUpper (humanPart k name) ≡ true
+human-plain k pl name hn =
+    all-append (λ b. not (isUpper b)) (k .front ++ name) (k .back)
+    ∙ true-and (noUpper (k .front ++ name)) (noUpper (k .back))
+    (all-append (λ b. not (isUpper b)) (k .front) name
+    ∙ true-and (noUpper (k .front)) (noUpper name) (pl .front) (all-wider isNameByte (λ b. not (isUpper b)) name-byte-plain name hn))
+    (pl .back)
+
+-- put into the form's case and lowered, it is what it was
+pub human-lowered : (k : Form) → Plain k → (name : List ℕ) → isName name ≡ true → map lower (inCase k (humanPart k name)) ≡ humanPart k name
+unfolding isName
+human-lowered k pl name hn =
+    let b = and-true (leb 1 (length name) && leb (length name) 32) (all isNameByte name) hn in
+    cased k (humanPart k name) (human-plain k pl name (b .1)) .1
+
 -- no letter of a text in lower case is in upper case
-text-plain : (k : Kind) → Plain k → (name vs : List ℕ) → all isNameByte name ≡ true → areSymbols vs ≡ true →
+text-plain : (k : Form) → Plain k → (name vs : List ℕ) → all isNameByte name ≡ true → areSymbols vs ≡ true →
     all (λ b. not (isUpper b)) (humanPart k name ++ 49 ∷ map characterOf vs) ≡ true
 unfolding all isUpper
 text-plain k pl name vs hn a =
     all-append (λ b. not (isUpper b)) (humanPart k name) (49 ∷ map characterOf vs)
-    ∙ true-and (all (λ b. not (isUpper b)) (humanPart k name)) (all (λ b. not (isUpper b)) (49 ∷ map characterOf vs))
-    (all-append (λ b. not (isUpper b)) (k .front ++ name) (k .back)
-    ∙ true-and (all (λ b. not (isUpper b)) (k .front ++ name)) (all (λ b. not (isUpper b)) (k .back))
-    (all-append (λ b. not (isUpper b)) (k .front) name
-    ∙ true-and (all (λ b. not (isUpper b)) (k .front)) (all (λ b. not (isUpper b)) name) (pl .front) (all-wider isNameByte (λ b. not (isUpper b)) name-byte-plain name hn))
-    (pl .back))
-    (characters-plain vs a .1)
+    ∙ true-and (noUpper (humanPart k name)) (noUpper (49 ∷ map characterOf vs)) (human-plain k pl name hn) (characters-plain vs a .1)
 
 -- the checksum of a text holds
 checked-is : (h v : List ℕ) → areSymbols v ≡ true → isChecked (plainText h v) ≡ true
@@ -202,7 +215,7 @@ human-is h v s =
     let c = checksum (polymod 1 (expanded h ++ v)) in
     human-in h (v ++ c) (all-append (λ d. ltb d 32) v c ∙ true-and (areSymbols v) (areSymbols c) s (six-lt _))
 
-pub text-is : (k : Kind) → Plain k → (name payload : List ℕ) → isName name ≡ true → areBytes payload ≡ true → length (textOf k name payload) ≤ 1024 →
+pub text-is : (k : Form) → Plain k → (name payload : List ℕ) → isName name ≡ true → areBytes payload ≡ true → length (textOf k name payload) ≤ 1024 →
     (isText k (textOf k name payload) ≡ true) × (map lower (textOf k name payload) ≡ plainText (humanPart k name) (symbols payload))
 unfolding isText isName
 text-is k pl name payload hn hp hl =
@@ -225,7 +238,7 @@ text-is k pl name payload hn hp hl =
       w .1,
     )
 
-pub parse-text : (k : Kind) → Plain k → (name payload : List ℕ) → isName name ≡ true → areBytes payload ≡ true → length (textOf k name payload) ≤ 1024 →
+pub parse-text : (k : Form) → Plain k → (name payload : List ℕ) → isName name ≡ true → areBytes payload ≡ true → length (textOf k name payload) ≤ 1024 →
     parse k (textOf k name payload) ≡ parsed name payload
 parse-text k pl name payload hn hp hl =
     let w = text-is k pl name payload hn hp hl in
@@ -256,7 +269,8 @@ checked-text l e =
     let u : cs ≡ checksum (polymod 1 (expanded h ++ pay)) = checksum-unique (polymod 1 (expanded h ++ pay)) cs (sym2 .1) (simp length-drop (omega arith)) one in
     separator-split l s ∙ ap (λ x. h ++ 49 ∷ x) (sym (characters-values (drop (separator l + 1) l) (b .1)) ∙ ap (map characterOf) (sym split ∙ ap (λ x. pay ++ x) u))
 
-payload-symbols : (l : List ℕ) → isChecked l ≡ true → areSymbols (payloadIn l) ≡ true
+-- the payload's values are symbols
+pub payload-symbols : (l : List ℕ) → isChecked l ≡ true → areSymbols (payloadIn l) ≡ true
 unfolding isChecked
 payload-symbols l e =
     let a = and-true (ltb (separator l) (length l) && leb 6 (length (valuesIn l)) && areSymbols (valuesIn l)) (eqb (polymod 1 (expanded (humanIn l) ++ valuesIn l)) 1) e in
@@ -265,13 +279,13 @@ payload-symbols l e =
     and-true (areSymbols (take n (valuesIn l))) (areSymbols (drop n (valuesIn l))) (sym (all-append (λ d. ltb d 32) (take n (valuesIn l)) (drop n (valuesIn l))) ∙ ap areSymbols (take-append-drop n (valuesIn l)) ∙ b .1) .0
 
 -- what a text that was read is
-pub record Read (k : Kind) (t name payload : List ℕ) : Type 0 where
+pub record Read (k : Form) (t name payload : List ℕ) : Type 0 where
   pub isNamed : isName name ≡ true
   pub areRead : areBytes payload ≡ true
   pub limit : length t ≤ 1024
   pub text : textOf k name payload ≡ t
 
-read-is : (k : Kind) (t : List ℕ) → isText k t ≡ true → Read k t (nameIn k (humanIn (map lower t))) (bytes (payloadIn (map lower t)))
+read-is : (k : Form) (t : List ℕ) → isText k t ≡ true → Read k t (nameIn k (humanIn (map lower t))) (bytes (payloadIn (map lower t)))
 unfolding isText isHuman
 read-is k t e =
     let l = map lower t in
@@ -290,7 +304,7 @@ read-is k t e =
       text = ap (λ x. pick (k .capital) (map upper x) x) w ∙ recased k t (d .1);
     }
 
-pub text-parse : (k : Kind) (t name payload : List ℕ) → parse k t ≡ parsed name payload → Read k t name payload
+pub text-parse : (k : Form) (t name payload : List ℕ) → parse k t ≡ parsed name payload → Read k t name payload
 text-parse k t name payload e =
     cases (isText k t)
     (λ i.
@@ -301,7 +315,7 @@ text-parse k t name payload e =
     (λ i. let q : none ≡ parsed name payload = rw i at e in let z : _≡_ {A = ℕ} 0 1 = cc in absurd (omega arith))
 
 -- exactly the texts that a name and a payload write are read as that name and payload
-pub parse-iff : (k : Kind) → Plain k → (t name payload : List ℕ) → (parse k t ≡ parsed name payload) ↔ Read k t name payload
+pub parse-iff : (k : Form) → Plain k → (t name payload : List ℕ) → (parse k t ≡ parsed name payload) ↔ Read k t name payload
 parse-iff k pl t name payload = (
   text-parse k t name payload,
   λ r. ap (parse k) (sym (r .text)) ∙ parse-text k pl name payload (r .isNamed) (r .areRead) (rw (r .text) (r .limit)),
@@ -315,3 +329,7 @@ recipient-plain = record { front = refl; back = refl }
 pub identity-plain : Plain identity
 unfolding all isUpper
 identity-plain = record { front = refl; back = refl }
+
+pub form-plain : (k : Kind) → Plain (formOf k)
+form-plain Recipient = recipient-plain
+form-plain Identity = identity-plain

@@ -1,0 +1,91 @@
+use Prim.Native.Nat.{_+_, _-_, _/_, _%_, _≤_, _<_}
+use mathlib.Core.Path.{_≡_, refl, sym, ap, ap₂, _∙_}
+use mathlib.Core.Bool.{Bool, true, false, _&&_, not}
+use mathlib.Core.List.{List, [], _∷_, _++_, map}
+use lib.ListN.{length, take, drop, getD, set, length-set}
+use native.Mathlib.Omega.{arith}
+use denote.Ref.{now}
+use lib.Seq.{length-take-le, take-at}
+use Rattle.bech32.specs.Checksum.{polymod, checksum}
+use Rattle.bech32.specs.Regroup.{symbols}
+use Rattle.bech32.proofs.Laws.Groups.{symbols-length}
+use Rattle.bech32.proofs.Laws.Writing.{put-behind}
+use borrow.Author.Needs.{needs}
+use Rattle.bech32.proofs.writing.put_symbols.Statement.{statement}
+use Rattle.bech32.proofs.writing.put_symbols.Tie as tie
+use Rattle.bech32.proofs.writing.put_symbols.Reads as reads
+use Rattle.bech32.proofs.writing.put_symbols.Lts as lts
+use Rattle.bech32.proofs.checksum.fold_symbols.Reads as fold-symbols-reads
+use Rattle.bech32.proofs.regroup.symbols_into.Reads as symbols-into-reads
+use Rattle.bech32.proofs.regroup.symbols_length.Reads as symbols-length-reads
+use Rattle.bech32.proofs.writing.put_checksum.Reads as put-checksum-reads
+
+-- src/writing.rt:39:9
+symbols-length-requires : tie.Need-symbols-length-requires
+symbols-length-requires c κs = search needs
+
+-- src/writing.rt:40:5
+symbols-into-requires : tie.Need-symbols-into-requires
+symbols-into-requires c κs = search needs
+
+-- src/writing.rt:41:30
+slice-reshare-prefix-fold-symbols : tie.Need-slice-reshare-prefix-fold-symbols
+slice-reshare-prefix-fold-symbols c = search needs
+
+-- src/writing.rt:41:30
+slice-aggregate-fold-symbols : tie.Need-slice-aggregate-fold-symbols
+slice-aggregate-fold-symbols c = sym (length-take-le (c .before .before .before .before .before .symbols-length .result) (c .before .before .before .symbols-into .last .1 .0) (omega (arith, c .before .before .before .before .before .symbols-length .ensures, c .before .before .before .symbols-into .kept .1 .0, c .before .before .before .before .before .before .before .before .pre .1)))
+
+-- src/writing.rt:41:9
+fold-symbols-requires : tie.Need-fold-symbols-requires
+fold-symbols-requires c κs = search needs
+
+-- src/writing.rt:42:25
+sub-put-checksum : tie.Need-sub-put-checksum
+sub-put-checksum c = search needs
+
+-- src/writing.rt:42:25
+part-put-checksum-start : tie.Need-part-put-checksum-start
+part-put-checksum-start c = search needs
+
+-- src/writing.rt:42:25
+part-put-checksum-end : tie.Need-part-put-checksum-end
+part-put-checksum-end c = search needs
+
+-- src/writing.rt:42:5
+put-checksum-requires : tie.Need-put-checksum-requires
+put-checksum-requires c κs = search needs
+
+-- src/writing.rt:34:1
+same-length : tie.Need-same-length
+same-length c = search needs
+
+-- src/writing.rt:34:1
+returns : tie.Need-returns
+returns c =
+    let a = c .before .before .before .before .before .before .before .before .symbols-into .last .1 .0 in
+    let p = now (c .before .before .before .before .before .before .before .before .before .before .before .before .before .args .payload) in
+    let o₀ = now (c .before .before .before .before .before .before .before .before .before .before .before .before .before .args .out) in
+    let n = c .before .before .before .before .before .before .before .before .before .before .symbols-length .result in
+    let w : length (symbols p) ≡ n = symbols-length p ∙ sym (c .before .before .before .before .before .before .before .before .before .before .symbols-length .ensures) in
+    let e : a ≡ symbols p ++ drop n o₀ = c .before .before .before .before .before .before .before .before .symbols-into .ensures ∙ ap (λ k. symbols p ++ drop k o₀) w in
+    let f : c .before .before .before .before .fold-symbols .result ≡ polymod (c .before .before .before .before .before .before .before .before .before .before .before .before .before .args .from) (symbols p) =
+    c .before .before .before .before .fold-symbols .ensures ∙ ap (polymod (c .before .before .before .before .before .before .before .before .before .before .before .before .before .args .from)) (ap (take n) e ∙ take-at (symbols p) (drop n o₀) n w) in
+    put-behind a o₀ (symbols p) (checksum (c .before .before .before .before .fold-symbols .result)) (c .before .before .put-checksum .last .1 .0) n 6 e w refl (c .before .before .put-checksum .ensures)
+    ∙ ap₂ (λ s k. (symbols p ++ checksum s) ++ drop (k + 6) o₀) f (c .before .before .before .before .before .before .before .before .before .before .symbols-length .ensures)
+
+pub put-symbols-spec : {M : Type 1} → statement M
+put-symbols-spec =
+    tie.close
+    (tie.spec
+    symbols-length-requires
+    symbols-into-requires
+    slice-reshare-prefix-fold-symbols
+    slice-aggregate-fold-symbols
+    fold-symbols-requires
+    sub-put-checksum
+    part-put-checksum-start
+    part-put-checksum-end
+    put-checksum-requires
+    same-length
+    returns)

@@ -1,0 +1,150 @@
+use Prim.Native.Nat.{_+_, _-_, _/_, _%_, _≤_, _<_}
+use mathlib.Core.Path.{_≡_, refl, sym, ap, ap₂, _∙_}
+use mathlib.Core.Bool.{Bool, true, false, _&&_, not}
+use mathlib.Core.List.{List, [], _∷_, _++_, map}
+use lib.ListN.{length, take, drop, getD, set, length-set, length-drop}
+use native.Mathlib.Omega.{arith}
+use denote.Ref.{now}
+use lib.Seq.{length-take-le}
+use borrow.Rule.Slice.PartMut.{same-len-mid}
+use Rattle.refusal.proofs.Laws.Lists.{part-rest}
+use Rattle.bech32.specs.Charset.{lower, characterOf}
+use Rattle.bech32.specs.Checksum.{polymod}
+use Rattle.bech32.specs.Text.{inCase, humanPart, expanded}
+use Rattle.bech32.specs.Calls.{formOf}
+use Rattle.bech32.specs.Steps.{symbolsSize, withChecksum}
+use Rattle.bech32.proofs.Laws.Text.{form-plain, human-lowered}
+use Rattle.bech32.proofs.Laws.Writing.{name-short, human-size, human-front, assembled}
+use borrow.Author.Needs.{needs}
+use Rattle.bech32.proofs.writing.write_into.Statement.{statement}
+use Rattle.bech32.proofs.writing.write_into.Tie as tie
+use Rattle.bech32.proofs.writing.write_into.Reads as reads
+use Rattle.bech32.proofs.writing.write_into.Lts as lts
+use Rattle.bech32.proofs.checksum.fold_human.Reads as fold-human-reads
+use Rattle.bech32.proofs.human.human_length.Reads as human-length-reads
+use Rattle.bech32.proofs.human.put_human.Reads as put-human-reads
+use Rattle.bech32.proofs.writing.put_characters.Reads as put-characters-reads
+
+-- src/writing.rt:57:9
+human-length-requires : tie.Need-human-length-requires
+human-length-requires c κs =
+    let name = now (c .before .before .before .args .name) in
+    name-short name (c .before .before .before .pre .0)
+
+-- src/writing.rt:58:5
+put-human-requires : tie.Need-put-human-requires
+put-human-requires c κs = omega (arith, c .before .before .before .before .before .pre .1 .1)
+
+-- src/writing.rt:59:5
+slice-write-out : tie.Need-slice-write-out
+slice-write-out c =
+    let k = formOf (c .before .before .before .before .before .before .before .before .args .kind) in
+    let name = now (c .before .before .before .before .before .before .before .before .args .name) in
+    let n : c .before .before .before .before .human-length .result ≡ length (humanPart k name) = c .before .before .before .before .human-length .ensures ∙ sym (human-size k name) in
+    omega (arith, c .before .before .put-human .kept .1 .1 .0, c .before .before .before .before .before .before .before .before .pre .1 .1)
+
+-- src/writing.rt:60:28
+slice-reshare-prefix-fold-human : tie.Need-slice-reshare-prefix-fold-human
+slice-reshare-prefix-fold-human c =
+    let k = formOf (c .before .before .before .before .before .before .before .before .args .kind) in
+    let name = now (c .before .before .before .before .before .before .before .before .args .name) in
+    let n : c .before .before .before .before .human-length .result ≡ length (humanPart k name) = c .before .before .before .before .human-length .ensures ∙ sym (human-size k name) in
+    simp length-set (omega (arith, c .before .before .put-human .kept .1 .1 .0, c .before .before .before .before .before .before .before .before .pre .1 .1))
+
+-- src/writing.rt:60:28
+slice-aggregate-fold-human : tie.Need-slice-aggregate-fold-human
+slice-aggregate-fold-human c =
+    let k = formOf (c .before .before .before .before .before .before .before .before .before .args .kind) in
+    let name = now (c .before .before .before .before .before .before .before .before .before .args .name) in
+    let n : c .before .before .before .before .before .human-length .result ≡ length (humanPart k name) = c .before .before .before .before .before .human-length .ensures ∙ sym (human-size k name) in
+    sym (length-take-le (c .before .before .before .before .before .human-length .result) _ (simp length-set (omega (arith, c .before .before .before .put-human .kept .1 .1 .0, c .before .before .before .before .before .before .before .before .before .pre .1 .1))))
+
+-- src/writing.rt:60:9
+fold-human-requires : tie.Need-fold-human-requires
+fold-human-requires c κs = search needs
+
+-- src/writing.rt:61:16
+add-from : tie.Need-add-from
+add-from c =
+    let k = formOf (c .before .before .before .before .before .before .before .before .before .before .args .kind) in
+    let name = now (c .before .before .before .before .before .before .before .before .before .before .args .name) in
+    let n : c .before .before .before .before .before .before .human-length .result ≡ length (humanPart k name) = c .before .before .before .before .before .before .human-length .ensures ∙ sym (human-size k name) in
+    omega (arith, c .before .before .before .before .before .before .before .before .before .before .pre .1 .1)
+
+-- src/writing.rt:62:42
+sub-put-characters : tie.Need-sub-put-characters
+sub-put-characters c =
+    let k = formOf (c .before .before .before .before .before .before .before .before .before .before .args .kind) in
+    let name = now (c .before .before .before .before .before .before .before .before .before .before .args .name) in
+    let n : c .before .before .before .before .before .before .human-length .result ≡ length (humanPart k name) = c .before .before .before .before .before .before .human-length .ensures ∙ sym (human-size k name) in
+    simp length-set (omega (arith, c .before .before .before .before .put-human .kept .1 .1 .0, c .before .before .before .before .before .before .before .before .before .before .pre .1 .1))
+
+-- src/writing.rt:62:42
+part-put-characters-start : tie.Need-part-put-characters-start
+part-put-characters-start c =
+    let k = formOf (c .before .before .before .before .before .before .before .before .before .before .args .kind) in
+    let name = now (c .before .before .before .before .before .before .before .before .before .before .args .name) in
+    let n : c .before .before .before .before .before .before .human-length .result ≡ length (humanPart k name) = c .before .before .before .before .before .before .human-length .ensures ∙ sym (human-size k name) in
+    simp length-set (omega (arith, c .before .before .before .before .put-human .kept .1 .1 .0, c .before .before .before .before .before .before .before .before .before .before .pre .1 .1))
+
+-- src/writing.rt:62:42
+part-put-characters-end : tie.Need-part-put-characters-end
+part-put-characters-end c =
+    let k = formOf (c .before .before .before .before .before .before .before .before .before .before .args .kind) in
+    let name = now (c .before .before .before .before .before .before .before .before .before .before .args .name) in
+    let n : c .before .before .before .before .before .before .human-length .result ≡ length (humanPart k name) = c .before .before .before .before .before .before .human-length .ensures ∙ sym (human-size k name) in
+    simp length-set (omega (arith, c .before .before .before .before .put-human .kept .1 .1 .0, c .before .before .before .before .before .before .before .before .before .before .pre .1 .1))
+
+-- src/writing.rt:62:5
+put-characters-requires : tie.Need-put-characters-requires
+put-characters-requires c κs =
+    let k = formOf (c .before .before .before .before .before .before .before .before .before .before .before .args .kind) in
+    let name = now (c .before .before .before .before .before .before .before .before .before .before .before .args .name) in
+    let n : c .before .before .before .before .before .before .before .human-length .result ≡ length (humanPart k name) = c .before .before .before .before .before .before .before .human-length .ensures ∙ sym (human-size k name) in
+    let b = set (c .before .before .before .before .before .put-human .last .1 .1 .0) (c .before .before .before .before .before .before .before .human-length .result) 49 in
+    (c .before .before .before .before .before .before .before .before .before .before .before .pre .1 .0, rw (part-rest (c .before .before .before .before .before .before .before .human-length .result + 1) b) (simp (length-drop, length-set) (omega (arith, c .before .before .before .before .before .put-human .kept .1 .1 .0, c .before .before .before .before .before .before .before .before .before .before .before .pre .1 .1))))
+
+-- src/writing.rt:51:1
+same-length : tie.Need-same-length
+same-length c =
+    let k = formOf (c .before .before .before .before .before .before .before .before .before .before .before .before .before .before .args .kind) in
+    let name = now (c .before .before .before .before .before .before .before .before .before .before .before .before .before .before .args .name) in
+    let n : c .before .before .before .before .before .before .before .before .before .before .human-length .result ≡ length (humanPart k name) = c .before .before .before .before .before .before .before .before .before .before .human-length .ensures ∙ sym (human-size k name) in
+    let a = c .before .before .before .before .before .before .before .before .put-human .last .1 .1 .0 in
+    let m = c .before .before .before .before .before .before .before .before .before .before .human-length .result in
+    same-len-mid (m + 1) (length (set a m 49) - (m + 1)) (set a m 49) (c .before .before .put-characters .last .1 .1 .1 .0) (c .before .before .put-characters .kept .1 .1 .1 .0) ∙ length-set a m 49 ∙ c .before .before .before .before .before .before .before .before .put-human .kept .1 .1 .0
+
+-- src/writing.rt:51:1
+returns : tie.Need-returns
+returns c =
+    let k = formOf (c .before .before .before .before .before .before .before .before .before .before .before .before .before .before .args .kind) in
+    let name = now (c .before .before .before .before .before .before .before .before .before .before .before .before .before .before .args .name) in
+    let n : c .before .before .before .before .before .before .before .before .before .before .human-length .result ≡ length (humanPart k name) = c .before .before .before .before .before .before .before .before .before .before .human-length .ensures ∙ sym (human-size k name) in
+    let payload = now (c .before .before .before .before .before .before .before .before .before .before .before .before .before .before .args .payload) in
+    let o₀ = now (c .before .before .before .before .before .before .before .before .before .before .before .before .before .before .args .out) in
+    let m = c .before .before .before .before .before .before .before .before .before .before .human-length .result in
+    let a = c .before .before .before .before .before .before .before .before .put-human .last .1 .1 .0 in
+    let h = humanPart k name in
+    let e : a ≡ inCase k h ++ drop m o₀ = c .before .before .before .before .before .before .before .before .put-human .ensures ∙ ap (λ j. inCase k h ++ drop j o₀) (sym n) in
+    let f : c .before .before .before .before .fold-human .result ≡ polymod 1 (expanded h) =
+    c .before .before .before .before .fold-human .ensures ∙ ap (λ x. polymod 1 (expanded (map lower x))) (human-front k h a o₀ m e n) ∙ ap (λ x. polymod 1 (expanded x)) (human-lowered k (form-plain (c .before .before .before .before .before .before .before .before .before .before .before .before .before .before .args .kind)) name (c .before .before .before .before .before .before .before .before .before .before .before .before .before .before .pre .0)) in
+    assembled k name payload a o₀ (c .before .before .put-characters .last .1 .1 .1 .0) m e n (omega (arith, c .before .before .before .before .before .before .before .before .before .before .before .before .before .before .pre .1 .1))
+    (c .before .before .put-characters .ensures ∙ ap (λ s. inCase k (map characterOf (withChecksum s payload)) ++ drop (symbolsSize (length payload) + 6) (take (length (set a m 49) - (m + 1)) (drop (m + 1) (set a m 49)))) f)
+
+pub write-into-spec : {M : Type 1} → statement M
+write-into-spec =
+    tie.close
+    (tie.spec
+    human-length-requires
+    put-human-requires
+    slice-write-out
+    slice-reshare-prefix-fold-human
+    slice-aggregate-fold-human
+    fold-human-requires
+    add-from
+    sub-put-characters
+    part-put-characters-start
+    part-put-characters-end
+    put-characters-requires
+    same-length
+    returns)

@@ -1,0 +1,194 @@
+// The human part: what stands before and behind a plugin's name, and the name.
+ghost use mathlib.Core.Path.{_≡_};
+ghost use mathlib.Core.List.{[], _∷_, _++_, map};
+ghost use Prim.Native.Nat.{_+_, _≤_};
+ghost use lib.ListN.{length, drop};
+ghost use Rattle.refusal.specs.Run.{all};
+ghost use Rattle.refusal.specs.Same.{same};
+ghost use Rattle.bech32.specs.Charset.{lower};
+ghost use Rattle.bech32.specs.Text.{isNameByte, isName, inCase, humanPart};
+ghost use Rattle.bech32.specs.Calls.{formOf, padded};
+ghost use Rattle.bech32.specs.Steps.{shortened, nameBetween, nameOr};
+use crate::charset::Kind;
+use crate::charset::cased;
+use crate::charset::lowered;
+
+// A plugin's name by value: bytes[..length], zeros behind it. It is empty where there is none.
+pub struct Name {
+    pub bytes: [u8; 32],
+    pub length: usize,
+}
+
+// No name.
+pub fn nameless() -> Name
+    ensures bytes { λ r. ⌜ r .bytes ≡ padded [] ⌝ }
+    ensures length { λ r. ⌜ r .length ≡ 0 ⌝ }
+{
+    Name {
+        bytes: [0; 32],
+        length: 0,
+    }
+}
+
+fn is_name_byte(b: u8) -> bool
+    ensures { λ r. ⌜ r ≡ isNameByte b ⌝ }
+{
+    ((97 <= b) & (b <= 122))
+        | ((48 <= b) & (b <= 57))
+        | (b == 43)
+        | (b == 45)
+        | (b == 46)
+        | (b == 95)
+}
+
+fn are_name_bytes(text: &[u8]) -> bool
+    ensures { λ r. ⌜ r ≡ all isNameByte (now (text .entry)) ⌝ }
+{
+    let mut i: usize = 0;
+    while i < text.len() {
+        if !is_name_byte(text[i]) {
+            return false;
+        }
+        i += 1;
+    }
+    true
+}
+
+// Whether a text is a plugin's name in lower case.
+pub fn is_name(text: &[u8]) -> bool
+    ensures { λ r. ⌜ r ≡ isName (now (text .entry)) ⌝ }
+{
+    if text.len() == 0 {
+        return false;
+    }
+    if 32 < text.len() {
+        return false;
+    }
+    are_name_bytes(text)
+}
+
+// Whether a text in lower case is the word.
+pub fn is_lowered(text: &[u8], word: &[u8]) -> bool
+    ensures { λ r. ⌜ r ≡ same (map lower (now (text .entry))) (now (word .entry)) ⌝ }
+{
+    let n = text.len();
+    if n != word.len() {
+        return false;
+    }
+    let mut i: usize = 0;
+    while i < n {
+        if lowered(text[i]) != word[i] {
+            return false;
+        }
+        i += 1;
+    }
+    true
+}
+
+// A text of at most 32 bytes in lower case, by value; no name where it is longer.
+fn lower_name(text: &[u8]) -> Name
+    ensures bytes { λ r. ⌜ r .bytes ≡ padded (shortened (map lower (now (text .entry)))) ⌝ }
+    ensures length { λ r. ⌜ r .length ≡ length (shortened (map lower (now (text .entry)))) ⌝ }
+{
+    let n = text.len();
+    if 32 < n {
+        return nameless();
+    }
+    let mut bytes: [u8; 32] = [0; 32];
+    let mut i: usize = 0;
+    while i < n {
+        bytes[i] = lowered(text[i]);
+        i += 1;
+    }
+    Name {
+        bytes: bytes,
+        length: n,
+    }
+}
+
+// The name between what stands before and behind it, in lower case; no name where there is none.
+fn name_between(human: &[u8], front: &[u8], back: &[u8]) -> Name
+    ensures bytes { λ r. ⌜ r .bytes ≡ padded (nameBetween (now (front .entry)) (now (back .entry)) (map lower (now (human .entry)))) ⌝ }
+    ensures length { λ r. ⌜ r .length ≡ length (nameBetween (now (front .entry)) (now (back .entry)) (map lower (now (human .entry)))) ⌝ }
+{
+    let n = human.len();
+    let f = front.len();
+    let b = back.len();
+    if n < f {
+        return nameless();
+    }
+    if n - f < b {
+        return nameless();
+    }
+    let e = n - b;
+    if !is_lowered(&human[..f], front) {
+        return nameless();
+    }
+    if !is_lowered(&human[e..], back) {
+        return nameless();
+    }
+    let name = lower_name(&human[f..e]);
+    let bytes = name.bytes;
+    let length = name.length;
+    if !is_name(&bytes[..length]) {
+        return nameless();
+    }
+    name
+}
+
+// The name in a human part of the kind, in lower case; no name where there is none.
+pub fn name_in(kind: Kind, human: &[u8]) -> Name
+    ensures bytes { λ r. ⌜ r .bytes ≡ padded (nameOr (formOf kind) (map lower (now (human .entry)))) ⌝ }
+    ensures length { λ r. ⌜ r .length ≡ length (nameOr (formOf kind) (map lower (now (human .entry)))) ⌝ }
+{
+    match kind {
+        Kind::Recipient => name_between(human, b"age1", b""),
+        Kind::Identity => name_between(human, b"age-plugin-", b"-"),
+    }
+}
+
+// How long the human part of a name of n bytes is.
+pub fn human_length(kind: Kind, n: usize) -> usize
+    requires { ⌜ n ≤ 32 ⌝ }
+    ensures { λ r. ⌜ r ≡ n + length (humanPart (formOf kind) []) ⌝ }
+{
+    match kind {
+        Kind::Recipient => n + 4,
+        Kind::Identity => n + 12,
+    }
+}
+
+// A word in the kind's case at the front of `out`, which is long enough.
+fn put_word(kind: Kind, word: &[u8], out: &mut [u8])
+    requires { ⌜ length (now word) ≤ length (now out) ⌝ }
+    ensures { λ _. ⌜ now (out .exit) ≡ inCase (formOf kind) (now (word .entry)) ++ drop (length (now (word .entry))) (now (out .entry)) ⌝ }
+{
+    let mut i: usize = 0;
+    while i < word.len() {
+        out[i] = cased(kind, word[i]);
+        i += 1;
+    }
+}
+
+// Three words, one behind the other.
+fn put_words(kind: Kind, front: &[u8], name: &[u8], back: &[u8], out: &mut [u8])
+    requires { ⌜ length (now front) + length (now name) + length (now back) ≤ length (now out) ⌝ }
+    ensures { λ _. ⌜ now (out .exit) ≡ inCase (formOf kind) (now (front .entry) ++ now (name .entry) ++ now (back .entry)) ++ drop (length (now (front .entry)) + length (now (name .entry)) + length (now (back .entry))) (now (out .entry)) ⌝ }
+{
+    let a = front.len();
+    let b = a + name.len();
+    put_word(kind, front, out);
+    put_word(kind, name, &mut out[a..]);
+    put_word(kind, back, &mut out[b..]);
+}
+
+// The human part of a name at the front of `out`, which is long enough.
+pub fn put_human(kind: Kind, name: &[u8], out: &mut [u8])
+    requires { ⌜ length (humanPart (formOf kind) (now name)) ≤ length (now out) ⌝ }
+    ensures { λ _. ⌜ now (out .exit) ≡ inCase (formOf kind) (humanPart (formOf kind) (now (name .entry))) ++ drop (length (humanPart (formOf kind) (now (name .entry)))) (now (out .entry)) ⌝ }
+{
+    match kind {
+        Kind::Recipient => put_words(kind, b"age1", name, b"", out),
+        Kind::Identity => put_words(kind, b"age-plugin-", name, b"-", out),
+    }
+}

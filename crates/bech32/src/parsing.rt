@@ -1,0 +1,195 @@
+// Reading recipients and identities. The verdict comes first, then the bytes, so that nothing is written where the text is refused.
+ghost use mathlib.Core.Path.{_≡_};
+ghost use mathlib.Core.Bool.{_||_};
+ghost use mathlib.Core.List.{[], map};
+ghost use lib.ListN.{length};
+ghost use Rattle.refusal.specs.Output.{said};
+ghost use Rattle.bech32.specs.Charset.{lower};
+ghost use Rattle.bech32.specs.Text.{noLower, noUpper, isCased, separator, isChecked, parse};
+ghost use Rattle.bech32.specs.Calls.{formOf, isSound, padded, readAnswer, readBuffer, readName, markOf};
+ghost use Rattle.bech32.specs.Steps.{Values, nameOf};
+use crate::charset::Kind;
+use crate::charset::is_lower;
+use crate::charset::is_upper;
+use crate::charset::values;
+use crate::checksum::fold_human;
+use crate::checksum::is_closed;
+use crate::human::Name;
+use crate::human::is_lowered;
+use crate::human::name_in;
+use crate::human::nameless;
+use crate::regroup::bytes_length;
+use crate::regroup::decode_into;
+use crate::regroup::is_whole;
+use refusal::Refusal;
+use refusal::Written;
+
+// What reading gives: how long the payload at the buffer's front is, or 16 or 15; and the name, empty where refused.
+pub struct Reading {
+    pub answer: Written,
+    pub name: Name,
+}
+
+// Whether no letter is in lower case. No early exit, so that the loop is vectorised.
+fn no_lower(text: &[u8]) -> bool
+    ensures { λ r. ⌜ r ≡ noLower (now (text .entry)) ⌝ }
+{
+    let mut good = true;
+    let mut i: usize = 0;
+    while i < text.len() {
+        good = good & !is_lower(text[i]);
+        i += 1;
+    }
+    good
+}
+
+// Whether no letter is in upper case.
+fn no_upper(text: &[u8]) -> bool
+    ensures { λ r. ⌜ r ≡ noUpper (now (text .entry)) ⌝ }
+{
+    let mut good = true;
+    let mut i: usize = 0;
+    while i < text.len() {
+        good = good & !is_upper(text[i]);
+        i += 1;
+    }
+    good
+}
+
+// Whether no letter is of the wrong case.
+fn is_cased(kind: Kind, text: &[u8]) -> bool
+    ensures { λ r. ⌜ r ≡ isCased (formOf kind) (now (text .entry)) ⌝ }
+{
+    match kind {
+        Kind::Recipient => no_upper(text),
+        Kind::Identity => no_lower(text),
+    }
+}
+
+// Whether no letters of both cases are in a text.
+fn is_one_case(text: &[u8]) -> bool
+    ensures { λ r. ⌜ r ≡ (noLower (now (text .entry)) || noUpper (now (text .entry))) ⌝ }
+{
+    if no_lower(text) {
+        return true;
+    }
+    no_upper(text)
+}
+
+// Where the last "1" stands, looked for from the right; the length where there is none.
+fn find_separator(text: &[u8]) -> usize
+    ensures { λ r. ⌜ r ≡ separator (now (text .entry)) ⌝ }
+{
+    let mut i = text.len();
+    while 0 < i {
+        i -= 1;
+        if text[i] == 49 {
+            return i;
+        }
+    }
+    text.len()
+}
+
+// Whether the checksum holds over the lower-case form; `at` is where the separator stands.
+fn is_checked(table: &[u8; 256], text: &[u8], at: usize) -> bool
+    requires { ⌜ Values (now table) ⌝ }
+    requires { ⌜ at ≡ separator (now text) ⌝ }
+    ensures { λ r. ⌜ r ≡ isChecked (map lower (now (text .entry))) ⌝ }
+{
+    if text.len() - at < 7 {
+        return false;
+    }
+    let from = at + 1;
+    is_closed(table, &text[from..], fold_human(&text[..at]))
+}
+
+// Whether a text's checksum holds, and no letters of both cases are in it.
+pub fn holds(text: &[u8]) -> bool
+    ensures { λ r. ⌜ r ≡ isSound (now (text .entry)) ⌝ }
+{
+    if !is_one_case(text) {
+        return false;
+    }
+    let table = values();
+    is_checked(&table, text, find_separator(text))
+}
+
+// The name of a text of the kind; no name where it is none. `at` is where the separator stands.
+fn examine(table: &[u8; 256], kind: Kind, text: &[u8], at: usize) -> Name
+    requires { ⌜ Values (now table) ⌝ }
+    requires { ⌜ at ≡ separator (now text) ⌝ }
+    ensures bytes { λ r. ⌜ r .bytes ≡ padded (nameOf (formOf kind) (now (text .entry))) ⌝ }
+    ensures length { λ r. ⌜ r .length ≡ length (nameOf (formOf kind) (now (text .entry))) ⌝ }
+{
+    let n = text.len();
+    if 1024 < n {
+        return nameless();
+    }
+    if !is_cased(kind, text) {
+        return nameless();
+    }
+    if !is_checked(table, text, at) {
+        return nameless();
+    }
+    let from = at + 1;
+    let end = n - 6;
+    if !is_whole(table, &text[from..end]) {
+        return nameless();
+    }
+    name_in(kind, &text[..at])
+}
+
+// The payload of a text of the kind at the front of `out`, and its name: 16 if it isn't one, then 15; nothing written then.
+pub fn read(kind: Kind, text: &[u8], out: &mut [u8]) -> Reading
+    ensures answer { λ r. ⌜ said (r .answer) ≡ readAnswer (parse (formOf kind) (now (text .entry))) (now (out .entry)) ⌝ }
+    ensures bytes { λ r. ⌜ r .name .bytes ≡ padded (readName (parse (formOf kind) (now (text .entry))) (now (out .entry))) ⌝ }
+    ensures length { λ r. ⌜ r .name .length ≡ length (readName (parse (formOf kind) (now (text .entry))) (now (out .entry))) ⌝ }
+    ensures buffer { λ r. ⌜ now (out .exit) ≡ readBuffer (parse (formOf kind) (now (text .entry))) (now (out .entry)) ⌝ }
+{
+    let table = values();
+    let at = find_separator(text);
+    let name = examine(&table, kind, text, at);
+    if name.length == 0 {
+        return refused(Refusal::NotBech32);
+    }
+    let from = at + 1;
+    let end = text.len() - 6;
+    let n = bytes_length(end - from);
+    if out.len() < n {
+        return refused(Refusal::ShortOutput);
+    }
+    decode_into(&table, &text[from..end], out);
+    Reading {
+        answer: Written::Bytes(n),
+        name: name,
+    }
+}
+
+// A refusal, with no name.
+fn refused(r: Refusal) -> Reading
+    ensures answer { λ x. ⌜ x .answer ≡ Written.Refused r ⌝ }
+    ensures bytes { λ x. ⌜ x .name .bytes ≡ padded [] ⌝ }
+    ensures length { λ x. ⌜ x .name .length ≡ 0 ⌝ }
+{
+    Reading {
+        answer: Written::Refused(r),
+        name: nameless(),
+    }
+}
+
+// The reader's number for a text of the kind and of a plugin, by its name in either case: 0, or 16, also for another name.
+pub fn mark(kind: Kind, text: &[u8], plugin: &[u8]) -> u8
+    ensures { λ r. ⌜ r ≡ markOf (parse (formOf kind) (now (text .entry))) (now (plugin .entry)) ⌝ }
+{
+    let table = values();
+    let name = examine(&table, kind, text, find_separator(text));
+    let bytes = name.bytes;
+    let length = name.length;
+    if length == 0 {
+        return refusal::number(Refusal::NotBech32);
+    }
+    if is_lowered(plugin, &bytes[..length]) {
+        return 0;
+    }
+    refusal::number(Refusal::NotBech32)
+}

@@ -1,0 +1,2 @@
+-- The stanza check of one plugin.
+pub mod Profile
