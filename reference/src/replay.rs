@@ -4,6 +4,7 @@
 
 use std::io::{self, BufRead, Write};
 
+use crate::bech32::{self, Kind};
 use crate::index;
 use crate::refusal::Refusal;
 use crate::script;
@@ -60,6 +61,9 @@ enum Call<'a> {
     Stanza { text: &'a [u8] },
     Write { arguments: &'a [u8], body: &'a [u8], out: usize },
     Index { text: &'a [u8] },
+    Checksum { text: &'a [u8] },
+    Read { kind: Kind, text: &'a [u8], out: usize },
+    WriteText { kind: Kind, name: &'a [u8], payload: &'a [u8], out: usize },
 }
 
 impl<'a> Call<'a> {
@@ -74,8 +78,21 @@ impl<'a> Call<'a> {
                 Some(Call::Write { arguments, body, out })
             }
             [b"index", text] => Some(Call::Index { text }),
+            [b"checksum", text] => Some(Call::Checksum { text }),
+            [b"recipient", text, out] => Self::read(Kind::Recipient, text, out),
+            [b"identity", text, out] => Self::read(Kind::Identity, text, out),
+            [b"write-recipient", name, payload, out] => Self::write(Kind::Recipient, name, payload, out),
+            [b"write-identity", name, payload, out] => Self::write(Kind::Identity, name, payload, out),
             _ => None,
         }
+    }
+
+    fn read(kind: Kind, text: &'a [u8], out: &[u8]) -> Option<Self> {
+        Some(Call::Read { kind, text, out: length(out)? })
+    }
+
+    fn write(kind: Kind, name: &'a [u8], payload: &'a [u8], out: &[u8]) -> Option<Self> {
+        Some(Call::WriteText { kind, name, payload, out: length(out)? })
     }
 
     fn make(&self) -> Result<Answer, Refusal> {
@@ -83,6 +100,11 @@ impl<'a> Call<'a> {
             Call::Stanza { text } => read_stanza(text),
             Call::Write { arguments, body, out } => write_stanza(arguments, body, out),
             Call::Index { text } => Ok(Answer::words("ok").number(index::read(text)?.into())),
+            Call::Checksum { text } => {
+                Ok(Answer::words(if bech32::holds(text) { "ok holds" } else { "ok fails" }))
+            }
+            Call::Read { kind, text, out } => read_bech32(kind, text, out),
+            Call::WriteText { kind, name, payload, out } => write_bech32(kind, name, payload, out),
         }
     }
 }
@@ -104,6 +126,20 @@ fn read_stanza(text: &[u8]) -> Result<Answer, Refusal> {
 fn write_stanza(arguments: &[u8], body: &[u8], out: usize) -> Result<Answer, Refusal> {
     let mut out = vec![0; out];
     let len = stanza::write(arguments, body, &mut out)?;
+    Ok(Answer::words("ok").bytes(&out[..len]))
+}
+
+/// `ok NAME PAYLOAD`.
+fn read_bech32(kind: Kind, text: &[u8], out: usize) -> Result<Answer, Refusal> {
+    let mut out = vec![0; out];
+    let reading = bech32::read(kind, text, &mut out)?;
+    Ok(Answer::words("ok").bytes(&reading.name).bytes(&out[..reading.payload_len]))
+}
+
+/// `ok TEXT`.
+fn write_bech32(kind: Kind, name: &[u8], payload: &[u8], out: usize) -> Result<Answer, Refusal> {
+    let mut out = vec![0; out];
+    let len = bech32::write(kind, name, payload, &mut out)?;
     Ok(Answer::words("ok").bytes(&out[..len]))
 }
 
@@ -175,6 +211,29 @@ mod tests {
     }
 
     #[test]
+    fn the_checksum_alone() {
+        assert_eq!(
+            answers("checksum A12UEL5L\nchecksum A12uEL5L\nchecksum \\e\n"),
+            "ok holds\nok fails\nok fails\n"
+        );
+        assert_eq!(answers("checksum \\x801eym55h"), "ok holds\n");
+    }
+
+    #[test]
+    fn recipients_and_identities() {
+        let identity = "AGE-PLUGIN-FIDO2-HMAC-1QYQXV6TYDUEZ66RDV93SQUSDAT";
+        assert_eq!(answers(&format!("identity {identity} 12")), "ok fido2-hmac \\x01\\x00fido2-hmac\n");
+        assert_eq!(answers(&format!("identity {identity} 11")), "refused 15\n");
+        assert_eq!(answers(&format!("recipient {identity} 12")), "refused 16\n");
+        let written = format!("ok {identity}\n");
+        assert_eq!(answers("write-identity fido2-hmac \\x01\\x00fido2-hmac 49"), written);
+        assert_eq!(answers("write-identity fido2-hmac \\x01\\x00fido2-hmac 48"), "refused 15\n");
+        assert_eq!(answers("write-recipient Fido2-hmac \\e 0"), "refused 17\n");
+        assert_eq!(answers("write-recipient a \\e 12"), "ok age1a1lelu8n\n");
+        assert_eq!(answers("recipient age1a1lelu8n 0"), "ok a \\e\n");
+    }
+
+    #[test]
     fn all_lines_are_counted() {
         assert_eq!(
             answers("# one\n\nindex 3\nnothing\n#\nindex\nindex 4"),
@@ -187,7 +246,10 @@ mod tests {
         for line in [
             "stanza", "stanza a b", "write a b", "write a b 1 2", "write a b c", "write a b \\e", "index",
             "index 1 2", "INDEX 1", "index 1 ", " index 1", "index  1", "index \\q", "\\e", "open", "show",
-            "recipient a 1", "index\t1", "index 1\r", "index \u{e9}",
+            "checksum", "checksum a b", "recipient a", "recipient a 1 2", "recipient a b", "Recipient a 1",
+            "identity a", "identity a 65537", "write-recipient a b", "write-recipient a b 1 2",
+            "write-identity a b -1", "write_identity a b 1", "profile a b c", "judge a", "index\t1",
+            "index 1\r", "index \u{e9}",
         ] {
             assert_eq!(answers(line), "bad line 1\n", "{line}");
         }

@@ -93,15 +93,34 @@ pub fn print_ok_word(bytes: &[u8], out: &mut [u8], at: usize) -> usize {
     print_bytes(b"\n", out, b)
 }
 
+// The line of a call that answers two byte strings.
+pub fn print_ok_words(first: &[u8], second: &[u8], out: &mut [u8], at: usize) -> usize {
+    let a = print_bytes(b"ok ", out, at);
+    print_last_words(first, second, out, a)
+}
+
 // The line of a call that answers a number and two byte strings.
 pub fn print_ok_parts(n: u64, first: &[u8], second: &[u8], out: &mut [u8], at: usize) -> usize {
     let a = print_bytes(b"ok ", out, at);
     let b = print_number(n, out, a);
     let c = print_bytes(b" ", out, b);
-    let d = print_word(first, out, c);
-    let e = print_bytes(b" ", out, d);
-    let f = print_word(second, out, e);
-    print_bytes(b"\n", out, f)
+    print_last_words(first, second, out, c)
+}
+
+// The last two words of a line.
+fn print_last_words(first: &[u8], second: &[u8], out: &mut [u8], at: usize) -> usize {
+    let a = print_word(first, out, at);
+    let b = print_bytes(b" ", out, a);
+    let c = print_word(second, out, b);
+    print_bytes(b"\n", out, c)
+}
+
+// The line of a checksum.
+pub fn print_holds(holds: bool, out: &mut [u8], at: usize) -> usize {
+    if holds {
+        return print_bytes(b"ok holds\n", out, at);
+    }
+    print_bytes(b"ok fails\n", out, at)
 }
 
 // The answer of a line that is no call.

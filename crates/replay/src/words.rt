@@ -71,3 +71,11 @@ pub fn word(text: &[u8], w: Words, k: usize) -> &[u8] {
     }
     part(text, ends[k - 1], ends[k])
 }
+
+// The last word; empty where there is none.
+pub fn last_word(text: &[u8], w: Words) -> &[u8] {
+    if w.count == 0 {
+        return part(text, 0, 0);
+    }
+    word(text, w, w.count - 1)
+}

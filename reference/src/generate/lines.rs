@@ -25,7 +25,8 @@ fn wrong_calls(script: &mut Script) {
         script,
         &[
             "nothing", "nothing 1", "Stanza a", "INDEX 1", "indexes 1", "inde 1", "writ a b 1", "0", "\\e",
-            "\\e 1", "->", "index1",
+            "\\e 1", "->", "index1", "Checksum a", "checksums a", "recipients a 1", "Identity a 1",
+            "write- a b 1", "write_recipient a b 1", "write-Identity a b 1", "write-recipient-v1 a b 1",
         ],
     );
     script.heading("Another count of words");
@@ -33,7 +34,10 @@ fn wrong_calls(script: &mut Script) {
         script,
         &[
             "stanza", "stanza a b", "stanza \\e \\e", "index", "index 1 2", "index 1 2 3", "write",
-            "write a", "write a b", "write a b 1 2",
+            "write a", "write a b", "write a b 1 2", "checksum", "checksum a b", "recipient", "recipient a",
+            "recipient a 1 2", "identity", "identity a", "identity a 1 2", "write-recipient",
+            "write-recipient a b", "write-recipient a b 1 2", "write-identity", "write-identity a b",
+            "write-identity a b 1 2",
         ],
     );
 }
@@ -44,7 +48,8 @@ fn wrong_words(script: &mut Script) {
         script,
         &[
             " ", "  ", " index 1", "index  1", "index 1 ", "index ", "stanza ", "write a  9", "write  b 9",
-            "write a b ",
+            "write a b ", "checksum ", "checksum a ", "recipient  1", "identity a ", "write-recipient a  9",
+            "write-identity  b 9",
         ],
     );
     script.heading("Bad escapes");
@@ -53,7 +58,8 @@ fn wrong_words(script: &mut Script) {
         &[
             "index \\", "index 1\\", "index \\x", "index \\x3", "index \\x3g", "index \\xg1", "index \\x 1",
             "index \\x-1", "index \\x+1", "index \\X31", "index \\t", "index \\S", "index \\0", "\\index 1",
-            "stanza ->\\sdone\\n\\n\\", "write a\\q b 9", "write a b\\ 9", "write a b 9\\",
+            "stanza ->\\sdone\\n\\n\\", "write a\\q b 9", "write a b\\ 9", "write a b 9\\", "checksum a\\",
+            "recipient a\\ 9", "identity a 9\\", "write-recipient a\\q b 9", "write-identity a b\\x 9",
         ],
     );
 }
@@ -84,10 +90,25 @@ fn wrong_numbers(script: &mut Script) {
             "write a b 18446744073709551616",
             "write a b 18446744073709551624",
             "write a b 99999999999999999999999999999999999999999",
+            "recipient a \\e",
+            "recipient a x",
+            "recipient a 65537",
+            "identity a -1",
+            "identity a 18446744073709551616",
+            "write-recipient a b +9",
+            "write-recipient a b 65537",
+            "write-identity a b 9x",
+            "write-identity a b 4294967296",
         ],
     );
     script.heading("A bad number comes before what the call would refuse");
-    all(script, &["write \\e b 65537", "write a\\s\\sb b x"]);
+    all(
+        script,
+        &[
+            "write \\e b 65537", "write a\\s\\sb b x", "recipient \\e 65537", "identity a x",
+            "write-recipient A b 65537", "write-identity \\e b x",
+        ],
+    );
 }
 
 /// Each raw byte but LF, which would end the line.
@@ -115,7 +136,8 @@ fn odd_but_good(script: &mut Script) {
             "index \\x31\\x32", "index 1\\e2", "index \\e\\e1\\e", "index \\e\\e", "ind\\x65x 7",
             "\\eindex 7", "\\x73tanza ->\\x20done\\x0a\\x0A", "stanza \\x2D\\x3e\\x20\\x61\\x0A\\x0a",
             "write d\\x6Fne \\e 9", "write done \\e\\e \\x39", "write \\\\ \\\\\\\\ 20",
-            "write a \\xAb\\xaB\\xAB\\xab 20",
+            "write a \\xAb\\xaB\\xAB\\xab 20", "ch\\x65cksum A12UEL5\\x4c",
+            "recipient\\e age1\\e\\x611lelu8n \\x30", "write\\x2didentity \\x61 \\e 20",
         ],
     );
     script.heading("Leading zeros of OUT");
@@ -128,6 +150,8 @@ fn odd_but_good(script: &mut Script) {
             "write done \\e 0000000065536",
             "write done \\e 65535",
             "write done \\e 65536",
+            "recipient age1a1lelu8n 000",
+            "write-recipient a \\e 0012",
         ],
     );
 }
