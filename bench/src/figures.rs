@@ -1,7 +1,7 @@
 //! The time and the instructions of one call.
 
-use crate::stanzas::Measured;
-use crate::work::{repeat, Program, Task, PROGRAMS, TASKS};
+use crate::texts::Measured;
+use crate::work::{repeat, Program, Task, PROGRAMS};
 use std::process::Command;
 use std::time::{Duration, Instant};
 
@@ -62,13 +62,13 @@ fn under_valgrind(program: Program, task: Task, on: &Measured, times: usize) -> 
     collected.and_then(|count| count.trim().parse().ok()).expect("valgrind says what it collected")
 }
 
-/// `count PROGRAM TASK STANZA TIMES`: does the task so many times and nothing else.
+/// `count PROGRAM TASK TEXT TIMES`: does the task so many times and nothing else.
 pub fn count_one(words: &[String], measured: &[Measured]) {
-    let [_, program, task, stanza, times] = words else {
-        panic!("usage: bench [count PROGRAM TASK STANZA TIMES]");
+    let [_, program, task, text, times] = words else {
+        panic!("usage: bench [count PROGRAM TASK TEXT TIMES]");
     };
     let program = PROGRAMS.into_iter().find(|one| format!("{one:?}") == *program).expect("a program");
-    let task = TASKS.into_iter().find(|one| format!("{one:?}") == *task).expect("a task");
-    let on = measured.iter().find(|one| one.name == stanza).expect("a stanza");
-    repeat(program, task, on, times.parse().expect("how many times"));
+    let on = measured.iter().find(|one| one.name == text).expect("a text");
+    let task = on.tasks.iter().find(|one| format!("{one:?}") == *task).expect("a task on it");
+    repeat(program, *task, on, times.parse().expect("how many times"));
 }

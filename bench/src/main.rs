@@ -1,23 +1,43 @@
 //! The library beside the second program: the same results, then times and instruction counts. `bench/run` builds and runs it.
 //!
-//! `bench count PROGRAM TASK STANZA TIMES` is what it runs under valgrind.
+//! `bench count PROGRAM TASK TEXT TIMES` is what it runs under valgrind.
 
 mod agreement;
 mod figures;
 mod library;
-mod stanzas;
+mod texts;
 mod work;
 
-use stanzas::Measured;
-use work::{Task, TASKS};
+use reference::bech32::Kind;
+use texts::Measured;
+use work::Task;
 
-/// For orientation, from the issue: instructions to read and decode the small stanza and the large one.
-const PLAIN_C: [f64; 2] = [930.0, 15_000.0];
-const AGE_IN_GO: [f64; 2] = [6_100.0, 275_000.0];
+/// Figures of other programs, for orientation.
+struct Beside {
+    task: Task,
+    text: &'static str,
+    plain_c: f64,
+    age_in_go: f64,
+    /// At most so many times plain C.
+    aim: f64,
+}
+
+/// From the issues, instructions.
+const BESIDE: [Beside; 3] = [
+    Beside { task: Task::ReadAndDecode, text: "small", plain_c: 930.0, age_in_go: 6_100.0, aim: 2.0 },
+    Beside { task: Task::ReadAndDecode, text: "4k", plain_c: 15_000.0, age_in_go: 275_000.0, aim: 2.0 },
+    Beside {
+        task: Task::ReadText(Kind::Recipient),
+        text: "recipient-33",
+        plain_c: 1_160.0,
+        age_in_go: 18_500.0,
+        aim: 3.0,
+    },
+];
 
 fn main() {
     let words: Vec<String> = std::env::args().skip(1).collect();
-    let measured = stanzas::measured();
+    let measured = texts::measured();
     if words.is_empty() {
         report(&measured);
     } else {
@@ -25,22 +45,22 @@ fn main() {
     }
 }
 
-fn report(measured: &[Measured; 2]) {
+fn report(measured: &[Measured]) {
     println!("{} calls of the library and of the second program gave the same results.", agreement::check());
     println!("Output buffers were NOT cleared between calls: each is made once, and each call writes over the last.");
     println!("Times are the best of many rounds. Instructions are callgrind's and include the calling loop, 12 to 26 a turn.");
     println!();
     println!(
-        "{:<6} {:<16} {:>10} {:>10} {:>6}   {:>12} {:>12} {:>6}",
-        "stanza", "task", "library", "second", "ratio", "library", "second", "ratio"
+        "{:<13} {:<15} {:>10} {:>10} {:>6}   {:>12} {:>12} {:>6}",
+        "text", "task", "library", "second", "ratio", "library", "second", "ratio"
     );
-    let mut read_and_decode = Vec::new();
+    let mut counted = Vec::new();
     for on in measured {
-        for task in TASKS {
+        for &task in &on.tasks {
             let times = figures::nanoseconds(task, on);
             let counts = figures::instructions(task, on);
             println!(
-                "{:<6} {:<16} {:>7.0} ns {:>7.0} ns {:>6.2}   {:>7.0} ins. {:>7.0} ins. {:>6.2}",
+                "{:<13} {:<15} {:>7.0} ns {:>7.0} ns {:>6.2}   {:>7.0} ins. {:>7.0} ins. {:>6.2}",
                 on.name,
                 task.name(),
                 times[0],
@@ -50,23 +70,19 @@ fn report(measured: &[Measured; 2]) {
                 counts[1],
                 counts[0] / counts[1],
             );
-            if task == Task::ReadAndDecode {
-                read_and_decode.push(counts[0]);
-            }
+            counted.push((task, on.name, counts[0]));
         }
     }
     println!();
-    println!("Read and decode, instructions, beside the figures of the issue:");
-    for (at, on) in measured.iter().enumerate() {
-        let ours = read_and_decode[at];
+    println!("Instructions beside the figures of the issues:");
+    for Beside { task, text, plain_c, age_in_go, aim } in BESIDE {
+        let is_this = |one: &&(Task, &str, f64)| (one.0, one.1) == (task, text);
+        let (_, _, ours) = *counted.iter().find(is_this).expect("a figure of it");
         println!(
-            "{:<6} library {:>6.0}; plain C {:>6.0}, ratio {:.2} (aim: at most 2); age's Go code {:>6.0}, ratio {:.2}",
-            on.name,
-            ours,
-            PLAIN_C[at],
-            ours / PLAIN_C[at],
-            AGE_IN_GO[at],
-            ours / AGE_IN_GO[at],
+            "{text:<13} {:<15} library {ours:>6.0}; plain C {plain_c:>6.0}, ratio {:.2} (aim: at most {aim}); age's Go code {age_in_go:>6.0}, ratio {:.2}",
+            task.name(),
+            ours / plain_c,
+            ours / age_in_go,
         );
     }
 }

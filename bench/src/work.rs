@@ -1,7 +1,8 @@
 //! What is measured, each as a loop of so many calls. The output buffer is made once, and no call clears it.
 
-use crate::library::{self, Parts};
-use crate::stanzas::{Measured, ARGUMENTS, LIMIT};
+use crate::library::{self, Name, Parts};
+use crate::texts::{Measured, ARGUMENTS, LIMIT, NAME};
+use reference::bech32::{self, Kind};
 use reference::stanza;
 use std::hint::black_box;
 
@@ -19,17 +20,21 @@ pub enum Task {
     Decode,
     ReadAndDecode,
     Write,
+    /// Of a recipient or an identity: the name and the payload.
+    ReadText(Kind),
+    WriteText(Kind),
 }
 
-pub const TASKS: [Task; 4] = [Task::Read, Task::Decode, Task::ReadAndDecode, Task::Write];
+/// The tasks on a stanza.
+pub const STANZA_TASKS: [Task; 4] = [Task::Read, Task::Decode, Task::ReadAndDecode, Task::Write];
 
 impl Task {
     pub fn name(self) -> &'static str {
         match self {
-            Task::Read => "read",
+            Task::Read | Task::ReadText(_) => "read",
             Task::Decode => "decode the body",
             Task::ReadAndDecode => "read and decode",
-            Task::Write => "write",
+            Task::Write | Task::WriteText(_) => "write",
         }
     }
 }
@@ -45,6 +50,7 @@ pub fn repeat(program: Program, task: Task, on: &Measured, times: usize) {
 fn repeat_library(task: Task, on: &Measured, times: usize) {
     let out = &mut [0; LIMIT];
     let mut parts = Parts { line: 0, body: 0, taken: 0 };
+    let mut name = Name { bytes: [0; 32], length: 0 };
     let mut length = 0;
     match task {
         Task::Read => {
@@ -71,7 +77,20 @@ fn repeat_library(task: Task, on: &Measured, times: usize) {
         }
         Task::Write => {
             for _ in 0..times {
-                black_box(library::write(black_box(ARGUMENTS), black_box(&on.body), out, &mut length));
+                black_box(library::write(black_box(ARGUMENTS), black_box(&on.content), out, &mut length));
+                black_box(&mut *out);
+            }
+        }
+        Task::ReadText(kind) => {
+            for _ in 0..times {
+                black_box(library::read_text(kind, black_box(&on.text), &mut name, out, &mut length));
+                black_box((&mut name, &mut *out));
+            }
+        }
+        Task::WriteText(kind) => {
+            for _ in 0..times {
+                let (name, payload) = black_box((NAME, &on.content));
+                black_box(library::write_text(kind, name, payload, out, &mut length));
                 black_box(&mut *out);
             }
         }
@@ -103,7 +122,20 @@ fn repeat_reference(task: Task, on: &Measured, times: usize) {
         }
         Task::Write => {
             for _ in 0..times {
-                let _ = black_box(stanza::write(black_box(ARGUMENTS), black_box(&on.body), out));
+                let _ = black_box(stanza::write(black_box(ARGUMENTS), black_box(&on.content), out));
+                black_box(&mut *out);
+            }
+        }
+        Task::ReadText(kind) => {
+            for _ in 0..times {
+                let _ = black_box(bech32::read(kind, black_box(&on.text), out));
+                black_box(&mut *out);
+            }
+        }
+        Task::WriteText(kind) => {
+            for _ in 0..times {
+                let (name, payload) = black_box((NAME, &on.content));
+                let _ = black_box(bech32::write(kind, name, payload, out));
                 black_box(&mut *out);
             }
         }

@@ -1,15 +1,19 @@
 // The library for C and Rust (rt staticlib exports): a slice is a pointer and a length, and a reference to a number is a pointer.
-// Each function returns the paper's number, 0 where nothing was refused; its other results go to numbers and a buffer that the caller lends,
+// Each function returns the paper's number, 0 where nothing was refused; its other results go to numbers and buffers that the caller lends,
 // and a refused call leaves all of these as they were. There is no `requires`: any text, numbers and lengths will do. What a reference is stays
 // the caller's to keep, as in Rust: no null pointer, also with a length of 0, and what is lent to be written overlaps nothing else.
 ghost use mathlib.Core.Path.{_≡_};
 ghost use Rattle.stanza.specs.Index.{readIndex};
 ghost use Rattle.stanza.specs.Reading.{readFirst};
 ghost use Rattle.stanza.specs.Writing.{written, bufferAfter};
+ghost use Rattle.bech32.specs.Text.{recipient, identity, parse};
+ghost use Rattle.bech32.specs.Calls.{formOf, readAnswer, readBuffer, writeAnswer, writeBuffer};
 ghost use Rattle.refusal.specs.Output.{answered, filled};
 ghost use Rattle.exports.specs.Results.{numberIn, lengthOr, bodyAt};
 ghost use Rattle.exports.specs.Results.{readNumber, lineOr, bodyOr, takenOr};
 ghost use Rattle.exports.specs.Results.{indexNumber, valueOr};
+ghost use Rattle.exports.specs.Results.{nameOr, namedOr};
+use bech32::Kind;
 use refusal::Written;
 use stanza::First;
 use stanza::Index;
@@ -109,5 +113,118 @@ pub extern "C" fn flugremio_index(text: &[u8], value: &mut u32) -> u8
             ACCEPTED
         }
         Index::Refused(r) => refusal::number(r),
+    }
+}
+
+// The recipient that a text is: its name in lower case at the front of `name`, zeros behind it, and how many bytes the name has; its payload
+// at the front of `out`, and how many bytes that is. Or 16, then 15.
+#[no_mangle]
+pub extern "C" fn flugremio_read_recipient(
+    text: &[u8],
+    name: &mut [u8; 32],
+    named: &mut usize,
+    out: &mut [u8],
+    length: &mut usize,
+) -> u8
+    ensures number { λ r. ⌜ r ≡ numberIn (readAnswer (parse recipient (now (text .entry))) (now (out .entry))) ⌝ }
+    ensures name { λ _. ⌜ now (name .exit) ≡ nameOr (now (name .entry)) (parse recipient (now (text .entry))) (now (out .entry)) ⌝ }
+    ensures named { λ _. ⌜ now (named .exit) ≡ namedOr (now (named .entry)) (parse recipient (now (text .entry))) (now (out .entry)) ⌝ }
+    ensures buffer { λ _. ⌜ now (out .exit) ≡ readBuffer (parse recipient (now (text .entry))) (now (out .entry)) ⌝ }
+    ensures length { λ _. ⌜ now (length .exit) ≡ lengthOr (now (length .entry)) (readAnswer (parse recipient (now (text .entry))) (now (out .entry))) ⌝ }
+{
+    read_text(Kind::Recipient, text, name, named, out, length)
+}
+
+// The same for an identity; its name is given in lower case too.
+#[no_mangle]
+pub extern "C" fn flugremio_read_identity(
+    text: &[u8],
+    name: &mut [u8; 32],
+    named: &mut usize,
+    out: &mut [u8],
+    length: &mut usize,
+) -> u8
+    ensures number { λ r. ⌜ r ≡ numberIn (readAnswer (parse identity (now (text .entry))) (now (out .entry))) ⌝ }
+    ensures name { λ _. ⌜ now (name .exit) ≡ nameOr (now (name .entry)) (parse identity (now (text .entry))) (now (out .entry)) ⌝ }
+    ensures named { λ _. ⌜ now (named .exit) ≡ namedOr (now (named .entry)) (parse identity (now (text .entry))) (now (out .entry)) ⌝ }
+    ensures buffer { λ _. ⌜ now (out .exit) ≡ readBuffer (parse identity (now (text .entry))) (now (out .entry)) ⌝ }
+    ensures length { λ _. ⌜ now (length .exit) ≡ lengthOr (now (length .entry)) (readAnswer (parse identity (now (text .entry))) (now (out .entry))) ⌝ }
+{
+    read_text(Kind::Identity, text, name, named, out, length)
+}
+
+// The same for a text of the kind.
+fn read_text(
+    kind: Kind,
+    text: &[u8],
+    name: &mut [u8; 32],
+    named: &mut usize,
+    out: &mut [u8],
+    length: &mut usize,
+) -> u8
+    ensures number { λ r. ⌜ r ≡ numberIn (readAnswer (parse (formOf kind) (now (text .entry))) (now (out .entry))) ⌝ }
+    ensures name { λ _. ⌜ now (name .exit) ≡ nameOr (now (name .entry)) (parse (formOf kind) (now (text .entry))) (now (out .entry)) ⌝ }
+    ensures named { λ _. ⌜ now (named .exit) ≡ namedOr (now (named .entry)) (parse (formOf kind) (now (text .entry))) (now (out .entry)) ⌝ }
+    ensures buffer { λ _. ⌜ now (out .exit) ≡ readBuffer (parse (formOf kind) (now (text .entry))) (now (out .entry)) ⌝ }
+    ensures length { λ _. ⌜ now (length .exit) ≡ lengthOr (now (length .entry)) (readAnswer (parse (formOf kind) (now (text .entry))) (now (out .entry))) ⌝ }
+{
+    let reading = bech32::read(kind, text, out);
+    let answer = reading.answer;
+    match answer {
+        Written::Bytes(size) => {
+            let found = reading.name;
+            let bytes = found.bytes;
+            *name = bytes;
+            *named = found.length;
+            *length = size;
+            ACCEPTED
+        }
+        Written::Refused(r) => refusal::number(r),
+    }
+}
+
+// The recipient of a name in lower case and a payload, at the front of `out`, and how many bytes that is. Or 17, then 15.
+#[no_mangle]
+pub extern "C" fn flugremio_write_recipient(
+    name: &[u8],
+    payload: &[u8],
+    out: &mut [u8],
+    length: &mut usize,
+) -> u8
+    ensures number { λ r. ⌜ r ≡ numberIn (writeAnswer recipient (now (name .entry)) (now (payload .entry)) (now (out .entry))) ⌝ }
+    ensures buffer { λ _. ⌜ now (out .exit) ≡ writeBuffer recipient (now (name .entry)) (now (payload .entry)) (now (out .entry)) ⌝ }
+    ensures length { λ _. ⌜ now (length .exit) ≡ lengthOr (now (length .entry)) (writeAnswer recipient (now (name .entry)) (now (payload .entry)) (now (out .entry))) ⌝ }
+{
+    write_text(Kind::Recipient, name, payload, out, length)
+}
+
+// The same for an identity; its name is taken in lower case too.
+#[no_mangle]
+pub extern "C" fn flugremio_write_identity(
+    name: &[u8],
+    payload: &[u8],
+    out: &mut [u8],
+    length: &mut usize,
+) -> u8
+    ensures number { λ r. ⌜ r ≡ numberIn (writeAnswer identity (now (name .entry)) (now (payload .entry)) (now (out .entry))) ⌝ }
+    ensures buffer { λ _. ⌜ now (out .exit) ≡ writeBuffer identity (now (name .entry)) (now (payload .entry)) (now (out .entry)) ⌝ }
+    ensures length { λ _. ⌜ now (length .exit) ≡ lengthOr (now (length .entry)) (writeAnswer identity (now (name .entry)) (now (payload .entry)) (now (out .entry))) ⌝ }
+{
+    write_text(Kind::Identity, name, payload, out, length)
+}
+
+// The same for a text of the kind.
+fn write_text(kind: Kind, name: &[u8], payload: &[u8], out: &mut [u8], length: &mut usize) -> u8
+    ensures number { λ r. ⌜ r ≡ numberIn (writeAnswer (formOf kind) (now (name .entry)) (now (payload .entry)) (now (out .entry))) ⌝ }
+    ensures buffer { λ _. ⌜ now (out .exit) ≡ writeBuffer (formOf kind) (now (name .entry)) (now (payload .entry)) (now (out .entry)) ⌝ }
+    ensures length { λ _. ⌜ now (length .exit) ≡ lengthOr (now (length .entry)) (writeAnswer (formOf kind) (now (name .entry)) (now (payload .entry)) (now (out .entry))) ⌝ }
+{
+    let w = bech32::write(kind, name, payload, out);
+    match w {
+        Written::Bytes(n) => {
+            *length = n;
+            ACCEPTED
+        }
+        Written::Refused(r) => refusal::number(r),
     }
 }

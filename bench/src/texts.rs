@@ -1,0 +1,64 @@
+//! The texts that are measured: a header stanza as a client sends it, with a body as X25519 has it and with one of 4 KiB; a recipient and
+//! an identity, with a payload as a public key on a card has it and with one of 600 bytes.
+
+use crate::work::{Task, STANZA_TASKS};
+use reference::bech32::{self, Kind};
+use reference::stanza;
+
+/// The arguments of both stanzas, the command first.
+pub const ARGUMENTS: &[u8] = b"recipient-stanza 0 X25519 TEiF0ypqr+bpvcqXNyCVJpL7OuwPdVwPL7KQEbFDOCc";
+
+/// The name of the plugin in the recipients and identities.
+pub const NAME: &[u8] = b"yubikey";
+
+/// The longest text of a stanza; a recipient or an identity is shorter.
+pub const LIMIT: usize = stanza::LIMIT;
+
+/// A text to measure.
+pub struct Measured {
+    pub name: &'static str,
+    /// The body of the stanza, or the payload.
+    pub content: Vec<u8>,
+    pub text: Vec<u8>,
+    /// What is measured on it.
+    pub tasks: Vec<Task>,
+}
+
+/// The stanzas have 117 and 5,621 bytes, the recipients 71 and 978, the identities 79 and 986.
+pub fn measured() -> Vec<Measured> {
+    vec![
+        a_stanza("small", 32, 117),
+        a_stanza("4k", 4_096, 5_621),
+        bech32_text("recipient-33", Kind::Recipient, 33, 71),
+        bech32_text("recipient-600", Kind::Recipient, 600, 978),
+        bech32_text("identity-33", Kind::Identity, 33, 79),
+        bech32_text("identity-600", Kind::Identity, 600, 986),
+    ]
+}
+
+fn a_stanza(name: &'static str, body_len: usize, text_len: usize) -> Measured {
+    let content = bytes(body_len);
+    let text = written(|out| stanza::write(ARGUMENTS, &content, out).ok());
+    assert_eq!(text.len(), text_len);
+    Measured { name, content, text, tasks: STANZA_TASKS.to_vec() }
+}
+
+fn bech32_text(name: &'static str, kind: Kind, payload_len: usize, text_len: usize) -> Measured {
+    let content = bytes(payload_len);
+    let text = written(|out| bech32::write(kind, NAME, &content, out).ok());
+    assert_eq!(text.len(), text_len);
+    Measured { name, content, text, tasks: vec![Task::ReadText(kind), Task::WriteText(kind)] }
+}
+
+/// The text that the second program writes.
+fn written(write: impl Fn(&mut [u8]) -> Option<usize>) -> Vec<u8> {
+    let mut text = vec![0; LIMIT];
+    let len = write(&mut text).expect("what can be written");
+    text.truncate(len);
+    text
+}
+
+/// So many bytes, of all values.
+pub fn bytes(len: usize) -> Vec<u8> {
+    (0..len).map(|at| (at * 89 + at / 256 + len) as u8).collect()
+}
