@@ -1,0 +1,146 @@
+-- The commands of phase one (document 01, "Phase one": the table of commands).
+use Prim.Native.Nat.{ℕ}
+use mathlib.Core.Bool.{Bool, _&&_}
+use mathlib.Core.List.{List, [], _∷_, _++_}
+use lib.Dec.{leb, eqb}
+use lib.ListN.{length}
+use Rattle.refusal.specs.Number.{numberOf}
+use Rattle.refusal.specs.Pick.{pick}
+use Rattle.refusal.specs.Same.{same}
+use Rattle.stanza.specs.Arguments.{countOf, argumentOf}
+use Rattle.stanza.specs.Index.{readIndex, Reading, number, refused}
+use Rattle.bech32.specs.Text.{parse}
+use Rattle.bech32.specs.Calls.{formOf, markOf}
+use Rattle.bech32.specs.declared.charset.Kind.{Kind}
+use Rattle.bech32.specs.declared.charset.Kind.the-variants as the-kind
+use Rattle.profile.specs.Profile.{Finding, conforming, nonconforming, unknown, checked}
+use Rattle.session.specs.declared.commands.Machine.{Machine}
+use Rattle.session.specs.declared.commands.Machine.the-variants.{RecipientV1, IdentityV1}
+use Rattle.session.specs.declared.commands.Word.{Word as CodeWord}
+use Rattle.session.specs.declared.commands.Word.the-variants as code-word
+use Rattle.session.specs.declared.commands.Command.{Command as CodeCommand}
+use Rattle.session.specs.declared.commands.Command.the-variants as code-command
+
+-- ---- words
+
+-- "add-recipient", "add-identity", "wrap-file-key", "recipient-stanza", "done"
+abbrev pub addRecipient : List ℕ
+addRecipient = 97 ∷ 100 ∷ 100 ∷ 45 ∷ 114 ∷ 101 ∷ 99 ∷ 105 ∷ 112 ∷ 105 ∷ 101 ∷ 110 ∷ 116 ∷ []
+
+abbrev pub addIdentity : List ℕ
+addIdentity = 97 ∷ 100 ∷ 100 ∷ 45 ∷ 105 ∷ 100 ∷ 101 ∷ 110 ∷ 116 ∷ 105 ∷ 116 ∷ 121 ∷ []
+
+abbrev pub wrapFileKey : List ℕ
+wrapFileKey = 119 ∷ 114 ∷ 97 ∷ 112 ∷ 45 ∷ 102 ∷ 105 ∷ 108 ∷ 101 ∷ 45 ∷ 107 ∷ 101 ∷ 121 ∷ []
+
+abbrev pub recipientStanza : List ℕ
+recipientStanza = 114 ∷ 101 ∷ 99 ∷ 105 ∷ 112 ∷ 105 ∷ 101 ∷ 110 ∷ 116 ∷ 45 ∷ 115 ∷ 116 ∷ 97 ∷ 110 ∷ 122 ∷ 97 ∷ []
+
+abbrev pub doneWord : List ℕ
+doneWord = 100 ∷ 111 ∷ 110 ∷ 101 ∷ []
+
+-- the rows of the table
+pub data Word : Type 0 where
+  add-recipient : Word
+  add-identity : Word
+  wrap-file-key : Word
+  recipient-stanza : Word
+  done-word : Word
+  other-word : Word
+
+abbrev pub wordSaid : CodeWord → Word
+wordSaid code-word.AddRecipient = add-recipient
+wordSaid code-word.AddIdentity = add-identity
+wordSaid code-word.WrapFileKey = wrap-file-key
+wordSaid code-word.RecipientStanza = recipient-stanza
+wordSaid code-word.Done = done-word
+wordSaid code-word.Other = other-word
+
+-- which row a word names for a machine; any other word is no command of phase one
+abbrev pub wordIn : Machine → List ℕ → Word
+wordIn RecipientV1 w =
+    pick (same w addRecipient) add-recipient
+    (pick (same w addIdentity) add-identity (pick (same w wrapFileKey) wrap-file-key (pick (same w doneWord) done-word other-word)))
+wordIn IdentityV1 w = pick (same w addIdentity) add-identity (pick (same w recipientStanza) recipient-stanza (pick (same w doneWord) done-word other-word))
+
+-- ---- commands
+
+-- an entry with its mark, and for a header stanza its index; done; any other, which is ignored; or the number of a fault
+pub data Command : Type 0 where
+  recipient : ℕ → Command
+  identity : ℕ → Command
+  key : Command
+  header : ℕ → ℕ → Command
+  done : Command
+  other : Command
+  bad : ℕ → Command
+
+abbrev pub commandSaid : CodeCommand → Command
+commandSaid (code-command.Recipient m) = recipient m
+commandSaid (code-command.Identity m) = identity m
+commandSaid code-command.Key = key
+commandSaid (code-command.Header i m) = header i m
+commandSaid code-command.Done = done
+commandSaid code-command.Other = other
+commandSaid (code-command.Refused r) = bad (numberOf r)
+
+-- add-recipient, add-identity: one argument, no body. The mark is the reader's number for the session's plugin
+abbrev pub textOfKind : Kind → ℕ → Command
+textOfKind the-kind.Recipient m = recipient m
+textOfKind the-kind.Identity m = identity m
+
+abbrev pub textCommand : Kind → List ℕ → List ℕ → ℕ → Command
+textCommand k plugin line body =
+    pick (eqb (countOf line) 2 && eqb body 0) (textOfKind k (markOf (parse (formOf k) (argumentOf line 1)) plugin)) (bad 4)
+
+-- what stands behind the first space of a text
+unfoldable pub afterSpace : List ℕ → List ℕ
+afterSpace [] = []
+afterSpace (b ∷ t) = pick (eqb b 32) t (afterSpace t)
+
+-- everything after "index " on the first line of a header stanza: its tag and arguments
+abbrev pub restOf : List ℕ → List ℕ
+restOf line = afterSpace (afterSpace line)
+
+-- a header stanza's mark: 0 conforming, 1 nonconforming, 2 unknown
+abbrev pub findingMark : Finding → ℕ
+findingMark conforming = 0
+findingMark nonconforming = 1
+findingMark unknown = 2
+
+abbrev pub headerMark : List ℕ → List ℕ → ℕ → ℕ
+headerMark plugin line body = findingMark (checked plugin (restOf line) body)
+
+-- recipient-stanza: an index, a tag, any more, any body; 4 before 5
+abbrev pub indexed : Reading → ℕ → Command
+indexed (number i) m = header i m
+indexed (refused n) m = bad n
+
+abbrev pub headerCommand : List ℕ → List ℕ → ℕ → Command
+headerCommand plugin line body = pick (leb 3 (countOf line)) (indexed (readIndex (argumentOf line 1)) (headerMark plugin line body)) (bad 4)
+
+-- wrap-file-key: no argument, a body of 16 bytes; done: no argument, no body
+abbrev pub isBare : List ℕ → ℕ → ℕ → Bool
+isBare line body n = eqb (countOf line) 1 && eqb body n
+
+abbrev pub rowCommand : Word → List ℕ → List ℕ → ℕ → Command
+rowCommand add-recipient plugin line body = textCommand the-kind.Recipient plugin line body
+rowCommand add-identity plugin line body = textCommand the-kind.Identity plugin line body
+rowCommand wrap-file-key plugin line body = pick (isBare line body 16) key (bad 4)
+rowCommand recipient-stanza plugin line body = headerCommand plugin line body
+rowCommand done-word plugin line body = pick (isBare line body 0) done (bad 4)
+rowCommand other-word plugin line body = other
+
+-- the command of a stanza: its arguments' text, and how many bytes its body has
+abbrev pub command : Machine → List ℕ → List ℕ → ℕ → Command
+command machine plugin line body = rowCommand (wordIn machine (argumentOf line 0)) plugin line body
+
+-- an entry's payload: the argument, the key, or for a header stanza the rest of its first line, the LF, and its body
+abbrev pub payloadOf : Command → List ℕ → List ℕ → List ℕ
+payloadOf (recipient m) line body = argumentOf line 1
+payloadOf (identity m) line body = argumentOf line 1
+payloadOf key line body = body
+payloadOf (header i m) line body = restOf line ++ 10 ∷ body
+payloadOf done line body = []
+payloadOf other line body = []
+payloadOf (bad n) line body = []

@@ -1,0 +1,3 @@
+-- What both ends of a conversation keep.
+pub mod Commands
+pub mod Tables

@@ -1,0 +1,12 @@
+// What both ends of a conversation keep: machines, tables and their entries; the commands of phase one, what is decided of them, and what they do to the tables.
+mod commands;
+mod tables;
+
+pub use commands::Command;
+pub use commands::Machine;
+pub use commands::Word;
+pub use commands::parse_one;
+pub use commands::rest_of;
+pub use tables::Entry;
+pub use tables::Table64;
+pub use tables::Table256;
