@@ -1,5 +1,5 @@
 //! The texts that are measured: a header stanza as a client sends it, with a body as X25519 has it and with one of 4 KiB; a recipient and
-//! an identity, with a payload as a public key on a card has it and with one of 600 bytes.
+//! an identity, with a payload as a compressed public key has it, 33 bytes, and with one of 600.
 
 use crate::work::{Task, STANZA_TASKS};
 use reference::bech32::{self, Kind};

@@ -6,7 +6,7 @@ use Rattle.refusal.specs.Output.{said, bytes, refused}
 use Rattle.bech32.specs.Text.{parse}
 use Rattle.bech32.specs.Calls.{formOf, padded, readAnswer}
 use Rattle.exports.specs.Results.{numberIn, lengthOr}
-use Rattle.exports.proofs.Laws.Names.{name-made, name-kept}
+use Rattle.exports.proofs.Laws.Results.{name-made, name-kept}
 use borrow.Author.Needs.{needs}
 use Rattle.exports.proofs.read_text.Statement.{statement}
 use Rattle.exports.proofs.read_text.Tie as tie
