@@ -1,5 +1,6 @@
 // What both ends of a conversation keep: machines, tables and their entries; the commands of phase one, what is decided of them, and what they do to the tables.
 mod commands;
+mod copying;
 mod tables;
 
 pub use commands::Command;
