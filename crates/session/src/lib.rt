@@ -11,3 +11,4 @@ pub use commands::rest_of;
 pub use tables::Entry;
 pub use tables::Table64;
 pub use tables::Table256;
+pub use tables::Table384;

@@ -5,10 +5,10 @@ use mathlib.Core.List.{List, [], _∷_, _++_, append-assoc}
 use lib.Dec.{leb}
 use lib.ListN.{length, take, drop, getD, set, length-append}
 use lib.Seq.{drop-drop, set-at, append-snoc}
-use native.Mathlib.Omega.{arith}
-use borrow.Author.Tests.{le-leb, lt-leb}
+use borrow.Author.Tests.{le-leb, lt-leb, lt-ltb, le-ltb}
 use Rattle.refusal.specs.Pick.{pick}
 use Rattle.refusal.proofs.Laws.Lists.{drop-one, part-rest, put-rest, overwrite-part}
+use Rattle.session.specs.Tables.{Table, kept}
 use Rattle.session.specs.Steps.{pasted, laid}
 
 -- where it does not fit
@@ -34,10 +34,17 @@ two-lines first second a o₀ lent e h p =
     let n = length first in
     let b = set a n 10 in
     let s : b ≡ (first ++ (10 ∷ [])) ++ drop (n + 1) o₀ =
-        ap (λ x. set x n 10) (e ∙ ap (λ x. first ++ x) (drop-one o₀ n 0 h)) ∙ set-at first (getD o₀ n 0) (drop (n + 1) o₀) 10 n refl ∙ sym (append-snoc first 10 (drop (n + 1) o₀)) in
+    ap (λ x. set x n 10) (e ∙ ap (λ x. first ++ x) (drop-one o₀ n 0 h)) ∙ set-at first (getD o₀ n 0) (drop (n + 1) o₀) 10 n refl ∙ sym (append-snoc first 10 (drop (n + 1) o₀)) in
     let l : length (first ++ (10 ∷ [])) ≡ n + 1 = length-append first (10 ∷ []) in
     let m : length ((first ++ (10 ∷ [])) ++ second) ≡ n + 1 + length second = length-append (first ++ (10 ∷ [])) second ∙ ap (λ k. k + length second) l in
     put-rest (n + 1) b lent
     ∙ ap (λ x. take (n + 1) b ++ x) (p ∙ ap (λ d. second ++ drop (length second) d) (part-rest (n + 1) b))
     ∙ overwrite-part b o₀ (first ++ (10 ∷ [])) second (n + 1) s l
     ∙ ap₂ (λ x k. x ++ drop k o₀) (append-assoc first (10 ∷ []) second) m
+
+-- a payload behind those that are there, where a slot is free, and where none is
+pub kept-laid : (t : Table) (payload buffer : List ℕ) → t .count < t .width → laid payload (t .used) buffer ≡ kept t payload buffer
+kept-laid t payload buffer h = rw (lt-ltb (t .count) (t .width) h)
+
+pub kept-full : (t : Table) (payload buffer : List ℕ) → t .width ≤ t .count → buffer ≡ kept t payload buffer
+kept-full t payload buffer h = rw (le-ltb (t .count) (t .width) h)

@@ -1,6 +1,6 @@
-use Prim.Native.Nat.{_+_, _-_, _≤_}
+use Prim.Native.Nat.{_-_, _≤_}
 use mathlib.Core.List.{_++_}
-use mathlib.Core.Path.{_≡_, refl, sym, ap, ap₂, _∙_}
+use mathlib.Core.Path.{_≡_, refl}
 use denote.Ref.{now}
 use lib.ListN.{length, take, drop, length-set}
 use native.Mathlib.Omega.{arith}
@@ -48,7 +48,7 @@ same-length c = c .before .loop .inv .1
 
 -- src/copying.rt:9:1
 returns : tie.Need-returns Inv-loop μ-loop
-returns c = 
+returns c =
     let p = now (c .before .before .args .part) in
     front-whole p (c .before .loop .out) (now (c .before .before .args .out)) (c .before .loop .i) (c .before .loop .inv .2) (omega arith)
 

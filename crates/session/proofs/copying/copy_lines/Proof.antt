@@ -1,5 +1,5 @@
 use Prim.Native.Nat.{_+_, _-_}
-use mathlib.Core.Path.{_≡_, refl, sym, ap, ap₂, _∙_}
+use mathlib.Core.Path.{_∙_}
 use denote.Ref.{now}
 use lib.ListN.{length, set, length-set, length-drop}
 use native.Mathlib.Omega.{arith}
@@ -39,21 +39,21 @@ part-copy-end c = search needs
 
 -- src/copying.rt:43:5
 copy-requires-2 : tie.Need-copy-requires-2
-copy-requires-2 c κs = 
+copy-requires-2 c κs =
     let n = length (now (c .before .before .before .before .before .before .before .before .args .first)) in
     let b = set (c .before .before .before .copy .last .1 .0) n 10 in
     rw (part-rest (n + 1) b) (simp (length-drop, length-set) (omega (arith, c .before .before .before .copy .kept .1 .0, c .before .before .before .before .before .before .before .before .pre)))
 
 -- src/copying.rt:35:1
 same-length : tie.Need-same-length
-same-length c = 
+same-length c =
     let n = length (now (c .before .before .before .before .before .before .before .before .before .before .before .args .first)) in
     let a = c .before .before .before .before .before .before .copy .last .1 .0 in
     same-len-mid (n + 1) (length (set a n 10) - (n + 1)) (set a n 10) (c .before .before .copy2 .last .1 .0) (c .before .before .copy2 .kept .1 .0) ∙ length-set a n 10 ∙ c .before .before .before .before .before .before .copy .kept .1 .0
 
 -- src/copying.rt:35:1
 returns : tie.Need-returns
-returns c = 
+returns c =
     two-lines (now (c .before .before .before .before .before .before .before .before .before .before .before .args .first)) (now (c .before .before .before .before .before .before .before .before .before .before .before .args .second)) (c .before .before .before .before .before .before .copy .last .1 .0) (now (c .before .before .before .before .before .before .before .before .before .before .before .args .out)) (c .before .before .copy2 .last .1 .0) (c .before .before .before .before .before .before .copy .ensures) (omega (arith, c .before .before .before .before .before .before .before .before .before .before .before .pre)) (c .before .before .copy2 .ensures)
 
 pub copy-lines-spec : {M : Type 1} → statement M

@@ -1,6 +1,6 @@
 use Prim.Native.Nat.{_+_}
 use mathlib.Core.List.{_∷_, _++_}
-use mathlib.Core.Path.{_≡_, refl, sym, ap, ap₂, _∙_}
+use mathlib.Core.Path.{_≡_, _∙_}
 use denote.Ref.{now}
 use lib.ListN.{length, length-append}
 use native.Mathlib.Omega.{arith}
@@ -14,7 +14,7 @@ use Rattle.session.proofs.copying.copy_lines.Reads as copy-lines-reads
 
 -- src/copying.rt:52:9
 returns : tie.Need-returns
-returns c = 
+returns c =
     let f = now (c .before .before .before .before .args .first) in
     let s = now (c .before .before .before .before .args .second) in
     let b = now (c .before .before .before .before .args .buffer) in
@@ -24,7 +24,7 @@ returns c =
 
 -- src/copying.rt:56:9
 returns-2 : tie.Need-returns-2
-returns-2 c = 
+returns-2 c =
     let f = now (c .before .before .before .before .before .args .first) in
     let s = now (c .before .before .before .before .before .args .second) in
     let b = now (c .before .before .before .before .before .args .buffer) in
@@ -38,7 +38,7 @@ sub-if3 c = search needs
 
 -- src/copying.rt:59:9
 returns-3 : tie.Need-returns-3
-returns-3 c = 
+returns-3 c =
     let f = now (c .before .before .before .before .before .before .args .first) in
     let s = now (c .before .before .before .before .before .before .args .second) in
     let b = now (c .before .before .before .before .before .before .args .buffer) in
@@ -68,7 +68,7 @@ same-length c = search needs
 
 -- src/copying.rt:47:1
 returns-4 : tie.Need-returns-4
-returns-4 c = 
+returns-4 c =
     let f = now (c .before .before .before .before .before .before .before .before .before .before .args .first) in
     let s = now (c .before .before .before .before .before .before .before .before .before .before .args .second) in
     let b = now (c .before .before .before .before .before .before .before .before .before .before .args .buffer) in
