@@ -8,6 +8,7 @@ use Rattle.refusal.specs.Pick.{pick}
 use Rattle.session.specs.declared.tables.Entry.{Entry}
 use Rattle.session.specs.declared.tables.Table64.{Table64}
 use Rattle.session.specs.declared.tables.Table256.{Table256}
+use Rattle.session.specs.declared.tables.Table384.{Table384}
 
 -- `width` slots, of which the first `count` are entries; their payloads take the first `used` bytes of the kind's buffer
 pub record Table : Type 0 where
@@ -22,6 +23,9 @@ of64 t = record { width = 64; slots = t .slots; count = t .count; used = t .used
 
 abbrev pub of256 : Table256 → Table
 of256 t = record { width = 256; slots = t .slots; count = t .count; used = t .used }
+
+abbrev pub of384 : Table384 → Table
+of384 t = record { width = 384; slots = t .slots; count = t .count; used = t .used }
 
 -- an empty slot
 abbrev pub empty : Entry

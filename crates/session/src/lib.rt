@@ -1,5 +1,6 @@
 // What both ends of a conversation keep: machines, tables and their entries; the commands of phase one, what is decided of them, and what they do to the tables.
 mod commands;
+mod copying;
 mod tables;
 
 pub use commands::Command;
@@ -10,3 +11,4 @@ pub use commands::rest_of;
 pub use tables::Entry;
 pub use tables::Table64;
 pub use tables::Table256;
+pub use tables::Table384;

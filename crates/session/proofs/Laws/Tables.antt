@@ -29,6 +29,10 @@ module _ (t : Table) (n index mark room : ℕ) where
   pub enters : t .count < t .width → t .used + n ≤ room → appended t n index mark ≡ entered t n index mark room
   enters h g = rw (lt-ltb (t .count) (t .width) h, le-leb (t .used + n) room g)
 
+-- the same length, said otherwise
+pub enter-as : (x t : Table) (k n index mark room : ℕ) → k ≡ n → x ≡ entered t k index mark room → x ≡ entered t n index mark room
+enter-as x t k n index mark room q e = e ∙ ap (λ j. entered t j index mark room) q
+
 -- ---- tables that an opening and calls can reach: entries one behind the other, the rest of the slots as opened
 
 -- payloads one behind the other from s to u
