@@ -1,4 +1,5 @@
 -- What both ends of a conversation keep.
 pub mod Commands
+pub mod PhaseOne
 pub mod Steps
 pub mod Tables

@@ -1,6 +1,7 @@
 // What both ends of a conversation keep: machines, tables and their entries; the commands of phase one, what is decided of them, and what they do to the tables.
 mod commands;
 mod copying;
+mod phase_one;
 mod tables;
 
 pub use commands::Command;
@@ -8,6 +9,10 @@ pub use commands::Machine;
 pub use commands::Word;
 pub use commands::parse_one;
 pub use commands::rest_of;
+pub use phase_one::Tables;
+pub use phase_one::Verdict;
+pub use phase_one::decide_one;
+pub use phase_one::open_tables;
 pub use tables::Entry;
 pub use tables::Table64;
 pub use tables::Table256;

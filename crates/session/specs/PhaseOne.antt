@@ -1,0 +1,65 @@
+-- Phase one: what is decided of a command, and what it does (document 01, "Phase one" and "Numbers given back").
+use Prim.Native.Nat.{ℕ, _-_}
+use mathlib.Core.Bool.{Bool, _&&_}
+use mathlib.Core.List.{List, []}
+use lib.Dec.{ltb, leb}
+use lib.ListN.{length, getD}
+use Rattle.refusal.specs.Number.{numberOf}
+use Rattle.refusal.specs.Pick.{pick}
+use Rattle.session.specs.Commands.{Command, recipient, identity, key, header, done, other, bad}
+use Rattle.session.specs.Tables.{Table, of64, of256, of384, empty, opened, fits, entered, kept}
+use Rattle.session.specs.declared.phase_one.Tables.{Tables as CodeTables}
+use Rattle.session.specs.declared.phase_one.Verdict.{Verdict}
+use Rattle.session.specs.declared.phase_one.Verdict.the-variants as the
+
+-- a table for each kind: phase one's four, and for phase two errors, returned stanzas and returned keys
+pub record Tables : Type 0 where
+  pub recipients : Table
+  pub identities : Table
+  pub keys : Table
+  pub headers : Table
+  pub errors : Table
+  pub stanzas : Table
+  pub returned : Table
+
+abbrev pub tablesOf : CodeTables → Tables
+tablesOf t = record {
+  recipients = of64 (t .recipients);
+  identities = of64 (t .identities);
+  keys = of64 (t .keys);
+  headers = of256 (t .headers);
+  errors = of384 (t .errors);
+  stanzas = of256 (t .stanzas);
+  returned = of256 (t .returned);
+}
+
+-- 64 slots each for recipients, identities and file keys, 256 for header stanzas; 384, 256 and 256 for phase two
+abbrev pub openedTables : Tables
+openedTables = record {
+  recipients = opened 64;
+  identities = opened 64;
+  keys = opened 64;
+  headers = opened 256;
+  errors = opened 384;
+  stanzas = opened 256;
+  returned = opened 256;
+}
+
+-- header stanza indices never fall: an index is not less than that of the last one accepted
+abbrev pub falls : Table → ℕ → Bool
+falls t index = ltb 0 (t .count) && leb (t .count) (t .width) && ltb index (getD (t .slots) (t .count - 1) empty .index)
+
+-- the number of a verdict, 0 where nothing is refused
+abbrev pub verdictSaid : Verdict → ℕ
+verdictSaid the.Accepted = 0
+verdictSaid (the.Refused r) = numberOf r
+
+-- No. 8, no slot or the buffer is too short; for a header stanza No. 7 before it. done and an ignored command need no space
+abbrev pub decidedBy : Tables → Command → ℕ → ℕ → ℕ → ℕ → ℕ → ℕ
+decidedBy t (recipient m) n recipients identities keys headers = pick (fits (t .recipients) n recipients) 0 8
+decidedBy t (identity m) n recipients identities keys headers = pick (fits (t .identities) n identities) 0 8
+decidedBy t key n recipients identities keys headers = pick (fits (t .keys) n keys) 0 8
+decidedBy t (header i m) n recipients identities keys headers = pick (falls (t .headers) i) 7 (pick (fits (t .headers) n headers) 0 8)
+decidedBy t done n recipients identities keys headers = 0
+decidedBy t other n recipients identities keys headers = 0
+decidedBy t (bad k) n recipients identities keys headers = k

@@ -1,0 +1,125 @@
+// Phase one: what is decided of a command, and what it does to the tables and their buffers.
+ghost use mathlib.Core.Path.{_≡_};
+ghost use mathlib.Core.Bool.{_&&_};
+ghost use Prim.Native.Nat.{_+_};
+ghost use lib.Dec.{ltb, leb};
+ghost use lib.ListN.{length};
+ghost use Rattle.refusal.specs.Pick.{pick};
+ghost use Rattle.session.specs.Commands.{commandSaid};
+ghost use Rattle.session.specs.Tables.{of256, fits};
+ghost use Rattle.session.specs.PhaseOne.{tablesOf, openedTables, falls, decidedBy, verdictSaid};
+use crate::commands::Command;
+use crate::tables::Table256;
+use crate::tables::Table384;
+use crate::tables::Table64;
+use refusal::Refusal;
+
+// The tables of both phases.
+pub struct Tables {
+    pub recipients: Table64,
+    pub identities: Table64,
+    pub keys: Table64,
+    pub headers: Table256,
+    pub errors: Table384,
+    pub stanzas: Table256,
+    pub returned: Table256,
+}
+
+// What is decided of a command.
+pub enum Verdict {
+    Accepted,
+    Refused(Refusal),
+}
+
+// No entry of any kind.
+pub fn open_tables() -> Tables
+    ensures { λ r. ⌜ tablesOf r ≡ openedTables ⌝ }
+{
+    Tables {
+        recipients: Table64::open(),
+        identities: Table64::open(),
+        keys: Table64::open(),
+        headers: Table256::open(),
+        errors: Table384::open(),
+        stanzas: Table256::open(),
+        returned: Table256::open(),
+    }
+}
+
+// Whether a kind has a slot, and its buffer the room for n bytes more.
+fn has_space(count: usize, width: usize, used: usize, n: usize, room: usize) -> bool
+    ensures { λ r. ⌜ r ≡ (ltb count width && leb (used + n) room) ⌝ }
+{
+    if width <= count {
+        return false;
+    }
+    if room < used {
+        return false;
+    }
+    n <= room - used
+}
+
+// Whether an index is less than the last header stanza's.
+fn is_falling(headers: Table256, index: u32) -> bool
+    ensures { λ r. ⌜ r ≡ falls (of256 headers) index ⌝ }
+{
+    let count = headers.count;
+    if count == 0 {
+        return false;
+    }
+    if 256 < count {
+        return false;
+    }
+    let last = headers.slots[count - 1];
+    wide(index) < last.index
+}
+
+fn wide(index: u32) -> usize
+    ensures { λ r. ⌜ r ≡ index ⌝ }
+{
+    index as usize
+}
+
+// 8 where there is no space.
+fn space_or(has: bool) -> Verdict
+    ensures { λ r. ⌜ verdictSaid r ≡ pick has 0 8 ⌝ }
+{
+    if has {
+        return Verdict::Accepted;
+    }
+    Verdict::Refused(Refusal::NoSpace)
+}
+
+// A header stanza: 7, then 8.
+fn decide_header(headers: Table256, index: u32, n: usize, room: usize) -> Verdict
+    ensures { λ r. ⌜ verdictSaid r ≡ pick (falls (of256 headers) index) 7 (pick (fits (of256 headers) n room) 0 8) ⌝ }
+{
+    if is_falling(headers, index) {
+        return Verdict::Refused(Refusal::FallingIndex);
+    }
+    space_or(has_space(headers.count, 256, headers.used, n, room))
+}
+
+// What is decided of a command with a payload of n bytes, by the lengths of the four buffers.
+pub fn decide_one(tables: Tables, command: Command, n: usize, recipients: usize, identities: usize, keys: usize, headers: usize) -> Verdict
+    ensures { λ r. ⌜ verdictSaid r ≡ decidedBy (tablesOf tables) (commandSaid command) n recipients identities keys headers ⌝ }
+{
+    match command {
+        Command::Recipient(_) => {
+            let t = tables.recipients;
+            space_or(has_space(t.count, 64, t.used, n, recipients))
+        }
+        Command::Identity(_) => {
+            let t = tables.identities;
+            space_or(has_space(t.count, 64, t.used, n, identities))
+        }
+        Command::Key => {
+            let t = tables.keys;
+            space_or(has_space(t.count, 64, t.used, n, keys))
+        }
+        Command::Header(index, _) => decide_header(tables.headers, index, n, headers),
+        Command::Done => Verdict::Accepted,
+        Command::Other => Verdict::Accepted,
+        Command::Refused(r) => Verdict::Refused(r),
+    }
+}
