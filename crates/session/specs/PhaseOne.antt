@@ -63,3 +63,68 @@ decidedBy t (header i m) n recipients identities keys headers = pick (falls (t .
 decidedBy t done n recipients identities keys headers = 0
 decidedBy t other n recipients identities keys headers = 0
 decidedBy t (bad k) n recipients identities keys headers = k
+
+-- the four buffers of phase one
+pub record Buffers : Type 0 where
+  pub recipients : List ℕ
+  pub identities : List ℕ
+  pub keys : List ℕ
+  pub headers : List ℕ
+
+abbrev pub lent : List ℕ → List ℕ → List ℕ → List ℕ → Buffers
+lent r i k h = record { recipients = r; identities = i; keys = k; headers = h }
+
+abbrev pub decided : Tables → Buffers → Command → ℕ → ℕ
+decided t b c n = decidedBy t c n (length (b .recipients)) (length (b .identities)) (length (b .keys)) (length (b .headers))
+
+-- what an accepted command does: one entry more in its kind's table, with its index and its mark; no other table changes
+abbrev pub applied : Tables → Buffers → Command → List ℕ → Tables
+applied t b (recipient m) p = record {
+  recipients = entered (t .recipients) (length p) 0 m (length (b .recipients));
+  identities = t .identities;
+  keys = t .keys;
+  headers = t .headers;
+  errors = t .errors;
+  stanzas = t .stanzas;
+  returned = t .returned;
+}
+applied t b (identity m) p = record {
+  recipients = t .recipients;
+  identities = entered (t .identities) (length p) 0 m (length (b .identities));
+  keys = t .keys;
+  headers = t .headers;
+  errors = t .errors;
+  stanzas = t .stanzas;
+  returned = t .returned;
+}
+applied t b key p = record {
+  recipients = t .recipients;
+  identities = t .identities;
+  keys = entered (t .keys) (length p) 0 0 (length (b .keys));
+  headers = t .headers;
+  errors = t .errors;
+  stanzas = t .stanzas;
+  returned = t .returned;
+}
+applied t b (header i m) p = record {
+  recipients = t .recipients;
+  identities = t .identities;
+  keys = t .keys;
+  headers = entered (t .headers) (length p) i m (length (b .headers));
+  errors = t .errors;
+  stanzas = t .stanzas;
+  returned = t .returned;
+}
+applied t b done p = t
+applied t b other p = t
+applied t b (bad n) p = t
+
+-- and its payload in its kind's buffer; no other buffer changes
+abbrev pub filledBy : Tables → Buffers → Command → List ℕ → Buffers
+filledBy t b (recipient m) p = lent (kept (t .recipients) p (b .recipients)) (b .identities) (b .keys) (b .headers)
+filledBy t b (identity m) p = lent (b .recipients) (kept (t .identities) p (b .identities)) (b .keys) (b .headers)
+filledBy t b key p = lent (b .recipients) (b .identities) (kept (t .keys) p (b .keys)) (b .headers)
+filledBy t b (header i m) p = lent (b .recipients) (b .identities) (b .keys) (kept (t .headers) p (b .headers))
+filledBy t b done p = b
+filledBy t b other p = b
+filledBy t b (bad n) p = b

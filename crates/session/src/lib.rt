@@ -11,6 +11,7 @@ pub use commands::parse_one;
 pub use commands::rest_of;
 pub use phase_one::Tables;
 pub use phase_one::Verdict;
+pub use phase_one::apply_one;
 pub use phase_one::decide_one;
 pub use phase_one::open_tables;
 pub use tables::Entry;

@@ -5,10 +5,11 @@ ghost use Prim.Native.Nat.{_+_};
 ghost use lib.Dec.{ltb, leb};
 ghost use lib.ListN.{length};
 ghost use Rattle.refusal.specs.Pick.{pick};
-ghost use Rattle.session.specs.Commands.{commandSaid};
+ghost use Rattle.session.specs.Commands.{commandSaid, payloadOf};
 ghost use Rattle.session.specs.Tables.{of256, fits};
-ghost use Rattle.session.specs.PhaseOne.{tablesOf, openedTables, falls, decidedBy, verdictSaid};
+ghost use Rattle.session.specs.PhaseOne.{tablesOf, openedTables, falls, decidedBy, verdictSaid, lent, applied, filledBy};
 use crate::commands::Command;
+use crate::commands::rest_of;
 use crate::tables::Table256;
 use crate::tables::Table384;
 use crate::tables::Table64;
@@ -121,5 +122,51 @@ pub fn decide_one(tables: Tables, command: Command, n: usize, recipients: usize,
         Command::Done => Verdict::Accepted,
         Command::Other => Verdict::Accepted,
         Command::Refused(r) => Verdict::Refused(r),
+    }
+}
+
+// What a command does to the tables and the buffers: an entry of its kind with its payload, where it fits.
+pub fn apply_one(tables: Tables, command: Command, line: &[u8], body: &[u8], recipients: &mut [u8], identities: &mut [u8], keys: &mut [u8], headers: &mut [u8]) -> Tables
+    ensures tables { λ r. ⌜ tablesOf r ≡ applied (tablesOf tables) (lent (now (recipients .entry)) (now (identities .entry)) (now (keys .entry)) (now (headers .entry))) (commandSaid command) (payloadOf (commandSaid command) (now (line .entry)) (now (body .entry))) ⌝ }
+    ensures recipients { λ _. ⌜ now (recipients .exit) ≡ (filledBy (tablesOf tables) (lent (now (recipients .entry)) (now (identities .entry)) (now (keys .entry)) (now (headers .entry))) (commandSaid command) (payloadOf (commandSaid command) (now (line .entry)) (now (body .entry)))) .recipients ⌝ }
+    ensures identities { λ _. ⌜ now (identities .exit) ≡ (filledBy (tablesOf tables) (lent (now (recipients .entry)) (now (identities .entry)) (now (keys .entry)) (now (headers .entry))) (commandSaid command) (payloadOf (commandSaid command) (now (line .entry)) (now (body .entry)))) .identities ⌝ }
+    ensures keys { λ _. ⌜ now (keys .exit) ≡ (filledBy (tablesOf tables) (lent (now (recipients .entry)) (now (identities .entry)) (now (keys .entry)) (now (headers .entry))) (commandSaid command) (payloadOf (commandSaid command) (now (line .entry)) (now (body .entry)))) .keys ⌝ }
+    ensures headers { λ _. ⌜ now (headers .exit) ≡ (filledBy (tablesOf tables) (lent (now (recipients .entry)) (now (identities .entry)) (now (keys .entry)) (now (headers .entry))) (commandSaid command) (payloadOf (commandSaid command) (now (line .entry)) (now (body .entry)))) .headers ⌝ }
+{
+    match command {
+        Command::Recipient(mark) => {
+            let text = stanza::argument(line, 1);
+            let t = tables.recipients;
+            let after = t.store(text, 0, mark, recipients);
+            let mut s = tables;
+            s.recipients = after;
+            s
+        }
+        Command::Identity(mark) => {
+            let text = stanza::argument(line, 1);
+            let t = tables.identities;
+            let after = t.store(text, 0, mark, identities);
+            let mut s = tables;
+            s.identities = after;
+            s
+        }
+        Command::Key => {
+            let t = tables.keys;
+            let after = t.store(body, 0, 0, keys);
+            let mut s = tables;
+            s.keys = after;
+            s
+        }
+        Command::Header(index, mark) => {
+            let rest = rest_of(line);
+            let t = tables.headers;
+            let after = t.store_lines(rest, body, wide(index), mark, headers);
+            let mut s = tables;
+            s.headers = after;
+            s
+        }
+        Command::Done => tables,
+        Command::Other => tables,
+        Command::Refused(_) => tables,
     }
 }
