@@ -3,3 +3,4 @@ pub mod Commands
 pub mod PhaseOne
 pub mod Steps
 pub mod Tables
+pub mod Views

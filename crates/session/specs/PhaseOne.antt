@@ -2,12 +2,13 @@
 use Prim.Native.Nat.{ℕ, _-_}
 use mathlib.Core.Bool.{Bool, _&&_}
 use mathlib.Core.List.{List, []}
-use lib.Dec.{ltb, leb}
+use lib.Dec.{ltb, leb, eqb}
 use lib.ListN.{length, getD}
 use Rattle.refusal.specs.Number.{numberOf}
 use Rattle.refusal.specs.Pick.{pick}
-use Rattle.session.specs.Commands.{Command, recipient, identity, key, header, done, other, bad}
+use Rattle.session.specs.Commands.{command, payloadOf, Command, recipient, identity, key, header, done, other, bad}
 use Rattle.session.specs.Tables.{Table, of64, of256, of384, empty, opened, fits, entered, kept}
+use Rattle.session.specs.declared.commands.Machine.{Machine}
 use Rattle.session.specs.declared.phase_one.Tables.{Tables as CodeTables}
 use Rattle.session.specs.declared.phase_one.Verdict.{Verdict}
 use Rattle.session.specs.declared.phase_one.Verdict.the-variants as the
@@ -128,3 +129,23 @@ filledBy t b (header i m) p = lent (b .recipients) (b .identities) (b .keys) (ke
 filledBy t b done p = b
 filledBy t b other p = b
 filledBy t b (bad n) p = b
+
+-- ---- one command of phase one: its number, 0 where it is accepted; the tables and the buffers afterwards, as they were where it is refused
+
+-- the command and the payload of a stanza, by its arguments' text and its body
+abbrev pub commandIn : Machine → List ℕ → List ℕ → List ℕ → Command
+commandIn machine plugin line body = command machine plugin line (length body)
+
+abbrev pub payloadIn : Machine → List ℕ → List ℕ → List ℕ → List ℕ
+payloadIn machine plugin line body = payloadOf (commandIn machine plugin line body) line body
+
+abbrev pub numberOne : Machine → List ℕ → Tables → Buffers → List ℕ → List ℕ → ℕ
+numberOne machine plugin t b line body = decided t b (commandIn machine plugin line body) (length (payloadIn machine plugin line body))
+
+abbrev pub tablesOne : Machine → List ℕ → Tables → Buffers → List ℕ → List ℕ → Tables
+tablesOne machine plugin t b line body =
+    pick (eqb (numberOne machine plugin t b line body) 0) (applied t b (commandIn machine plugin line body) (payloadIn machine plugin line body)) t
+
+abbrev pub buffersOne : Machine → List ℕ → Tables → Buffers → List ℕ → List ℕ → Buffers
+buffersOne machine plugin t b line body =
+    pick (eqb (numberOne machine plugin t b line body) 0) (filledBy t b (commandIn machine plugin line body) (payloadIn machine plugin line body)) b

@@ -7,8 +7,10 @@ ghost use lib.ListN.{length};
 ghost use Rattle.refusal.specs.Pick.{pick};
 ghost use Rattle.session.specs.Commands.{commandSaid, payloadOf};
 ghost use Rattle.session.specs.Tables.{of256, fits};
-ghost use Rattle.session.specs.PhaseOne.{tablesOf, openedTables, falls, decidedBy, verdictSaid, lent, applied, filledBy};
+ghost use Rattle.session.specs.PhaseOne.{tablesOf, openedTables, falls, decidedBy, verdictSaid, lent, applied, filledBy, commandIn, numberOne, tablesOne, buffersOne};
 use crate::commands::Command;
+use crate::commands::Machine;
+use crate::commands::parse_one;
 use crate::commands::rest_of;
 use crate::tables::Table256;
 use crate::tables::Table384;
@@ -168,5 +170,57 @@ pub fn apply_one(tables: Tables, command: Command, line: &[u8], body: &[u8], rec
         Command::Done => tables,
         Command::Other => tables,
         Command::Refused(_) => tables,
+    }
+}
+
+// How many bytes a command's payload has; `body` is how many its body has.
+fn payload_length(command: Command, line: &[u8], body: &[u8]) -> usize
+    ensures { λ r. ⌜ r ≡ length (payloadOf (commandSaid command) (now (line .entry)) (now (body .entry))) ⌝ }
+{
+    match command {
+        Command::Recipient(_) => stanza::argument(line, 1).len(),
+        Command::Identity(_) => stanza::argument(line, 1).len(),
+        Command::Key => body.len(),
+        Command::Header(_, _) => rest_of(line).len() + 1 + body.len(),
+        Command::Done => 0,
+        Command::Other => 0,
+        Command::Refused(_) => 0,
+    }
+}
+
+// What a command of phase one came to: the command, the number if it is refused, and the tables.
+pub struct Step {
+    pub command: Command,
+    pub verdict: Verdict,
+    pub tables: Tables,
+}
+
+// One command of phase one, by its arguments' text and its body. Where it is refused the tables and the buffers stay as they were.
+pub fn step_one(machine: Machine, plugin: &[u8], tables: Tables, line: &[u8], body: &[u8], recipients: &mut [u8], identities: &mut [u8], keys: &mut [u8], headers: &mut [u8]) -> Step
+    ensures command { λ r. ⌜ commandSaid (r .command) ≡ commandIn machine (now (plugin .entry)) (now (line .entry)) (now (body .entry)) ⌝ }
+    ensures number { λ r. ⌜ verdictSaid (r .verdict) ≡ numberOne machine (now (plugin .entry)) (tablesOf tables) (lent (now (recipients .entry)) (now (identities .entry)) (now (keys .entry)) (now (headers .entry))) (now (line .entry)) (now (body .entry)) ⌝ }
+    ensures tables { λ r. ⌜ tablesOf (r .tables) ≡ tablesOne machine (now (plugin .entry)) (tablesOf tables) (lent (now (recipients .entry)) (now (identities .entry)) (now (keys .entry)) (now (headers .entry))) (now (line .entry)) (now (body .entry)) ⌝ }
+    ensures recipients { λ _. ⌜ now (recipients .exit) ≡ buffersOne machine (now (plugin .entry)) (tablesOf tables) (lent (now (recipients .entry)) (now (identities .entry)) (now (keys .entry)) (now (headers .entry))) (now (line .entry)) (now (body .entry)) .recipients ⌝ }
+    ensures identities { λ _. ⌜ now (identities .exit) ≡ buffersOne machine (now (plugin .entry)) (tablesOf tables) (lent (now (recipients .entry)) (now (identities .entry)) (now (keys .entry)) (now (headers .entry))) (now (line .entry)) (now (body .entry)) .identities ⌝ }
+    ensures keys { λ _. ⌜ now (keys .exit) ≡ buffersOne machine (now (plugin .entry)) (tablesOf tables) (lent (now (recipients .entry)) (now (identities .entry)) (now (keys .entry)) (now (headers .entry))) (now (line .entry)) (now (body .entry)) .keys ⌝ }
+    ensures headers { λ _. ⌜ now (headers .exit) ≡ buffersOne machine (now (plugin .entry)) (tablesOf tables) (lent (now (recipients .entry)) (now (identities .entry)) (now (keys .entry)) (now (headers .entry))) (now (line .entry)) (now (body .entry)) .headers ⌝ }
+{
+    let command = parse_one(machine, plugin, line, body.len());
+    let n = payload_length(command, line, body);
+    let verdict = decide_one(tables, command, n, recipients.len(), identities.len(), keys.len(), headers.len());
+    match verdict {
+        Verdict::Refused(_) => Step {
+            command: command,
+            verdict: verdict,
+            tables: tables,
+        },
+        Verdict::Accepted => {
+            let after = apply_one(tables, command, line, body, recipients, identities, keys, headers);
+            Step {
+                command: command,
+                verdict: verdict,
+                tables: after,
+            }
+        }
     }
 }
