@@ -12,9 +12,9 @@ use crate::commands::Command;
 use crate::commands::Machine;
 use crate::commands::parse_one;
 use crate::commands::rest_of;
+use crate::tables::Table64;
 use crate::tables::Table256;
 use crate::tables::Table384;
-use crate::tables::Table64;
 use refusal::Refusal;
 
 // The tables of both phases.
@@ -104,7 +104,15 @@ fn decide_header(headers: Table256, index: u32, n: usize, room: usize) -> Verdic
 }
 
 // What is decided of a command with a payload of n bytes, by the lengths of the four buffers.
-pub fn decide_one(tables: Tables, command: Command, n: usize, recipients: usize, identities: usize, keys: usize, headers: usize) -> Verdict
+pub fn decide_one(
+    tables: Tables,
+    command: Command,
+    n: usize,
+    recipients: usize,
+    identities: usize,
+    keys: usize,
+    headers: usize,
+) -> Verdict
     ensures { λ r. ⌜ verdictSaid r ≡ decidedBy (tablesOf tables) (commandSaid command) n recipients identities keys headers ⌝ }
 {
     match command {
@@ -128,7 +136,16 @@ pub fn decide_one(tables: Tables, command: Command, n: usize, recipients: usize,
 }
 
 // What a command does to the tables and the buffers: an entry of its kind with its payload, where it fits.
-pub fn apply_one(tables: Tables, command: Command, line: &[u8], body: &[u8], recipients: &mut [u8], identities: &mut [u8], keys: &mut [u8], headers: &mut [u8]) -> Tables
+pub fn apply_one(
+    tables: Tables,
+    command: Command,
+    line: &[u8],
+    body: &[u8],
+    recipients: &mut [u8],
+    identities: &mut [u8],
+    keys: &mut [u8],
+    headers: &mut [u8],
+) -> Tables
     ensures tables { λ r. ⌜ tablesOf r ≡ applied (tablesOf tables) (lent (now (recipients .entry)) (now (identities .entry)) (now (keys .entry)) (now (headers .entry))) (commandSaid command) (payloadOf (commandSaid command) (now (line .entry)) (now (body .entry))) ⌝ }
     ensures recipients { λ _. ⌜ now (recipients .exit) ≡ (filledBy (tablesOf tables) (lent (now (recipients .entry)) (now (identities .entry)) (now (keys .entry)) (now (headers .entry))) (commandSaid command) (payloadOf (commandSaid command) (now (line .entry)) (now (body .entry)))) .recipients ⌝ }
     ensures identities { λ _. ⌜ now (identities .exit) ≡ (filledBy (tablesOf tables) (lent (now (recipients .entry)) (now (identities .entry)) (now (keys .entry)) (now (headers .entry))) (commandSaid command) (payloadOf (commandSaid command) (now (line .entry)) (now (body .entry)))) .identities ⌝ }
@@ -196,7 +213,17 @@ pub struct Step {
 }
 
 // One command of phase one, by its arguments' text and its body. Where it is refused the tables and the buffers stay as they were.
-pub fn step_one(machine: Machine, plugin: &[u8], tables: Tables, line: &[u8], body: &[u8], recipients: &mut [u8], identities: &mut [u8], keys: &mut [u8], headers: &mut [u8]) -> Step
+pub fn step_one(
+    machine: Machine,
+    plugin: &[u8],
+    tables: Tables,
+    line: &[u8],
+    body: &[u8],
+    recipients: &mut [u8],
+    identities: &mut [u8],
+    keys: &mut [u8],
+    headers: &mut [u8],
+) -> Step
     ensures command { λ r. ⌜ commandSaid (r .command) ≡ commandIn machine (now (plugin .entry)) (now (line .entry)) (now (body .entry)) ⌝ }
     ensures number { λ r. ⌜ verdictSaid (r .verdict) ≡ numberOne machine (now (plugin .entry)) (tablesOf tables) (lent (now (recipients .entry)) (now (identities .entry)) (now (keys .entry)) (now (headers .entry))) (now (line .entry)) (now (body .entry)) ⌝ }
     ensures tables { λ r. ⌜ tablesOf (r .tables) ≡ tablesOne machine (now (plugin .entry)) (tablesOf tables) (lent (now (recipients .entry)) (now (identities .entry)) (now (keys .entry)) (now (headers .entry))) (now (line .entry)) (now (body .entry)) ⌝ }
@@ -207,7 +234,15 @@ pub fn step_one(machine: Machine, plugin: &[u8], tables: Tables, line: &[u8], bo
 {
     let command = parse_one(machine, plugin, line, body.len());
     let n = payload_length(command, line, body);
-    let verdict = decide_one(tables, command, n, recipients.len(), identities.len(), keys.len(), headers.len());
+    let verdict = decide_one(
+        tables,
+        command,
+        n,
+        recipients.len(),
+        identities.len(),
+        keys.len(),
+        headers.len(),
+    );
     match verdict {
         Verdict::Refused(_) => Step {
             command: command,
@@ -215,7 +250,16 @@ pub fn step_one(machine: Machine, plugin: &[u8], tables: Tables, line: &[u8], bo
             tables: tables,
         },
         Verdict::Accepted => {
-            let after = apply_one(tables, command, line, body, recipients, identities, keys, headers);
+            let after = apply_one(
+                tables,
+                command,
+                line,
+                body,
+                recipients,
+                identities,
+                keys,
+                headers,
+            );
             Step {
                 command: command,
                 verdict: verdict,

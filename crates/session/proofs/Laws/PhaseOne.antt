@@ -1,14 +1,21 @@
 -- Phase one's decision, by the tests of the code.
 use Prim.Native.Nat.{ℕ, _+_, _-_, _<_, _≤_}
 use mathlib.Core.Path.{_≡_, refl, sym, ap, _∙_}
-use mathlib.Core.Bool.{Bool, true, false, _&&_}
-use lib.Dec.{ltb, leb}
-use lib.ListN.{getD}
+use mathlib.Core.Bool.{true, false, _&&_}
+use mathlib.Core.List.{List}
+use lib.Dec.{ltb, leb, eqb}
+use lib.ListN.{length, getD}
 use native.Mathlib.Omega.{arith}
-use borrow.Author.Tests.{leb-true, leb-false, lt-ltb, le-ltb, le-leb, lt-leb}
+use borrow.Author.Tests.{leb-true, leb-false, lt-ltb, le-ltb, le-leb, lt-leb, eq-eqb}
 use Rattle.refusal.proofs.Laws.Booleans.{and-false-right, cases}
 use Rattle.session.specs.Tables.{Table, empty}
-use Rattle.session.specs.PhaseOne.{falls}
+use Rattle.refusal.specs.Pick.{pick}
+use Rattle.refusal.specs.Number.{numberOf}
+use Rattle.refusal.specs.declared.Refusal.{Refusal}
+use Rattle.refusal.specs.declared.Refusal.the-variants as the
+use Rattle.session.specs.Commands.{Command, payloadOf}
+use Rattle.session.specs.declared.commands.Machine.{Machine}
+use Rattle.session.specs.PhaseOne.{Tables, Buffers, falls, decided, applied, filledBy, commandIn, payloadIn, numberOne, tablesOne, buffersOne}
 
 module _ (count width used n room : ℕ) where
   pub no-slot : width ≤ count → false ≡ (ltb count width && leb (used + n) room)
@@ -33,3 +40,51 @@ module _ (t : Table) (index : ℕ) where
 
   pub falls-is : 0 < t .count → t .count ≤ t .width → ltb index (getD (t .slots) (t .count - 1) empty .index) ≡ falls t index
   falls-is h g = rw (lt-ltb 0 (t .count) h, le-leb (t .count) (t .width) g)
+
+-- ---- one command
+
+-- no refusal is 0
+pub number-not-zero : (r : Refusal) → eqb (numberOf r) 0 ≡ false
+number-not-zero the.NotStanza = refl
+number-not-zero the.Unfinished = refl
+number-not-zero the.TooLong = refl
+number-not-zero the.BadCommand = refl
+number-not-zero the.BadIndex = refl
+number-not-zero the.NoSuchIndex = refl
+number-not-zero the.FallingIndex = refl
+number-not-zero the.NoSpace = refl
+number-not-zero the.SecondKey = refl
+number-not-zero the.TooManyStanzas = refl
+number-not-zero the.WorkAndError = refl
+number-not-zero the.UnfitResponse = refl
+number-not-zero the.SessionOver = refl
+number-not-zero the.OutOfTurn = refl
+number-not-zero the.ShortOutput = refl
+number-not-zero the.NotBech32 = refl
+number-not-zero the.Unwritable = refl
+number-not-zero the.NoSuchMachine = refl
+number-not-zero the.HeldBack = refl
+
+module _ (m : Machine) (g : List ℕ) (t : Tables) (b : Buffers) (l y : List ℕ) where
+  pub number-is : (x : Command) (n v : ℕ) → x ≡ commandIn m g l y → n ≡ length (payloadOf x l y) → v ≡ decided t b x n → v ≡ numberOne m g t b l y
+  number-is x n v e q d = d ∙ ap (decided t b x) q ∙ ap (λ z. decided t b z (length (payloadOf z l y))) e
+
+  pub refused-one : (n : ℕ) → n ≡ numberOne m g t b l y → eqb n 0 ≡ false → (t ≡ tablesOne m g t b l y) × (b ≡ buffersOne m g t b l y)
+  refused-one n q f =
+      let z : eqb (numberOne m g t b l y) 0 ≡ false = ap (λ k. eqb k 0) (sym q) ∙ f in
+      (sym (ap (λ c. pick c (applied t b (commandIn m g l y) (payloadIn m g l y)) t) z), sym (ap (λ c. pick c (filledBy t b (commandIn m g l y) (payloadIn m g l y)) b) z))
+
+  accepted-one : (x : Command) → x ≡ commandIn m g l y → numberOne m g t b l y ≡ 0 →
+      (applied t b x (payloadOf x l y) ≡ tablesOne m g t b l y) × (filledBy t b x (payloadOf x l y) ≡ buffersOne m g t b l y)
+  accepted-one x e q =
+      let z : eqb (numberOne m g t b l y) 0 ≡ true = eq-eqb (numberOne m g t b l y) 0 q in (
+        ap (λ w. applied t b w (payloadOf w l y)) e ∙ sym (ap (λ c. pick c (applied t b (commandIn m g l y) (payloadIn m g l y)) t) z),
+        ap (λ w. filledBy t b w (payloadOf w l y)) e ∙ sym (ap (λ c. pick c (filledBy t b (commandIn m g l y) (payloadIn m g l y)) b) z),
+      )
+
+  pub accepted-all : (x : Command) (t′ : Tables) (r i k h : List ℕ) → x ≡ commandIn m g l y → numberOne m g t b l y ≡ 0 →
+      (t′ ≡ applied t b x (payloadOf x l y)) × ((r ≡ filledBy t b x (payloadOf x l y) .recipients) × ((i ≡ filledBy t b x (payloadOf x l y) .identities) × ((k ≡ filledBy t b x (payloadOf x l y) .keys) × (h ≡ filledBy t b x (payloadOf x l y) .headers)))) →
+      (t′ ≡ tablesOne m g t b l y) × ((r ≡ buffersOne m g t b l y .recipients) × ((i ≡ buffersOne m g t b l y .identities) × ((k ≡ buffersOne m g t b l y .keys) × (h ≡ buffersOne m g t b l y .headers))))
+  accepted-all x t′ r i k h e q a =
+      let w = accepted-one x e q in
+      (a .0 ∙ w .0, (a .1 .0 ∙ ap (λ z. z .recipients) (w .1), (a .1 .1 .0 ∙ ap (λ z. z .identities) (w .1), (a .1 .1 .1 .0 ∙ ap (λ z. z .keys) (w .1), a .1 .1 .1 .1 ∙ ap (λ z. z .headers) (w .1)))))

@@ -6,11 +6,10 @@ use mathlib.Core.List.{List, [], _∷_, _++_, append-nil}
 use lib.ListN.{length}
 use native.Mathlib.Omega.{arith}
 use Rattle.refusal.specs.Pick.{pick}
-use Rattle.refusal.proofs.Laws.Booleans.{cases}
 use Rattle.session.specs.Commands.{Command, recipient, identity, key, header, done, other, bad}
-use Rattle.session.specs.Tables.{Table, Row, opened, fits, entered, kept, view}
+use Rattle.session.specs.Tables.{Table, fits, entered, kept, view}
 use Rattle.session.specs.PhaseOne.{Tables, Buffers, openedTables, falls, decided, applied, filledBy}
-use Rattle.session.specs.Views.{Kind, recipients, identities, keys, headers, tableOf, bufferOf, viewOf, rowsOf}
+use Rattle.session.specs.Views.{Kind, recipients, identities, keys, headers, tableOf, viewOf, rowsOf}
 use Rattle.session.proofs.Laws.Tables.{Kept, opened-kept, entered-kept, entered-view}
 
 -- tables that an opening and calls can reach

@@ -1,5 +1,4 @@
-use mathlib.Core.Path.{_≡_, refl, sym, ap, ap₂, _∙_}
-use denote.Ref.{now}
+use mathlib.Core.Path.{sym, ap, _∙_}
 use Rattle.refusal.specs.Pick.{pick}
 use borrow.Author.Needs.{needs}
 use Rattle.session.proofs.phase_one.decide_header.Statement.{statement}
