@@ -1,14 +1,18 @@
 -- An accepted command of phase one adds one row to its kind's table and none to another's: once for every kind.
 use Prim.Native.Nat.{ℕ}
-use mathlib.Core.Path.{_≡_, refl, sym, ap, _∙_}
+use mathlib.Core.Path.{_≡_, refl, sym, ap, _∙_, subst}
 use mathlib.Core.Bool.{Bool, true, false}
 use mathlib.Core.List.{List, [], _∷_, _++_, append-nil}
+use lib.Dec.{eqb}
 use lib.ListN.{length}
 use native.Mathlib.Omega.{arith}
+use borrow.Author.Tests.{eqb-true}
 use Rattle.refusal.specs.Pick.{pick}
+use Rattle.refusal.proofs.Laws.Booleans.{cases}
 use Rattle.session.specs.Commands.{Command, recipient, identity, key, header, done, other, bad}
 use Rattle.session.specs.Tables.{Table, fits, entered, kept, view}
-use Rattle.session.specs.PhaseOne.{Tables, Buffers, openedTables, falls, decided, applied, filledBy}
+use Rattle.session.specs.declared.commands.Machine.{Machine}
+use Rattle.session.specs.PhaseOne.{Tables, Buffers, openedTables, falls, decided, applied, filledBy, commandIn, payloadIn, numberOne, tablesOne, buffersOne}
 use Rattle.session.specs.Views.{Kind, recipients, identities, keys, headers, tableOf, viewOf, rowsOf}
 use Rattle.session.proofs.Laws.Tables.{Kept, opened-kept, entered-kept, entered-view}
 
@@ -88,3 +92,24 @@ module _ (t : Tables) (b : Buffers) (p : List ℕ) (r : Reached t) where
   applied-view done h k = none k
   applied-view other h k = none k
   applied-view (bad n) h k = none k
+
+-- ---- one command, accepted or refused
+
+module _ (m : Machine) (g : List ℕ) (t : Tables) (b : Buffers) (l y : List ℕ) (r : Reached t) where
+  pub one-reached : Reached (tablesOne m g t b l y)
+  one-reached =
+      cases (eqb (numberOne m g t b l y) 0)
+      (λ e. subst Reached (sym (ap (λ x. pick x (applied t b (commandIn m g l y) (payloadIn m g l y)) t) e)) (applied-reached t b (commandIn m g l y) (payloadIn m g l y) r))
+      (λ e. subst Reached (sym (ap (λ x. pick x (applied t b (commandIn m g l y) (payloadIn m g l y)) t) e)) r)
+
+  -- the rows that it adds: one to its kind's table if it is accepted; none if it is refused, or ignored
+  pub one-view : (k : Kind) → viewOf k (tablesOne m g t b l y) (buffersOne m g t b l y) ≡ viewOf k t b ++ pick (eqb (numberOne m g t b l y) 0) (rowsOf (commandIn m g l y) k (payloadIn m g l y)) []
+  one-view k =
+      both (eqb (numberOne m g t b l y) 0)
+      (λ e. applied-view t b (payloadIn m g l y) r (commandIn m g l y) (eqb-true (numberOne m g t b l y) 0 e) k)
+    where
+      both : (f : Bool) →
+          (f ≡ true → viewOf k (applied t b (commandIn m g l y) (payloadIn m g l y)) (filledBy t b (commandIn m g l y) (payloadIn m g l y)) ≡ viewOf k t b ++ rowsOf (commandIn m g l y) k (payloadIn m g l y)) →
+          viewOf k (pick f (applied t b (commandIn m g l y) (payloadIn m g l y)) t) (pick f (filledBy t b (commandIn m g l y) (payloadIn m g l y)) b) ≡ viewOf k t b ++ pick f (rowsOf (commandIn m g l y) k (payloadIn m g l y)) []
+      both true h = h refl
+      both false h = sym (append-nil (viewOf k t b))
