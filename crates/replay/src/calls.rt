@@ -43,12 +43,12 @@ pub fn make_call(
         Call::Index => call_index(text, w, out, at),
         Call::Checksum => call_checksum(text, w, out, at),
         Call::Other => Answer::Bad,
-        _ => lend_buffer(call, text, w, buffer, out, at),
+        _ => with_buffer(call, text, w, buffer, out, at),
     }
 }
 
 // Makes a call that writes to a buffer of the length OUT, which is the line's last word.
-fn lend_buffer(
+fn with_buffer(
     call: Call,
     text: &[u8],
     w: Words,
@@ -61,11 +61,11 @@ fn lend_buffer(
         return Answer::Bad;
     };
     let n = v as usize;
-    call_lent(call, text, w, &mut buffer[..n], out, at)
+    call_buffered(call, text, w, &mut buffer[..n], out, at)
 }
 
 // The same, lent the buffer of that length.
-fn call_lent(
+fn call_buffered(
     call: Call,
     text: &[u8],
     w: Words,

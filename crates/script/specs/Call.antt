@@ -31,13 +31,15 @@ callSaid WriteRecipient = writeRecipient
 callSaid WriteIdentity = writeIdentity
 callSaid Other = other
 
--- the words "stanza", "write" and "index"
+-- "stanza"
 abbrev pub stanzaWord : List ℕ
 stanzaWord = 115 ∷ 116 ∷ 97 ∷ 110 ∷ 122 ∷ 97 ∷ []
 
+-- "write"
 abbrev pub writeWord : List ℕ
 writeWord = 119 ∷ 114 ∷ 105 ∷ 116 ∷ 101 ∷ []
 
+-- "index"
 abbrev pub indexWord : List ℕ
 indexWord = 105 ∷ 110 ∷ 100 ∷ 101 ∷ 120 ∷ []
 
@@ -45,15 +47,19 @@ indexWord = 105 ∷ 110 ∷ 100 ∷ 101 ∷ 120 ∷ []
 abbrev pub checksumWord : List ℕ
 checksumWord = 99 ∷ 104 ∷ 101 ∷ 99 ∷ 107 ∷ 115 ∷ 117 ∷ 109 ∷ []
 
+-- "recipient"
 abbrev pub recipientWord : List ℕ
 recipientWord = 114 ∷ 101 ∷ 99 ∷ 105 ∷ 112 ∷ 105 ∷ 101 ∷ 110 ∷ 116 ∷ []
 
+-- "identity"
 abbrev pub identityWord : List ℕ
 identityWord = 105 ∷ 100 ∷ 101 ∷ 110 ∷ 116 ∷ 105 ∷ 116 ∷ 121 ∷ []
 
+-- "write-recipient"
 abbrev pub writeRecipientWord : List ℕ
 writeRecipientWord = 119 ∷ 114 ∷ 105 ∷ 116 ∷ 101 ∷ 45 ∷ 114 ∷ 101 ∷ 99 ∷ 105 ∷ 112 ∷ 105 ∷ 101 ∷ 110 ∷ 116 ∷ []
 
+-- "write-identity"
 abbrev pub writeIdentityWord : List ℕ
 writeIdentityWord = 119 ∷ 114 ∷ 105 ∷ 116 ∷ 101 ∷ 45 ∷ 105 ∷ 100 ∷ 101 ∷ 110 ∷ 116 ∷ 105 ∷ 116 ∷ 121 ∷ []
 
@@ -61,6 +67,7 @@ writeIdentityWord = 119 ∷ 114 ∷ 105 ∷ 116 ∷ 101 ∷ 45 ∷ 105 ∷ 100 �
 abbrev pub callWords : List (List ℕ)
 callWords = stanzaWord ∷ writeWord ∷ indexWord ∷ checksumWord ∷ recipientWord ∷ identityWord ∷ writeRecipientWord ∷ writeIdentityWord ∷ []
 
+-- the calls in the order of the words
 abbrev pub calls : List Choice
 calls = stanza ∷ write ∷ index ∷ checksum ∷ recipient ∷ identity ∷ writeRecipient ∷ writeIdentity ∷ []
 

@@ -23,19 +23,23 @@ use Rattle.session.specs.declared.commands.Command.the-variants as code-
 
 -- ---- words
 
--- "add-recipient", "add-identity", "wrap-file-key", "recipient-stanza", "done"
+-- "add-recipient"
 abbrev pub addRecipient : List ℕ
 addRecipient = 97 ∷ 100 ∷ 100 ∷ 45 ∷ 114 ∷ 101 ∷ 99 ∷ 105 ∷ 112 ∷ 105 ∷ 101 ∷ 110 ∷ 116 ∷ []
 
+-- "add-identity"
 abbrev pub addIdentity : List ℕ
 addIdentity = 97 ∷ 100 ∷ 100 ∷ 45 ∷ 105 ∷ 100 ∷ 101 ∷ 110 ∷ 116 ∷ 105 ∷ 116 ∷ 121 ∷ []
 
+-- "wrap-file-key"
 abbrev pub wrapFileKey : List ℕ
 wrapFileKey = 119 ∷ 114 ∷ 97 ∷ 112 ∷ 45 ∷ 102 ∷ 105 ∷ 108 ∷ 101 ∷ 45 ∷ 107 ∷ 101 ∷ 121 ∷ []
 
+-- "recipient-stanza"
 abbrev pub recipientStanza : List ℕ
 recipientStanza = 114 ∷ 101 ∷ 99 ∷ 105 ∷ 112 ∷ 105 ∷ 101 ∷ 110 ∷ 116 ∷ 45 ∷ 115 ∷ 116 ∷ 97 ∷ 110 ∷ 122 ∷ 97 ∷ []
 
+-- "done"
 abbrev pub doneWord : List ℕ
 doneWord = 100 ∷ 111 ∷ 110 ∷ 101 ∷ []
 
@@ -48,6 +52,7 @@ pub data Word : Type 0 where
   done-word : Word
   other-word : Word
 
+-- what the code's word stands for
 abbrev pub wordSaid : CodeWord → Word
 wordSaid code-word.AddRecipient = add-recipient
 wordSaid code-word.AddIdentity = add-identity
@@ -75,6 +80,7 @@ pub data Command : Type 0 where
   other : Command
   bad : ℕ → Command
 
+-- what the code's command stands for
 abbrev pub commandSaid : CodeCommand → Command
 commandSaid (code-command.Recipient m) = recipient m
 commandSaid (code-command.Identity m) = identity m
@@ -84,11 +90,12 @@ commandSaid code-command.Done = done
 commandSaid code-command.Other = other
 commandSaid (code-command.Refused r) = bad (numberOf r)
 
--- add-recipient, add-identity: one argument, no body. The mark is the reader's number for the session's plugin
+-- a recipient or an identity with its mark
 abbrev pub textOfKind : Kind → ℕ → Command
 textOfKind the-kind.Recipient m = recipient m
 textOfKind the-kind.Identity m = identity m
 
+-- add-recipient, add-identity: one argument, no body. The mark is the reader's number for the session's plugin
 abbrev pub textCommand : Kind → List ℕ → List ℕ → ℕ → Command
 textCommand k plugin line body =
     pick (eqb (countOf line) 2 && eqb body 0) (textOfKind k (markOf (parse (formOf k) (argumentOf line 1)) plugin)) (bad 4)
@@ -108,21 +115,24 @@ findingMark conforming = 0
 findingMark nonconforming = 1
 findingMark unknown = 2
 
+-- by the check of the session's plugin, when the command is accepted
 abbrev pub headerMark : List ℕ → List ℕ → ℕ → ℕ
 headerMark plugin line body = findingMark (checked plugin (restOf line) body)
 
--- recipient-stanza: an index, a tag, any more, any body; 4 before 5
+-- a header stanza by what its index was read as
 abbrev pub indexed : Reading → ℕ → Command
 indexed (number i) m = header i m
 indexed (refused n) m = bad n
 
+-- recipient-stanza: an index, a tag, any more, any body; 4 before 5
 abbrev pub headerCommand : List ℕ → List ℕ → ℕ → Command
 headerCommand plugin line body = pick (leb 3 (countOf line)) (indexed (readIndex (argumentOf line 1)) (headerMark plugin line body)) (bad 4)
 
--- wrap-file-key: no argument, a body of 16 bytes; done: no argument, no body
+-- no argument, and a body of n bytes
 abbrev pub isBare : List ℕ → ℕ → ℕ → Bool
 isBare line body n = eqb (countOf line) 1 && eqb body n
 
+-- the rows of the table; wrap-file-key has no argument and a body of 16 bytes, done no argument and no body
 abbrev pub rowCommand : Word → List ℕ → List ℕ → ℕ → Command
 rowCommand add-recipient plugin line body = textCommand the-kind.Recipient plugin line body
 rowCommand add-identity plugin line body = textCommand the-kind.Identity plugin line body

@@ -23,6 +23,7 @@ pub record Tables : Type 0 where
   pub stanzas : Table
   pub returned : Table
 
+-- the code's tables
 abbrev pub tablesOf : CodeTables → Tables
 tablesOf t = record {
   recipients = of64 (t .recipients);
@@ -72,9 +73,11 @@ pub record Buffers : Type 0 where
   pub keys : List ℕ
   pub headers : List ℕ
 
-abbrev pub lent : List ℕ → List ℕ → List ℕ → List ℕ → Buffers
-lent r i k h = record { recipients = r; identities = i; keys = k; headers = h }
+-- the four together
+abbrev pub buffersOf : List ℕ → List ℕ → List ℕ → List ℕ → Buffers
+buffersOf r i k h = record { recipients = r; identities = i; keys = k; headers = h }
 
+-- the decision, by the buffers themselves
 abbrev pub decided : Tables → Buffers → Command → ℕ → ℕ
 decided t b c n = decidedBy t c n (length (b .recipients)) (length (b .identities)) (length (b .keys)) (length (b .headers))
 
@@ -122,30 +125,34 @@ applied t b (bad n) p = t
 
 -- and its payload in its kind's buffer; no other buffer changes
 abbrev pub filledBy : Tables → Buffers → Command → List ℕ → Buffers
-filledBy t b (recipient m) p = lent (kept (t .recipients) p (b .recipients)) (b .identities) (b .keys) (b .headers)
-filledBy t b (identity m) p = lent (b .recipients) (kept (t .identities) p (b .identities)) (b .keys) (b .headers)
-filledBy t b key p = lent (b .recipients) (b .identities) (kept (t .keys) p (b .keys)) (b .headers)
-filledBy t b (header i m) p = lent (b .recipients) (b .identities) (b .keys) (kept (t .headers) p (b .headers))
+filledBy t b (recipient m) p = buffersOf (kept (t .recipients) p (b .recipients)) (b .identities) (b .keys) (b .headers)
+filledBy t b (identity m) p = buffersOf (b .recipients) (kept (t .identities) p (b .identities)) (b .keys) (b .headers)
+filledBy t b key p = buffersOf (b .recipients) (b .identities) (kept (t .keys) p (b .keys)) (b .headers)
+filledBy t b (header i m) p = buffersOf (b .recipients) (b .identities) (b .keys) (kept (t .headers) p (b .headers))
 filledBy t b done p = b
 filledBy t b other p = b
 filledBy t b (bad n) p = b
 
 -- ---- one command of phase one: its number, 0 where it is accepted; the tables and the buffers afterwards, as they were where it is refused
 
--- the command and the payload of a stanza, by its arguments' text and its body
+-- the command of a stanza, by its arguments' text and its body
 abbrev pub commandIn : Machine → List ℕ → List ℕ → List ℕ → Command
 commandIn machine plugin line body = command machine plugin line (length body)
 
+-- its payload
 abbrev pub payloadIn : Machine → List ℕ → List ℕ → List ℕ → List ℕ
 payloadIn machine plugin line body = payloadOf (commandIn machine plugin line body) line body
 
+-- its number
 abbrev pub numberOne : Machine → List ℕ → Tables → Buffers → List ℕ → List ℕ → ℕ
 numberOne machine plugin t b line body = decided t b (commandIn machine plugin line body) (length (payloadIn machine plugin line body))
 
+-- the tables afterwards
 abbrev pub tablesOne : Machine → List ℕ → Tables → Buffers → List ℕ → List ℕ → Tables
 tablesOne machine plugin t b line body =
     pick (eqb (numberOne machine plugin t b line body) 0) (applied t b (commandIn machine plugin line body) (payloadIn machine plugin line body)) t
 
+-- the buffers afterwards
 abbrev pub buffersOne : Machine → List ℕ → Tables → Buffers → List ℕ → List ℕ → Buffers
 buffersOne machine plugin t b line body =
     pick (eqb (numberOne machine plugin t b line body) 0) (filledBy t b (commandIn machine plugin line body) (payloadIn machine plugin line body)) b

@@ -17,13 +17,15 @@ pub record Table : Type 0 where
   pub count : ℕ
   pub used : ℕ
 
--- the code's tables, at each width
+-- the code's tables, at each width: 64 slots
 abbrev pub of64 : Table64 → Table
 of64 t = record { width = 64; slots = t .slots; count = t .count; used = t .used }
 
+-- 256 slots
 abbrev pub of256 : Table256 → Table
 of256 t = record { width = 256; slots = t .slots; count = t .count; used = t .used }
 
+-- 384 slots
 abbrev pub of384 : Table384 → Table
 of384 t = record { width = 384; slots = t .slots; count = t .count; used = t .used }
 
@@ -37,7 +39,7 @@ opened n = record { width = n; slots = replicate n empty; count = 0; used = 0 }
 
 -- a command fits if its kind has a slot and the payload bytes so far plus its own are at most the buffer's length
 abbrev pub fits : Table → ℕ → ℕ → Bool
-fits t n room = ltb (t .count) (t .width) && leb (t .used + n) room
+fits t n capacity = ltb (t .count) (t .width) && leb (t .used + n) capacity
 
 -- one entry more: its number is the count before, its payload stands behind the others
 abbrev pub appended : Table → ℕ → ℕ → ℕ → Table
@@ -50,16 +52,17 @@ appended t n index mark = record {
 
 -- the same where it fits; else the table stays as it was
 abbrev pub entered : Table → ℕ → ℕ → ℕ → ℕ → Table
-entered t n index mark room = pick (fits t n room) (appended t n index mark) t
+entered t n index mark capacity = pick (fits t n capacity) (appended t n index mark) t
 
 -- ---- what a table shows
 
--- an entry's payload in the buffer, its index and its mark
+-- a row: payload, index and mark
 pub record Row : Type 0 where
   pub payload : List ℕ
   pub index : ℕ
   pub mark : ℕ
 
+-- the row of an entry, its payload read out of the buffer
 abbrev pub rowOf : List ℕ → Entry → Row
 rowOf buffer e = record { payload = take (e .length) (drop (e .start) buffer); index = e .index; mark = e .mark }
 

@@ -12,13 +12,14 @@ pub data Kind : Type 0 where
   keys : Kind
   headers : Kind
 
--- a kind's table, and its buffer
+-- a kind's table
 abbrev pub tableOf : Kind → Tables → Table
 tableOf recipients t = t .recipients
 tableOf identities t = t .identities
 tableOf keys t = t .keys
 tableOf headers t = t .headers
 
+-- a kind's buffer
 abbrev pub bufferOf : Kind → Buffers → List ℕ
 bufferOf recipients b = b .recipients
 bufferOf identities b = b .identities

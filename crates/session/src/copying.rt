@@ -21,11 +21,11 @@ fn copy(part: &[u8], out: &mut [u8])
 pub(crate) fn copy_at(part: &[u8], at: usize, buffer: &mut [u8])
     ensures { λ _. ⌜ now (buffer .exit) ≡ laid (now (part .entry)) at (now (buffer .entry)) ⌝ }
 {
-    let room = buffer.len();
-    if room < at {
+    let capacity = buffer.len();
+    if capacity < at {
         return;
     }
-    if room - at < part.len() {
+    if capacity - at < part.len() {
         return;
     }
     copy(part, &mut buffer[at..]);
@@ -47,11 +47,11 @@ fn copy_lines(first: &[u8], second: &[u8], out: &mut [u8])
 pub(crate) fn copy_lines_at(first: &[u8], second: &[u8], at: usize, buffer: &mut [u8])
     ensures { λ _. ⌜ now (buffer .exit) ≡ laid (now (first .entry) ++ 10 ∷ now (second .entry)) at (now (buffer .entry)) ⌝ }
 {
-    let room = buffer.len();
-    if room < at {
+    let capacity = buffer.len();
+    if capacity < at {
         return;
     }
-    let left = room - at;
+    let left = capacity - at;
     if left <= first.len() {
         return;
     }

@@ -7,7 +7,7 @@ ghost use lib.ListN.{length};
 ghost use Rattle.refusal.specs.Pick.{pick};
 ghost use Rattle.session.specs.Commands.{commandSaid, payloadOf};
 ghost use Rattle.session.specs.Tables.{of256, fits};
-ghost use Rattle.session.specs.PhaseOne.{tablesOf, openedTables, falls, decidedBy, verdictSaid, lent, applied, filledBy, commandIn, numberOne, tablesOne, buffersOne};
+ghost use Rattle.session.specs.PhaseOne.{tablesOf, openedTables, falls, decidedBy, verdictSaid, buffersOf, applied, filledBy, commandIn, numberOne, tablesOne, buffersOne};
 use crate::commands::Command;
 use crate::commands::Machine;
 use crate::commands::parse_one;
@@ -49,17 +49,17 @@ pub fn open_tables() -> Tables
     }
 }
 
-// Whether a kind has a slot, and its buffer the room for n bytes more.
-fn has_space(count: usize, width: usize, used: usize, n: usize, room: usize) -> bool
-    ensures { λ r. ⌜ r ≡ (ltb count width && leb (used + n) room) ⌝ }
+// Whether a kind has a slot, and its buffer space for n bytes more.
+fn has_space(count: usize, width: usize, used: usize, n: usize, capacity: usize) -> bool
+    ensures { λ r. ⌜ r ≡ (ltb count width && leb (used + n) capacity) ⌝ }
 {
     if width <= count {
         return false;
     }
-    if room < used {
+    if capacity < used {
         return false;
     }
-    n <= room - used
+    n <= capacity - used
 }
 
 // Whether an index is less than the last header stanza's.
@@ -94,13 +94,13 @@ fn space_or(has: bool) -> Verdict
 }
 
 // A header stanza: 7, then 8.
-fn decide_header(headers: Table256, index: u32, n: usize, room: usize) -> Verdict
-    ensures { λ r. ⌜ verdictSaid r ≡ pick (falls (of256 headers) index) 7 (pick (fits (of256 headers) n room) 0 8) ⌝ }
+fn decide_header(headers: Table256, index: u32, n: usize, capacity: usize) -> Verdict
+    ensures { λ r. ⌜ verdictSaid r ≡ pick (falls (of256 headers) index) 7 (pick (fits (of256 headers) n capacity) 0 8) ⌝ }
 {
     if is_falling(headers, index) {
         return Verdict::Refused(Refusal::FallingIndex);
     }
-    space_or(has_space(headers.count, 256, headers.used, n, room))
+    space_or(has_space(headers.count, 256, headers.used, n, capacity))
 }
 
 // What is decided of a command with a payload of n bytes, by the lengths of the four buffers.
@@ -146,11 +146,11 @@ pub fn apply_one(
     keys: &mut [u8],
     headers: &mut [u8],
 ) -> Tables
-    ensures tables { λ r. ⌜ tablesOf r ≡ applied (tablesOf tables) (lent (now (recipients .entry)) (now (identities .entry)) (now (keys .entry)) (now (headers .entry))) (commandSaid command) (payloadOf (commandSaid command) (now (line .entry)) (now (body .entry))) ⌝ }
-    ensures recipients { λ _. ⌜ now (recipients .exit) ≡ (filledBy (tablesOf tables) (lent (now (recipients .entry)) (now (identities .entry)) (now (keys .entry)) (now (headers .entry))) (commandSaid command) (payloadOf (commandSaid command) (now (line .entry)) (now (body .entry)))) .recipients ⌝ }
-    ensures identities { λ _. ⌜ now (identities .exit) ≡ (filledBy (tablesOf tables) (lent (now (recipients .entry)) (now (identities .entry)) (now (keys .entry)) (now (headers .entry))) (commandSaid command) (payloadOf (commandSaid command) (now (line .entry)) (now (body .entry)))) .identities ⌝ }
-    ensures keys { λ _. ⌜ now (keys .exit) ≡ (filledBy (tablesOf tables) (lent (now (recipients .entry)) (now (identities .entry)) (now (keys .entry)) (now (headers .entry))) (commandSaid command) (payloadOf (commandSaid command) (now (line .entry)) (now (body .entry)))) .keys ⌝ }
-    ensures headers { λ _. ⌜ now (headers .exit) ≡ (filledBy (tablesOf tables) (lent (now (recipients .entry)) (now (identities .entry)) (now (keys .entry)) (now (headers .entry))) (commandSaid command) (payloadOf (commandSaid command) (now (line .entry)) (now (body .entry)))) .headers ⌝ }
+    ensures tables { λ r. ⌜ tablesOf r ≡ applied (tablesOf tables) (buffersOf (now (recipients .entry)) (now (identities .entry)) (now (keys .entry)) (now (headers .entry))) (commandSaid command) (payloadOf (commandSaid command) (now (line .entry)) (now (body .entry))) ⌝ }
+    ensures recipients { λ _. ⌜ now (recipients .exit) ≡ (filledBy (tablesOf tables) (buffersOf (now (recipients .entry)) (now (identities .entry)) (now (keys .entry)) (now (headers .entry))) (commandSaid command) (payloadOf (commandSaid command) (now (line .entry)) (now (body .entry)))) .recipients ⌝ }
+    ensures identities { λ _. ⌜ now (identities .exit) ≡ (filledBy (tablesOf tables) (buffersOf (now (recipients .entry)) (now (identities .entry)) (now (keys .entry)) (now (headers .entry))) (commandSaid command) (payloadOf (commandSaid command) (now (line .entry)) (now (body .entry)))) .identities ⌝ }
+    ensures keys { λ _. ⌜ now (keys .exit) ≡ (filledBy (tablesOf tables) (buffersOf (now (recipients .entry)) (now (identities .entry)) (now (keys .entry)) (now (headers .entry))) (commandSaid command) (payloadOf (commandSaid command) (now (line .entry)) (now (body .entry)))) .keys ⌝ }
+    ensures headers { λ _. ⌜ now (headers .exit) ≡ (filledBy (tablesOf tables) (buffersOf (now (recipients .entry)) (now (identities .entry)) (now (keys .entry)) (now (headers .entry))) (commandSaid command) (payloadOf (commandSaid command) (now (line .entry)) (now (body .entry)))) .headers ⌝ }
 {
     match command {
         Command::Recipient(mark) => {
@@ -225,12 +225,12 @@ pub fn step_one(
     headers: &mut [u8],
 ) -> Step
     ensures command { λ r. ⌜ commandSaid (r .command) ≡ commandIn machine (now (plugin .entry)) (now (line .entry)) (now (body .entry)) ⌝ }
-    ensures number { λ r. ⌜ verdictSaid (r .verdict) ≡ numberOne machine (now (plugin .entry)) (tablesOf tables) (lent (now (recipients .entry)) (now (identities .entry)) (now (keys .entry)) (now (headers .entry))) (now (line .entry)) (now (body .entry)) ⌝ }
-    ensures tables { λ r. ⌜ tablesOf (r .tables) ≡ tablesOne machine (now (plugin .entry)) (tablesOf tables) (lent (now (recipients .entry)) (now (identities .entry)) (now (keys .entry)) (now (headers .entry))) (now (line .entry)) (now (body .entry)) ⌝ }
-    ensures recipients { λ _. ⌜ now (recipients .exit) ≡ buffersOne machine (now (plugin .entry)) (tablesOf tables) (lent (now (recipients .entry)) (now (identities .entry)) (now (keys .entry)) (now (headers .entry))) (now (line .entry)) (now (body .entry)) .recipients ⌝ }
-    ensures identities { λ _. ⌜ now (identities .exit) ≡ buffersOne machine (now (plugin .entry)) (tablesOf tables) (lent (now (recipients .entry)) (now (identities .entry)) (now (keys .entry)) (now (headers .entry))) (now (line .entry)) (now (body .entry)) .identities ⌝ }
-    ensures keys { λ _. ⌜ now (keys .exit) ≡ buffersOne machine (now (plugin .entry)) (tablesOf tables) (lent (now (recipients .entry)) (now (identities .entry)) (now (keys .entry)) (now (headers .entry))) (now (line .entry)) (now (body .entry)) .keys ⌝ }
-    ensures headers { λ _. ⌜ now (headers .exit) ≡ buffersOne machine (now (plugin .entry)) (tablesOf tables) (lent (now (recipients .entry)) (now (identities .entry)) (now (keys .entry)) (now (headers .entry))) (now (line .entry)) (now (body .entry)) .headers ⌝ }
+    ensures number { λ r. ⌜ verdictSaid (r .verdict) ≡ numberOne machine (now (plugin .entry)) (tablesOf tables) (buffersOf (now (recipients .entry)) (now (identities .entry)) (now (keys .entry)) (now (headers .entry))) (now (line .entry)) (now (body .entry)) ⌝ }
+    ensures tables { λ r. ⌜ tablesOf (r .tables) ≡ tablesOne machine (now (plugin .entry)) (tablesOf tables) (buffersOf (now (recipients .entry)) (now (identities .entry)) (now (keys .entry)) (now (headers .entry))) (now (line .entry)) (now (body .entry)) ⌝ }
+    ensures recipients { λ _. ⌜ now (recipients .exit) ≡ buffersOne machine (now (plugin .entry)) (tablesOf tables) (buffersOf (now (recipients .entry)) (now (identities .entry)) (now (keys .entry)) (now (headers .entry))) (now (line .entry)) (now (body .entry)) .recipients ⌝ }
+    ensures identities { λ _. ⌜ now (identities .exit) ≡ buffersOne machine (now (plugin .entry)) (tablesOf tables) (buffersOf (now (recipients .entry)) (now (identities .entry)) (now (keys .entry)) (now (headers .entry))) (now (line .entry)) (now (body .entry)) .identities ⌝ }
+    ensures keys { λ _. ⌜ now (keys .exit) ≡ buffersOne machine (now (plugin .entry)) (tablesOf tables) (buffersOf (now (recipients .entry)) (now (identities .entry)) (now (keys .entry)) (now (headers .entry))) (now (line .entry)) (now (body .entry)) .keys ⌝ }
+    ensures headers { λ _. ⌜ now (headers .exit) ≡ buffersOne machine (now (plugin .entry)) (tablesOf tables) (buffersOf (now (recipients .entry)) (now (identities .entry)) (now (keys .entry)) (now (headers .entry))) (now (line .entry)) (now (body .entry)) .headers ⌝ }
 {
     let command = parse_one(machine, plugin, line, body.len());
     let n = payload_length(command, line, body);

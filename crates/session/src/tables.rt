@@ -53,19 +53,19 @@ impl Table64 {
         }
     }
 
-    // One entry more, of `length` bytes of a buffer of `room` bytes; the table as it was where it does not fit.
-    pub fn enter(mut self, length: usize, index: usize, mark: u8, room: usize) -> Table64
-        ensures { λ r. ⌜ of64 r ≡ entered (of64 self) length index mark room ⌝ }
+    // One entry more, of `length` bytes of a buffer of `capacity` bytes; the table as it was where it does not fit.
+    pub fn enter(mut self, length: usize, index: usize, mark: u8, capacity: usize) -> Table64
+        ensures { λ r. ⌜ of64 r ≡ entered (of64 self) length index mark capacity ⌝ }
     {
         let count = self.count;
         let used = self.used;
         if 64 <= count {
             return self;
         }
-        if room < used {
+        if capacity < used {
             return self;
         }
-        if room - used < length {
+        if capacity - used < length {
             return self;
         }
         self.slots[count] = Entry {
@@ -90,9 +90,9 @@ impl Table64 {
             return self;
         }
         let n = payload.len();
-        let room = buffer.len();
+        let capacity = buffer.len();
         copy_at(payload, used, buffer);
-        self.enter(n, index, mark, room)
+        self.enter(n, index, mark, capacity)
     }
 }
 
@@ -113,19 +113,19 @@ impl Table256 {
         }
     }
 
-    // One entry more, of `length` bytes of a buffer of `room` bytes; the table as it was where it does not fit.
-    pub fn enter(mut self, length: usize, index: usize, mark: u8, room: usize) -> Table256
-        ensures { λ r. ⌜ of256 r ≡ entered (of256 self) length index mark room ⌝ }
+    // One entry more, of `length` bytes of a buffer of `capacity` bytes; the table as it was where it does not fit.
+    pub fn enter(mut self, length: usize, index: usize, mark: u8, capacity: usize) -> Table256
+        ensures { λ r. ⌜ of256 r ≡ entered (of256 self) length index mark capacity ⌝ }
     {
         let count = self.count;
         let used = self.used;
         if 256 <= count {
             return self;
         }
-        if room < used {
+        if capacity < used {
             return self;
         }
-        if room - used < length {
+        if capacity - used < length {
             return self;
         }
         self.slots[count] = Entry {
@@ -150,9 +150,9 @@ impl Table256 {
             return self;
         }
         let n = payload.len();
-        let room = buffer.len();
+        let capacity = buffer.len();
         copy_at(payload, used, buffer);
-        self.enter(n, index, mark, room)
+        self.enter(n, index, mark, capacity)
     }
 
     // The same for a payload of two parts with an LF between them.
@@ -173,9 +173,9 @@ impl Table256 {
             return self;
         }
         let n = first.len() + 1 + second.len();
-        let room = buffer.len();
+        let capacity = buffer.len();
         copy_lines_at(first, second, used, buffer);
-        self.enter(n, index, mark, room)
+        self.enter(n, index, mark, capacity)
     }
 }
 
@@ -196,19 +196,19 @@ impl Table384 {
         }
     }
 
-    // One entry more, of `length` bytes of a buffer of `room` bytes; the table as it was where it does not fit.
-    pub fn enter(mut self, length: usize, index: usize, mark: u8, room: usize) -> Table384
-        ensures { λ r. ⌜ of384 r ≡ entered (of384 self) length index mark room ⌝ }
+    // One entry more, of `length` bytes of a buffer of `capacity` bytes; the table as it was where it does not fit.
+    pub fn enter(mut self, length: usize, index: usize, mark: u8, capacity: usize) -> Table384
+        ensures { λ r. ⌜ of384 r ≡ entered (of384 self) length index mark capacity ⌝ }
     {
         let count = self.count;
         let used = self.used;
         if 384 <= count {
             return self;
         }
-        if room < used {
+        if capacity < used {
             return self;
         }
-        if room - used < length {
+        if capacity - used < length {
             return self;
         }
         self.slots[count] = Entry {
@@ -233,8 +233,8 @@ impl Table384 {
             return self;
         }
         let n = payload.len();
-        let room = buffer.len();
+        let capacity = buffer.len();
         copy_at(payload, used, buffer);
-        self.enter(n, index, mark, room)
+        self.enter(n, index, mark, capacity)
     }
 }

@@ -17,19 +17,19 @@ use Rattle.session.specs.Commands.{Command, payloadOf}
 use Rattle.session.specs.declared.commands.Machine.{Machine}
 use Rattle.session.specs.PhaseOne.{Tables, Buffers, falls, decided, applied, filledBy, commandIn, payloadIn, numberOne, tablesOne, buffersOne}
 
-module _ (count width used n room : ℕ) where
-  pub no-slot : width ≤ count → false ≡ (ltb count width && leb (used + n) room)
+module _ (count width used n capacity : ℕ) where
+  pub no-slot : width ≤ count → false ≡ (ltb count width && leb (used + n) capacity)
   no-slot h = rw (le-ltb count width h)
 
-  pub no-room : room < used + n → false ≡ (ltb count width && leb (used + n) room)
-  no-room h = sym (ap (λ b. ltb count width && b) (lt-leb (used + n) room h) ∙ and-false-right (ltb count width))
+  pub no-capacity : capacity < used + n → false ≡ (ltb count width && leb (used + n) capacity)
+  no-capacity h = sym (ap (λ b. ltb count width && b) (lt-leb (used + n) capacity h) ∙ and-false-right (ltb count width))
 
-  pub space-is : count < width → used ≤ room → leb n (room - used) ≡ (ltb count width && leb (used + n) room)
+  pub space-is : count < width → used ≤ capacity → leb n (capacity - used) ≡ (ltb count width && leb (used + n) capacity)
   space-is h g =
       rw (lt-ltb count width h)
-      (cases (leb n (room - used))
-      (λ e. let l = leb-true n (room - used) e in e ∙ sym (le-leb (used + n) room (omega arith)))
-      (λ e. let l = leb-false n (room - used) e in e ∙ sym (lt-leb (used + n) room (omega arith))))
+      (cases (leb n (capacity - used))
+      (λ e. let l = leb-true n (capacity - used) e in e ∙ sym (le-leb (used + n) capacity (omega arith)))
+      (λ e. let l = leb-false n (capacity - used) e in e ∙ sym (lt-leb (used + n) capacity (omega arith))))
 
 module _ (t : Table) (index : ℕ) where
   pub falls-none : t .count ≡ 0 → false ≡ falls t index

@@ -17,21 +17,21 @@ use Rattle.session.specs.declared.tables.Entry.{Entry}
 
 -- ---- what entering does, by the tests of the code
 
-module _ (t : Table) (n index mark room : ℕ) where
-  pub enter-full : t .width ≤ t .count → t ≡ entered t n index mark room
+module _ (t : Table) (n index mark capacity : ℕ) where
+  pub enter-full : t .width ≤ t .count → t ≡ entered t n index mark capacity
   enter-full h = rw (le-ltb (t .count) (t .width) h)
 
-  pub enter-short : room < t .used + n → t ≡ entered t n index mark room
+  pub enter-short : capacity < t .used + n → t ≡ entered t n index mark capacity
   enter-short h =
-      let e : fits t n room ≡ false = ap (λ b. ltb (t .count) (t .width) && b) (lt-leb (t .used + n) room h) ∙ and-false-right (ltb (t .count) (t .width)) in
+      let e : fits t n capacity ≡ false = ap (λ b. ltb (t .count) (t .width) && b) (lt-leb (t .used + n) capacity h) ∙ and-false-right (ltb (t .count) (t .width)) in
       rw e
 
-  pub enters : t .count < t .width → t .used + n ≤ room → appended t n index mark ≡ entered t n index mark room
-  enters h g = rw (lt-ltb (t .count) (t .width) h, le-leb (t .used + n) room g)
+  pub enters : t .count < t .width → t .used + n ≤ capacity → appended t n index mark ≡ entered t n index mark capacity
+  enters h g = rw (lt-ltb (t .count) (t .width) h, le-leb (t .used + n) capacity g)
 
 -- the same length, said otherwise
-pub enter-as : (x t : Table) (k n index mark room : ℕ) → k ≡ n → x ≡ entered t k index mark room → x ≡ entered t n index mark room
-enter-as x t k n index mark room q e = e ∙ ap (λ j. entered t j index mark room) q
+pub enter-as : (x t : Table) (k n index mark capacity : ℕ) → k ≡ n → x ≡ entered t k index mark capacity → x ≡ entered t n index mark capacity
+enter-as x t k n index mark capacity q e = e ∙ ap (λ j. entered t j index mark capacity) q
 
 -- ---- tables that an opening and calls can reach: entries one behind the other, the rest of the slots as opened
 
@@ -129,8 +129,8 @@ pub entered-view : (t : Table) (p b : List ℕ) (index mark : ℕ) → Kept t �
     view (entered t (length p) index mark (length b)) (kept t p b) ≡ pick (fits t (length p) (length b)) (view t b ++ (record { payload = p; index = index; mark = mark } ∷ [])) (view t b)
 entered-view t p b index mark k = cases (fits t (length p) (length b)) (λ f. rw f (appended-view t p b index mark k f)) (λ f. rw f)
 
-pub entered-kept : (t : Table) (n index mark room : ℕ) → Kept t → Kept (entered t n index mark room)
-entered-kept t n index mark room k =
-    cases (fits t n room)
-    (λ f. rw f (appended-kept t n index mark k (ltb-true (t .count) (t .width) (and-true (ltb (t .count) (t .width)) (leb (t .used + n) room) f .0))))
+pub entered-kept : (t : Table) (n index mark capacity : ℕ) → Kept t → Kept (entered t n index mark capacity)
+entered-kept t n index mark capacity k =
+    cases (fits t n capacity)
+    (λ f. rw f (appended-kept t n index mark k (ltb-true (t .count) (t .width) (and-true (ltb (t .count) (t .width)) (leb (t .used + n) capacity) f .0))))
     (λ f. rw f k)

@@ -1,5 +1,5 @@
 use native.Mathlib.Omega.{arith}
-use Rattle.session.proofs.Laws.PhaseOne.{no-slot, no-room, space-is}
+use Rattle.session.proofs.Laws.PhaseOne.{no-slot, no-capacity, space-is}
 use Rattle.session.proofs.phase_one.has_space.Statement.{statement}
 use Rattle.session.proofs.phase_one.has_space.Tie as tie
 use Rattle.session.proofs.phase_one.has_space.Reads as reads
@@ -7,15 +7,15 @@ use Rattle.session.proofs.phase_one.has_space.Lts as lts
 
 -- src/phase_one.rt:54:9
 returns : tie.Need-returns
-returns c = no-slot (c .before .args .count) (c .before .args .width) (c .before .args .used) (c .before .args .n) (c .before .args .room) (c .if1 .taken)
+returns c = no-slot (c .before .args .count) (c .before .args .width) (c .before .args .used) (c .before .args .n) (c .before .args .capacity) (c .if1 .taken)
 
 -- src/phase_one.rt:57:9
 returns-2 : tie.Need-returns-2
-returns-2 c = no-room (c .before .before .args .count) (c .before .before .args .width) (c .before .before .args .used) (c .before .before .args .n) (c .before .before .args .room) (omega arith)
+returns-2 c = no-capacity (c .before .before .args .count) (c .before .before .args .width) (c .before .before .args .used) (c .before .before .args .n) (c .before .before .args .capacity) (omega arith)
 
 -- src/phase_one.rt:50:1
 returns-3 : tie.Need-returns-3
-returns-3 c = space-is (c .before .before .args .count) (c .before .before .args .width) (c .before .before .args .used) (c .before .before .args .n) (c .before .before .args .room) (omega arith) (omega arith)
+returns-3 c = space-is (c .before .before .args .count) (c .before .before .args .width) (c .before .before .args .used) (c .before .before .args .n) (c .before .before .args .capacity) (omega arith) (omega arith)
 
 pub has-space-spec : {M : Type 1} → statement M
 has-space-spec = tie.close (tie.spec returns returns-2 returns-3)

@@ -2,7 +2,7 @@ use mathlib.Core.Path.{_≡_, sym, ap, _∙_}
 use denote.Ref.{now}
 use Rattle.refusal.specs.Number.{numberOf}
 use Rattle.session.specs.Commands.{commandSaid}
-use Rattle.session.specs.PhaseOne.{tablesOf, lent, verdictSaid, commandIn, numberOne}
+use Rattle.session.specs.PhaseOne.{tablesOf, buffersOf, verdictSaid, commandIn, numberOne}
 use Rattle.session.proofs.Laws.PhaseOne.{number-is, refused-one, accepted-all, number-not-zero}
 use borrow.Author.Needs.{needs}
 use Rattle.session.proofs.phase_one.step_one.Statement.{statement}
@@ -46,7 +46,7 @@ returns c =
     let l = now (c .before .before .before .before .before .before .before .before .before .before .before .before .args .line) in
     let y = now (c .before .before .before .before .before .before .before .before .before .before .before .before .args .body) in
     let t = tablesOf (c .before .before .before .before .before .before .before .before .before .before .before .before .args .tables) in
-    let b = lent (now (c .before .before .before .before .before .before .before .before .before .before .before .before .args .recipients)) (now (c .before .before .before .before .before .before .before .before .before .before .before .before .args .identities)) (now (c .before .before .before .before .before .before .before .before .before .before .before .before .args .keys)) (now (c .before .before .before .before .before .before .before .before .before .before .before .before .args .headers)) in
+    let b = buffersOf (now (c .before .before .before .before .before .before .before .before .before .before .before .before .args .recipients)) (now (c .before .before .before .before .before .before .before .before .before .before .before .before .args .identities)) (now (c .before .before .before .before .before .before .before .before .before .before .before .before .args .keys)) (now (c .before .before .before .before .before .before .before .before .before .before .before .before .args .headers)) in
     let x = commandSaid (c .before .before .before .before .parse-one .result) in
     let e : x ≡ commandIn m g l y = c .before .before .before .before .parse-one .ensures in
     let q : verdictSaid (c .before .before .decide-one .result) ≡ numberOne m g t b l y = number-is m g t b l y x (c .before .before .before .payload-length .result) (verdictSaid (c .before .before .decide-one .result)) e (c .before .before .before .payload-length .ensures) (c .before .before .decide-one .ensures) in
@@ -77,7 +77,7 @@ returns-2 c =
     let l = now (c .before .before .before .before .before .before .before .before .before .before .before .before .before .before .before .before .before .before .before .before .before .before .before .before .before .args .line) in
     let y = now (c .before .before .before .before .before .before .before .before .before .before .before .before .before .before .before .before .before .before .before .before .before .before .before .before .before .args .body) in
     let t = tablesOf (c .before .before .before .before .before .before .before .before .before .before .before .before .before .before .before .before .before .before .before .before .before .before .before .before .before .args .tables) in
-    let b = lent (now (c .before .before .before .before .before .before .before .before .before .before .before .before .before .before .before .before .before .before .before .before .before .before .before .before .before .args .recipients)) (now (c .before .before .before .before .before .before .before .before .before .before .before .before .before .before .before .before .before .before .before .before .before .before .before .before .before .args .identities)) (now (c .before .before .before .before .before .before .before .before .before .before .before .before .before .before .before .before .before .before .before .before .before .before .before .before .before .args .keys)) (now (c .before .before .before .before .before .before .before .before .before .before .before .before .before .before .before .before .before .before .before .before .before .before .before .before .before .args .headers)) in
+    let b = buffersOf (now (c .before .before .before .before .before .before .before .before .before .before .before .before .before .before .before .before .before .before .before .before .before .before .before .before .before .args .recipients)) (now (c .before .before .before .before .before .before .before .before .before .before .before .before .before .before .before .before .before .before .before .before .before .before .before .before .before .args .identities)) (now (c .before .before .before .before .before .before .before .before .before .before .before .before .before .before .before .before .before .before .before .before .before .before .before .before .before .args .keys)) (now (c .before .before .before .before .before .before .before .before .before .before .before .before .before .before .before .before .before .before .before .before .before .before .before .before .before .args .headers)) in
     let x = commandSaid (c .before .before .before .before .before .before .before .before .before .before .before .before .before .before .before .before .before .parse-one .result) in
     let e : x ≡ commandIn m g l y = c .before .before .before .before .before .before .before .before .before .before .before .before .before .before .before .before .before .parse-one .ensures in
     let q : verdictSaid (c .before .before .before .before .before .before .before .before .before .before .before .before .before .before .before .decide-one .result) ≡ numberOne m g t b l y = number-is m g t b l y x (c .before .before .before .before .before .before .before .before .before .before .before .before .before .before .before .before .payload-length .result) (verdictSaid (c .before .before .before .before .before .before .before .before .before .before .before .before .before .before .before .decide-one .result)) e (c .before .before .before .before .before .before .before .before .before .before .before .before .before .before .before .before .payload-length .ensures) (c .before .before .before .before .before .before .before .before .before .before .before .before .before .before .before .decide-one .ensures) in

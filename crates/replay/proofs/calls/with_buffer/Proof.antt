@@ -1,11 +1,11 @@
--- `lend_buffer` is safe: the number that was read is at most the buffer's length.
+-- `with_buffer` is safe: the number that was read is at most the buffer's length.
 use native.Mathlib.Omega.{arith}
 use lib.ListN.{length, length-take}
 use denote.Ref.{now}
 use Rattle.replay.proofs.Laws.{number-below}
 use borrow.Author.Needs.{needs}
-use Rattle.replay.proofs.calls.lend_buffer.Statement.{statement}
-use Rattle.replay.proofs.calls.lend_buffer.Tie as tie
+use Rattle.replay.proofs.calls.with_buffer.Statement.{statement}
+use Rattle.replay.proofs.calls.with_buffer.Tie as tie
 
 last-word-requires : tie.Need-last-word-requires
 last-word-requires c κs = search needs
@@ -22,17 +22,17 @@ enum-told c = search needs
 returns : tie.Need-returns
 returns c = search needs
 
-slice-relend-prefix-call-lent : tie.Need-slice-relend-prefix-call-lent
-slice-relend-prefix-call-lent c =
+slice-relend-prefix-call-buffered : tie.Need-slice-relend-prefix-call-buffered
+slice-relend-prefix-call-buffered c =
     number-below (now (c .before .before .before .before .last-word .result)) (length (now (c .before .before .before .before .before .before .before .before .args .buffer))) (c .before .before .before .read-number .result) (c .before .length .given .0 .0) (c .before .length .given .1) (c .before .before .before .read-number .ensures)
 
-slice-aggregate-call-lent : tie.Need-slice-aggregate-call-lent
-slice-aggregate-call-lent c =
+slice-aggregate-call-buffered : tie.Need-slice-aggregate-call-buffered
+slice-aggregate-call-buffered c =
     let h = number-below (now (c .before .before .before .before .before .last-word .result)) (length (now (c .before .before .before .before .before .before .before .before .before .args .buffer))) (c .before .before .before .before .read-number .result) (c .before .before .length .given .0 .0) (c .before .before .length .given .1) (c .before .before .before .before .read-number .ensures) in
     simp length-take (omega (arith, h))
 
-call-lent-requires : tie.Need-call-lent-requires
-call-lent-requires c κs = search needs
+call-buffered-requires : tie.Need-call-buffered-requires
+call-buffered-requires c κs = search needs
 
 same-length : tie.Need-same-length
 same-length c = search needs
@@ -43,8 +43,8 @@ same-length-2 c = search needs
 returns-2 : tie.Need-returns-2
 returns-2 c = search needs
 
-pub lend-buffer-spec : {M : Type 1} → statement M
-lend-buffer-spec =
+pub with-buffer-spec : {M : Type 1} → statement M
+with-buffer-spec =
     tie.close
     (tie.spec
     last-word-requires
@@ -52,9 +52,9 @@ lend-buffer-spec =
     enum-known-length
     enum-told
     returns
-    slice-relend-prefix-call-lent
-    slice-aggregate-call-lent
-    call-lent-requires
+    slice-relend-prefix-call-buffered
+    slice-aggregate-call-buffered
+    call-buffered-requires
     same-length
     same-length-2
     returns-2)
