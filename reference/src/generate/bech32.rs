@@ -1,5 +1,6 @@
 //! Lines for Bech32: the checksum alone, recipients and identities.
 
+use super::text::{exchanged, replaced};
 use super::{vectors, Script};
 use crate::bech32::Kind::{self, Identity, Recipient};
 use crate::bech32::{encode, symbols, ALPHABET, FINAL_VALUE, LIMIT, NAME_LIMIT};
@@ -369,18 +370,6 @@ fn lengthened(text: &[u8], zeros: usize) -> Vec<u8> {
     let (last, rest) = text.split_last().expect("a text");
     let zero = if text.iter().any(u8::is_ascii_uppercase) { b'Q' } else { b'q' };
     [rest, &vec![zero; zeros], &[*last]].concat()
-}
-
-fn replaced(text: &[u8], at: usize, byte: u8) -> Vec<u8> {
-    let mut text = text.to_vec();
-    text[at] = byte;
-    text
-}
-
-fn exchanged(text: &[u8], one: usize, other: usize) -> Vec<u8> {
-    let mut text = text.to_vec();
-    text.swap(one, other);
-    text
 }
 
 /// A name and a payload whose text has exactly the length, and the text.

@@ -173,13 +173,13 @@ fn moved_bytes(script: &mut Script, text: &[u8]) {
     }
 }
 
-fn replaced(text: &[u8], at: usize, byte: u8) -> Vec<u8> {
+pub(super) fn replaced(text: &[u8], at: usize, byte: u8) -> Vec<u8> {
     let mut text = text.to_vec();
     text[at] = byte;
     text
 }
 
-fn exchanged(text: &[u8], one: usize, other: usize) -> Vec<u8> {
+pub(super) fn exchanged(text: &[u8], one: usize, other: usize) -> Vec<u8> {
     let mut text = text.to_vec();
     text.swap(one, other);
     text
