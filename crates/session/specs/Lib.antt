@@ -1,6 +1,4 @@
 -- What both ends of a conversation keep.
 pub mod Commands
 pub mod PhaseOne
-pub mod Steps
-pub mod Tables
 pub mod Views

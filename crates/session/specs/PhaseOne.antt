@@ -7,7 +7,7 @@ use lib.ListN.{length, getD}
 use Rattle.refusal.specs.Number.{numberOf}
 use Rattle.refusal.specs.Pick.{pick}
 use Rattle.session.specs.Commands.{command, payloadOf, Command, recipient, identity, key, header, done, other, bad}
-use Rattle.session.specs.Tables.{Table, of64, of256, of384, empty, opened, fits, entered, kept}
+use Rattle.tables.specs.Tables.{Table, of64, of256, of384, empty, opened, fits, entered, kept}
 use Rattle.session.specs.declared.commands.Machine.{Machine}
 use Rattle.session.specs.declared.phase_one.Tables.{Tables as CodeTables}
 use Rattle.session.specs.declared.phase_one.Verdict.{Verdict}

@@ -2,7 +2,7 @@
 use Prim.Native.Nat.{ℕ}
 use mathlib.Core.List.{List, [], _∷_}
 use Rattle.session.specs.Commands.{Command, recipient, identity, key, header, done, other, bad}
-use Rattle.session.specs.Tables.{Table, Row, view}
+use Rattle.tables.specs.Tables.{Table, Row, view}
 use Rattle.session.specs.PhaseOne.{Tables, Buffers}
 
 -- the kinds of phase one

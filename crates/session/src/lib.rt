@@ -1,8 +1,6 @@
 // What both ends of a conversation keep: machines, tables and their entries; the commands of phase one, what is decided of them, and what they do to the tables.
 mod commands;
-mod copying;
 mod phase_one;
-mod tables;
 
 pub use commands::Command;
 pub use commands::Machine;
@@ -16,7 +14,3 @@ pub use phase_one::apply_one;
 pub use phase_one::decide_one;
 pub use phase_one::open_tables;
 pub use phase_one::step_one;
-pub use tables::Entry;
-pub use tables::Table64;
-pub use tables::Table256;
-pub use tables::Table384;

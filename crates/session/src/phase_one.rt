@@ -6,15 +6,15 @@ ghost use lib.Dec.{ltb, leb};
 ghost use lib.ListN.{length};
 ghost use Rattle.refusal.specs.Pick.{pick};
 ghost use Rattle.session.specs.Commands.{commandSaid, payloadOf};
-ghost use Rattle.session.specs.Tables.{of256, fits};
+ghost use Rattle.tables.specs.Tables.{of256, fits};
 ghost use Rattle.session.specs.PhaseOne.{tablesOf, openedTables, falls, decidedBy, verdictSaid, buffersOf, applied, filledBy, commandIn, numberOne, tablesOne, buffersOne};
 use crate::commands::Command;
 use crate::commands::Machine;
 use crate::commands::parse_one;
 use crate::commands::rest_of;
-use crate::tables::Table64;
-use crate::tables::Table256;
-use crate::tables::Table384;
+use tables::Table64;
+use tables::Table256;
+use tables::Table384;
 use refusal::Refusal;
 
 // The tables of both phases.

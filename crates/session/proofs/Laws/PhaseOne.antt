@@ -8,7 +8,7 @@ use lib.ListN.{length, getD}
 use native.Mathlib.Omega.{arith}
 use borrow.Author.Tests.{leb-true, leb-false, lt-ltb, le-ltb, le-leb, lt-leb, eq-eqb}
 use Rattle.refusal.proofs.Laws.Booleans.{and-false-right, cases}
-use Rattle.session.specs.Tables.{Table, empty}
+use Rattle.tables.specs.Tables.{Table, empty}
 use Rattle.refusal.specs.Pick.{pick}
 use Rattle.refusal.specs.Number.{numberOf}
 use Rattle.refusal.specs.declared.Refusal.{Refusal}

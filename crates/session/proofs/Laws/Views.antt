@@ -10,11 +10,11 @@ use borrow.Author.Tests.{eqb-true}
 use Rattle.refusal.specs.Pick.{pick}
 use Rattle.refusal.proofs.Laws.Booleans.{cases}
 use Rattle.session.specs.Commands.{Command, recipient, identity, key, header, done, other, bad}
-use Rattle.session.specs.Tables.{Table, fits, entered, kept, view}
+use Rattle.tables.specs.Tables.{Table, fits, entered, kept, view}
 use Rattle.session.specs.declared.commands.Machine.{Machine}
 use Rattle.session.specs.PhaseOne.{Tables, Buffers, openedTables, falls, decided, applied, filledBy, commandIn, payloadIn, numberOne, tablesOne, buffersOne}
 use Rattle.session.specs.Views.{Kind, recipients, identities, keys, headers, tableOf, viewOf, rowsOf}
-use Rattle.session.proofs.Laws.Tables.{Kept, opened-kept, entered-kept, entered-view}
+use Rattle.tables.proofs.Laws.Tables.{Kept, opened-kept, entered-kept, entered-view}
 
 -- tables that an opening and calls can reach
 unfoldable pub Reached : Tables → Type 0

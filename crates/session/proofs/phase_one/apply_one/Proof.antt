@@ -6,8 +6,6 @@ use Rattle.session.proofs.phase_one.apply_one.Reads as reads
 use Rattle.session.proofs.phase_one.apply_one.Lts as lts
 use Rattle.session.proofs.commands.rest_of.Reads as rest-of-reads
 use Rattle.session.proofs.phase_one.wide.Reads as wide-reads
-use Rattle.session.proofs.tables.Table256.store_lines.Reads as store-lines-reads
-use Rattle.session.proofs.tables.Table64.store.Reads as store-reads
 use Rattle.stanza.proofs.argument.Reads as argument-reads
 
 -- src/phase_one.rt:137:28

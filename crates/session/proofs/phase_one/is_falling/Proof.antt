@@ -1,5 +1,5 @@
 use native.Mathlib.Omega.{arith}
-use Rattle.session.specs.Tables.{of256}
+use Rattle.tables.specs.Tables.{of256}
 use Rattle.session.proofs.Laws.PhaseOne.{falls-none, falls-over, falls-is}
 use borrow.Author.Needs.{needs}
 use Rattle.session.proofs.phase_one.is_falling.Statement.{statement}

@@ -3,9 +3,6 @@ use Rattle.session.proofs.phase_one.open_tables.Statement.{statement}
 use Rattle.session.proofs.phase_one.open_tables.Tie as tie
 use Rattle.session.proofs.phase_one.open_tables.Reads as reads
 use Rattle.session.proofs.phase_one.open_tables.Lts as lts
-use Rattle.session.proofs.tables.Table256.open.Reads as tables-Table256-open-reads
-use Rattle.session.proofs.tables.Table384.open.Reads as tables-Table384-open-reads
-use Rattle.session.proofs.tables.Table64.open.Reads as tables-Table64-open-reads
 
 -- src/phase_one.rt:39:21
 open-requires : tie.Need-open-requires

@@ -1,0 +1,3 @@
+-- Tables of entries.
+pub mod Steps
+pub mod Tables

@@ -1,0 +1,79 @@
+-- The tables (document 01, "Phase one": "Each kind has its own numbering from 0 and its own lent room", there called places and rooms).
+use Prim.Native.Nat.{ℕ, _+_}
+use mathlib.Core.Bool.{Bool, _&&_}
+use mathlib.Core.List.{List, [], _∷_, _++_, map}
+use lib.Dec.{ltb, leb}
+use lib.ListN.{length, take, drop, set, replicate}
+use Rattle.refusal.specs.Pick.{pick}
+use Rattle.tables.specs.declared.tables.Entry.{Entry}
+use Rattle.tables.specs.declared.tables.Table64.{Table64}
+use Rattle.tables.specs.declared.tables.Table256.{Table256}
+use Rattle.tables.specs.declared.tables.Table384.{Table384}
+
+-- `width` slots, of which the first `count` are entries; their payloads take the first `used` bytes of the kind's buffer
+pub record Table : Type 0 where
+  pub width : ℕ
+  pub slots : List Entry
+  pub count : ℕ
+  pub used : ℕ
+
+-- the code's tables, at each width: 64 slots
+abbrev pub of64 : Table64 → Table
+of64 t = record { width = 64; slots = t .slots; count = t .count; used = t .used }
+
+-- 256 slots
+abbrev pub of256 : Table256 → Table
+of256 t = record { width = 256; slots = t .slots; count = t .count; used = t .used }
+
+-- 384 slots
+abbrev pub of384 : Table384 → Table
+of384 t = record { width = 384; slots = t .slots; count = t .count; used = t .used }
+
+-- an empty slot
+abbrev pub empty : Entry
+empty = record { start = 0; length = 0; index = 0; mark = 0 }
+
+-- a table of n slots that has just been opened
+abbrev pub opened : ℕ → Table
+opened n = record { width = n; slots = replicate n empty; count = 0; used = 0 }
+
+-- a command fits if its kind has a slot and the payload bytes so far plus its own are at most the buffer's length
+abbrev pub fits : Table → ℕ → ℕ → Bool
+fits t n capacity = ltb (t .count) (t .width) && leb (t .used + n) capacity
+
+-- one entry more: its number is the count before, its payload stands behind the others
+abbrev pub appended : Table → ℕ → ℕ → ℕ → Table
+appended t n index mark = record {
+  width = t .width;
+  slots = set (t .slots) (t .count) (record { start = t .used; length = n; index = index; mark = mark });
+  count = t .count + 1;
+  used = t .used + n;
+}
+
+-- the same where it fits; else the table stays as it was
+abbrev pub entered : Table → ℕ → ℕ → ℕ → ℕ → Table
+entered t n index mark capacity = pick (fits t n capacity) (appended t n index mark) t
+
+-- ---- what a table shows
+
+-- a row: payload, index and mark
+pub record Row : Type 0 where
+  pub payload : List ℕ
+  pub index : ℕ
+  pub mark : ℕ
+
+-- the row of an entry, its payload read out of the buffer
+abbrev pub rowOf : List ℕ → Entry → Row
+rowOf buffer e = record { payload = take (e .length) (drop (e .start) buffer); index = e .index; mark = e .mark }
+
+-- a kind's table: its accepted commands in order
+abbrev pub view : Table → List ℕ → List Row
+view t buffer = map (rowOf buffer) (take (t .count) (t .slots))
+
+-- the buffer with a payload behind those that are there
+abbrev pub placed : Table → List ℕ → List ℕ → List ℕ
+placed t payload buffer = take (t .used) buffer ++ payload ++ drop (t .used + length payload) buffer
+
+-- the buffer after a command: with its payload where it fits, else as it was
+abbrev pub kept : Table → List ℕ → List ℕ → List ℕ
+kept t payload buffer = pick (fits t (length payload) (length buffer)) (placed t payload buffer) buffer
