@@ -41,6 +41,10 @@ readName (parsed name payload) buffer = pick (overflows payload buffer) [] name
 abbrev pub padded : List ℕ → List ℕ
 padded name = name ++ replicate (32 - length name) 0
 
+-- a name that is given must be one in lower case: else it is taken as empty
+abbrev pub givenName : List ℕ → List ℕ
+givenName t = pick (isName t) t []
+
 -- ---- writing: No. 17, a name that is none, or a text of more than 1,024 characters; then No. 15
 
 abbrev pub isWritable : Form → List ℕ → List ℕ → Bool

@@ -7,7 +7,7 @@ ghost use Rattle.refusal.specs.Run.{all};
 ghost use Rattle.refusal.specs.Same.{same};
 ghost use Rattle.bech32.specs.Charset.{lower};
 ghost use Rattle.bech32.specs.Text.{isNameByte, isName, inCase, humanPart};
-ghost use Rattle.bech32.specs.Calls.{formOf, padded};
+ghost use Rattle.bech32.specs.Calls.{formOf, padded, givenName};
 ghost use Rattle.bech32.specs.Steps.{shortened, nameBetween, nameOr};
 use crate::charset::Kind;
 use crate::charset::cased;
@@ -104,6 +104,17 @@ fn lower_name(text: &[u8]) -> Name
         bytes: bytes,
         length: n,
     }
+}
+
+// A plugin's name by value, from a text that must be one in lower case; no name where it is none.
+pub fn name_of(text: &[u8]) -> Name
+    ensures bytes { λ r. ⌜ r .bytes ≡ padded (givenName (now (text .entry))) ⌝ }
+    ensures length { λ r. ⌜ r .length ≡ length (givenName (now (text .entry))) ⌝ }
+{
+    if !is_name(text) {
+        return nameless();
+    }
+    lower_name(text)
 }
 
 // The name between what stands before and behind it, in lower case; no name where there is none.

@@ -10,6 +10,7 @@ pub use charset::Kind;
 pub use checksum::step;
 pub use human::Name;
 pub use human::is_lowered;
+pub use human::name_of;
 pub use parsing::Reading;
 pub use parsing::holds;
 pub use parsing::mark;

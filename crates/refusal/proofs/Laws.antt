@@ -2,6 +2,7 @@
 pub mod Below
 pub mod Booleans
 pub mod Lists
+pub mod Number
 pub mod Run
 pub mod Same
 pub mod Bytes

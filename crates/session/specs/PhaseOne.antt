@@ -133,9 +133,14 @@ filledBy t b done p = b
 filledBy t b other p = b
 filledBy t b (bad n) p = b
 
--- ---- one command of phase one: its number, 0 where it is accepted; the tables and the buffers afterwards, as they were where it is refused
+-- ---- one command of phase one, by its arguments' text and its body: its number, 0 where it is accepted; the tables and the buffers afterwards, as they
+-- were where it is refused. `late` is a fault that is looked for last: No. 15 where the end that sends has too short an output buffer, else 0
 
--- the command of a stanza, by its arguments' text and its body
+-- the first fault: the decision's, or else the late one
+abbrev pub firstOf : ℕ → ℕ → ℕ
+firstOf n late = pick (eqb n 0) late n
+
+-- the command of a stanza
 abbrev pub commandIn : Machine → List ℕ → List ℕ → List ℕ → Command
 commandIn machine plugin line body = command machine plugin line (length body)
 
@@ -144,15 +149,15 @@ abbrev pub payloadIn : Machine → List ℕ → List ℕ → List ℕ → List �
 payloadIn machine plugin line body = payloadOf (commandIn machine plugin line body) line body
 
 -- its number
-abbrev pub numberOne : Machine → List ℕ → Tables → Buffers → List ℕ → List ℕ → ℕ
-numberOne machine plugin t b line body = decided t b (commandIn machine plugin line body) (length (payloadIn machine plugin line body))
+abbrev pub numberOne : Machine → List ℕ → Tables → Buffers → ℕ → List ℕ → List ℕ → ℕ
+numberOne machine plugin t b late line body = firstOf (decided t b (commandIn machine plugin line body) (length (payloadIn machine plugin line body))) late
 
 -- the tables afterwards
-abbrev pub tablesOne : Machine → List ℕ → Tables → Buffers → List ℕ → List ℕ → Tables
-tablesOne machine plugin t b line body =
-    pick (eqb (numberOne machine plugin t b line body) 0) (applied t b (commandIn machine plugin line body) (payloadIn machine plugin line body)) t
+abbrev pub tablesOne : Machine → List ℕ → Tables → Buffers → ℕ → List ℕ → List ℕ → Tables
+tablesOne machine plugin t b late line body =
+    pick (eqb (numberOne machine plugin t b late line body) 0) (applied t b (commandIn machine plugin line body) (payloadIn machine plugin line body)) t
 
 -- the buffers afterwards
-abbrev pub buffersOne : Machine → List ℕ → Tables → Buffers → List ℕ → List ℕ → Buffers
-buffersOne machine plugin t b line body =
-    pick (eqb (numberOne machine plugin t b line body) 0) (filledBy t b (commandIn machine plugin line body) (payloadIn machine plugin line body)) b
+abbrev pub buffersOne : Machine → List ℕ → Tables → Buffers → ℕ → List ℕ → List ℕ → Buffers
+buffersOne machine plugin t b late line body =
+    pick (eqb (numberOne machine plugin t b late line body) 0) (filledBy t b (commandIn machine plugin line body) (payloadIn machine plugin line body)) b

@@ -7,7 +7,7 @@ ghost use lib.ListN.{length};
 ghost use Rattle.refusal.specs.Pick.{pick};
 ghost use Rattle.session.specs.Commands.{commandSaid, payloadOf};
 ghost use Rattle.tables.specs.Tables.{of256, fits};
-ghost use Rattle.session.specs.PhaseOne.{tablesOf, openedTables, falls, decidedBy, verdictSaid, buffersOf, applied, filledBy, commandIn, numberOne, tablesOne, buffersOne};
+ghost use Rattle.session.specs.PhaseOne.{tablesOf, openedTables, falls, decidedBy, verdictSaid, buffersOf, applied, filledBy, firstOf, commandIn, numberOne, tablesOne, buffersOne};
 use crate::commands::Command;
 use crate::commands::Machine;
 use crate::commands::parse_one;
@@ -212,11 +212,23 @@ pub struct Step {
     pub tables: Tables,
 }
 
-// One command of phase one, by its arguments' text and its body. Where it is refused the tables and the buffers stay as they were.
+// The first of two faults.
+fn first_of(verdict: Verdict, late: Verdict) -> Verdict
+    ensures { λ r. ⌜ verdictSaid r ≡ firstOf (verdictSaid verdict) (verdictSaid late) ⌝ }
+{
+    match verdict {
+        Verdict::Refused(_) => verdict,
+        Verdict::Accepted => late,
+    }
+}
+
+// One command of phase one, by its arguments' text and its body. Where it is refused the tables and the buffers stay as they were. `late` is a fault
+// that is looked for last.
 pub fn step_one(
     machine: Machine,
     plugin: &[u8],
     tables: Tables,
+    late: Verdict,
     line: &[u8],
     body: &[u8],
     recipients: &mut [u8],
@@ -225,16 +237,16 @@ pub fn step_one(
     headers: &mut [u8],
 ) -> Step
     ensures command { λ r. ⌜ commandSaid (r .command) ≡ commandIn machine (now (plugin .entry)) (now (line .entry)) (now (body .entry)) ⌝ }
-    ensures number { λ r. ⌜ verdictSaid (r .verdict) ≡ numberOne machine (now (plugin .entry)) (tablesOf tables) (buffersOf (now (recipients .entry)) (now (identities .entry)) (now (keys .entry)) (now (headers .entry))) (now (line .entry)) (now (body .entry)) ⌝ }
-    ensures tables { λ r. ⌜ tablesOf (r .tables) ≡ tablesOne machine (now (plugin .entry)) (tablesOf tables) (buffersOf (now (recipients .entry)) (now (identities .entry)) (now (keys .entry)) (now (headers .entry))) (now (line .entry)) (now (body .entry)) ⌝ }
-    ensures recipients { λ _. ⌜ now (recipients .exit) ≡ buffersOne machine (now (plugin .entry)) (tablesOf tables) (buffersOf (now (recipients .entry)) (now (identities .entry)) (now (keys .entry)) (now (headers .entry))) (now (line .entry)) (now (body .entry)) .recipients ⌝ }
-    ensures identities { λ _. ⌜ now (identities .exit) ≡ buffersOne machine (now (plugin .entry)) (tablesOf tables) (buffersOf (now (recipients .entry)) (now (identities .entry)) (now (keys .entry)) (now (headers .entry))) (now (line .entry)) (now (body .entry)) .identities ⌝ }
-    ensures keys { λ _. ⌜ now (keys .exit) ≡ buffersOne machine (now (plugin .entry)) (tablesOf tables) (buffersOf (now (recipients .entry)) (now (identities .entry)) (now (keys .entry)) (now (headers .entry))) (now (line .entry)) (now (body .entry)) .keys ⌝ }
-    ensures headers { λ _. ⌜ now (headers .exit) ≡ buffersOne machine (now (plugin .entry)) (tablesOf tables) (buffersOf (now (recipients .entry)) (now (identities .entry)) (now (keys .entry)) (now (headers .entry))) (now (line .entry)) (now (body .entry)) .headers ⌝ }
+    ensures number { λ r. ⌜ verdictSaid (r .verdict) ≡ numberOne machine (now (plugin .entry)) (tablesOf tables) (buffersOf (now (recipients .entry)) (now (identities .entry)) (now (keys .entry)) (now (headers .entry))) (verdictSaid late) (now (line .entry)) (now (body .entry)) ⌝ }
+    ensures tables { λ r. ⌜ tablesOf (r .tables) ≡ tablesOne machine (now (plugin .entry)) (tablesOf tables) (buffersOf (now (recipients .entry)) (now (identities .entry)) (now (keys .entry)) (now (headers .entry))) (verdictSaid late) (now (line .entry)) (now (body .entry)) ⌝ }
+    ensures recipients { λ _. ⌜ now (recipients .exit) ≡ buffersOne machine (now (plugin .entry)) (tablesOf tables) (buffersOf (now (recipients .entry)) (now (identities .entry)) (now (keys .entry)) (now (headers .entry))) (verdictSaid late) (now (line .entry)) (now (body .entry)) .recipients ⌝ }
+    ensures identities { λ _. ⌜ now (identities .exit) ≡ buffersOne machine (now (plugin .entry)) (tablesOf tables) (buffersOf (now (recipients .entry)) (now (identities .entry)) (now (keys .entry)) (now (headers .entry))) (verdictSaid late) (now (line .entry)) (now (body .entry)) .identities ⌝ }
+    ensures keys { λ _. ⌜ now (keys .exit) ≡ buffersOne machine (now (plugin .entry)) (tablesOf tables) (buffersOf (now (recipients .entry)) (now (identities .entry)) (now (keys .entry)) (now (headers .entry))) (verdictSaid late) (now (line .entry)) (now (body .entry)) .keys ⌝ }
+    ensures headers { λ _. ⌜ now (headers .exit) ≡ buffersOne machine (now (plugin .entry)) (tablesOf tables) (buffersOf (now (recipients .entry)) (now (identities .entry)) (now (keys .entry)) (now (headers .entry))) (verdictSaid late) (now (line .entry)) (now (body .entry)) .headers ⌝ }
 {
     let command = parse_one(machine, plugin, line, body.len());
     let n = payload_length(command, line, body);
-    let verdict = decide_one(
+    let decided = decide_one(
         tables,
         command,
         n,
@@ -243,6 +255,7 @@ pub fn step_one(
         keys.len(),
         headers.len(),
     );
+    let verdict = first_of(decided, late);
     match verdict {
         Verdict::Refused(_) => Step {
             command: command,

@@ -2,7 +2,7 @@
 -- bytes from 33 to 126". The arguments' text is what stands between "-> " and the first LF.
 use Prim.Native.Nat.{ℕ}
 use mathlib.Core.Bool.{Bool, true, false, _&&_, not}
-use mathlib.Core.List.{List, [], _∷_}
+use mathlib.Core.List.{List, [], _∷_, _++_}
 use lib.Dec.{leb, eqb}
 use lib.ListN.{length, getD}
 use Rattle.refusal.specs.Pick.{pick}
@@ -39,6 +39,10 @@ areArguments (w ∷ ws) = isArgument w && areArguments ws
 -- a text of arguments separated by single spaces
 abbrev pub isLine : List ℕ → Bool
 isLine t = areArguments (words t)
+
+-- the arguments' text of a command and what stands behind it: the command alone, or a space between
+abbrev pub lineWith : List ℕ → List ℕ → List ℕ
+lineWith command arguments = pick (eqb (length arguments) 0) command (command ++ 32 ∷ arguments)
 
 -- how many words, and the k-th, empty where there is none
 abbrev pub countOf : List ℕ → ℕ

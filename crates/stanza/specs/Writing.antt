@@ -5,7 +5,7 @@ use mathlib.Core.Bool.{Bool, _&&_}
 use mathlib.Core.List.{List}
 use lib.Dec.{leb}
 use lib.ListN.{length}
-use Rattle.refusal.specs.Output.{Answer, refused, answered, filled}
+use Rattle.refusal.specs.Output.{Answer, bytes, refused, answered, filled}
 use Rattle.refusal.specs.Pick.{pick}
 use Rattle.stanza.specs.Arguments.{isLine}
 use Rattle.stanza.specs.Grammar.{stanzaText}
@@ -13,6 +13,10 @@ use Rattle.stanza.specs.Grammar.{stanzaText}
 -- arguments and body that make a stanza of at most 8,192 bytes
 abbrev pub isWritable : List ℕ → List ℕ → Bool
 isWritable line body = isLine line && leb (length (stanzaText line body)) 8192
+
+-- how many bytes the text has, where it can be written at all
+abbrev pub sized : List ℕ → List ℕ → Answer
+sized line body = pick (isWritable line body) (bytes (length (stanzaText line body))) (refused 17)
 
 -- the answer, and the buffer afterwards
 abbrev pub written : List ℕ → List ℕ → List ℕ → Answer

@@ -16,4 +16,6 @@ pub use parts::body_of;
 pub use reading::First;
 pub use reading::Stanza;
 pub use reading::read;
+pub use writing::join;
+pub use writing::size;
 pub use writing::write;

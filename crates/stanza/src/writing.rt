@@ -1,20 +1,19 @@
 // Writing a stanza into a lent buffer, from the text of its arguments and its body. Whether it can be written is decided first.
 ghost use mathlib.Core.Path.{_≡_};
-ghost use mathlib.Core.List.{_++_};
+ghost use mathlib.Core.List.{_∷_, _++_};
 ghost use Prim.Native.Nat.{_+_, _≤_};
 ghost use lib.ListN.{length, drop};
-ghost use Rattle.refusal.specs.Output.{said};
+ghost use Rattle.refusal.specs.Output.{said, answered, filled};
+ghost use Rattle.stanza.specs.Arguments.{lineWith};
 ghost use Rattle.stanza.specs.Grammar.{firstLine, stanzaText};
-ghost use Rattle.stanza.specs.Writing.{written, bufferAfter};
+ghost use Rattle.stanza.specs.Writing.{sized, written, bufferAfter};
 use crate::arguments::is_line;
 use refusal::Refusal;
 use refusal::Written;
 
-// A stanza at the front of `out`: how many bytes, or 17 where arguments and body make no stanza of at most 8,192 bytes, or 15;
-// nothing is written then. `line` is the arguments' text, the command first.
-pub fn write(line: &[u8], body: &[u8], out: &mut [u8]) -> Written
-    ensures answer { λ r. ⌜ said r ≡ written (now (line .entry)) (now (body .entry)) (now (out .entry)) ⌝ }
-    ensures buffer { λ r. ⌜ now (out .exit) ≡ bufferAfter (now (line .entry)) (now (body .entry)) (now (out .entry)) ⌝ }
+// How many bytes a stanza has, or 17 where arguments and body make no stanza of at most 8,192 bytes. `line` is the arguments' text, the command first.
+pub fn size(line: &[u8], body: &[u8]) -> Written
+    ensures { λ r. ⌜ said r ≡ sized (now (line .entry)) (now (body .entry)) ⌝ }
 {
     if !is_line(line) {
         return Written::Refused(Refusal::Unwritable);
@@ -30,11 +29,25 @@ pub fn write(line: &[u8], body: &[u8], out: &mut [u8]) -> Written
     if 8192 < n {
         return Written::Refused(Refusal::Unwritable);
     }
-    if out.len() < n {
-        return Written::Refused(Refusal::ShortOutput);
-    }
-    write_into(line, body, out);
     Written::Bytes(n)
+}
+
+// A stanza at the front of `out`: how many bytes, or 17 as above, or 15; nothing is written then.
+pub fn write(line: &[u8], body: &[u8], out: &mut [u8]) -> Written
+    ensures answer { λ r. ⌜ said r ≡ written (now (line .entry)) (now (body .entry)) (now (out .entry)) ⌝ }
+    ensures buffer { λ r. ⌜ now (out .exit) ≡ bufferAfter (now (line .entry)) (now (body .entry)) (now (out .entry)) ⌝ }
+{
+    let size = size(line, body);
+    match size {
+        Written::Refused(_) => size,
+        Written::Bytes(n) => {
+            if out.len() < n {
+                return Written::Refused(Refusal::ShortOutput);
+            }
+            write_into(line, body, out);
+            size
+        }
+    }
 }
 
 // The same where the buffer is long enough.
@@ -58,6 +71,41 @@ fn write_line(line: &[u8], out: &mut [u8])
     copy(line, &mut out[3..]);
     let at = line.len() + 3;
     out[at] = b'\n';
+}
+
+// The arguments' text of a command and what stands behind it at the front of `out`: how many bytes, or 15 and nothing written.
+pub fn join(command: &[u8], arguments: &[u8], out: &mut [u8]) -> Written
+    ensures answer { λ r. ⌜ said r ≡ answered (lineWith (now (command .entry)) (now (arguments .entry))) (now (out .entry)) ⌝ }
+    ensures buffer { λ r. ⌜ now (out .exit) ≡ filled (lineWith (now (command .entry)) (now (arguments .entry))) (now (out .entry)) ⌝ }
+{
+    let n = command.len();
+    let m = arguments.len();
+    let capacity = out.len();
+    if capacity < n {
+        return Written::Refused(Refusal::ShortOutput);
+    }
+    let left = capacity - n;
+    if m == 0 {
+        copy(command, out);
+        return Written::Bytes(n);
+    }
+    if left <= m {
+        return Written::Refused(Refusal::ShortOutput);
+    }
+    join_into(command, arguments, out);
+    Written::Bytes(n + 1 + m)
+}
+
+// The two with a space between them at the front of `out`, which is long enough.
+fn join_into(command: &[u8], arguments: &[u8], out: &mut [u8])
+    requires { ⌜ length (now command) + 1 + length (now arguments) ≤ length (now out) ⌝ }
+    ensures { λ _. ⌜ now (out .exit) ≡ (now (command .entry) ++ 32 ∷ now (arguments .entry)) ++ drop (length (now (command .entry)) + 1 + length (now (arguments .entry))) (now (out .entry)) ⌝ }
+{
+    let n = command.len();
+    copy(command, out);
+    out[n] = b' ';
+    let from = n + 1;
+    copy(arguments, &mut out[from..]);
 }
 
 // All of src at the front of `out`, which is long enough.

@@ -101,7 +101,7 @@ unfolding isName
 shortened-name m = cases (leb (length m) 32) (λ e. rw (e, e)) (λ e. rw (e, and-false-right))
 
 -- a name is not shortened
-name-shortened : (m : List ℕ) → isName m ≡ true → shortened m ≡ m
+pub name-shortened : (m : List ℕ) → isName m ≡ true → shortened m ≡ m
 unfolding isName
 name-shortened m e =
     let a = and-true (leb 1 (length m) && leb (length m) 32) (all isNameByte m) e in

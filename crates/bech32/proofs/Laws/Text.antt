@@ -161,6 +161,11 @@ module _ (h vs : List ℕ) (a : areSymbols vs ≡ true) where
       ap (λ m. map valueOf (drop (m + 1) (h ++ 49 ∷ map characterOf vs))) sep-at
       ∙ ap (λ l. map valueOf (drop (length h + 1) l)) e ∙ ap (map valueOf) (drop-at (h ++ (49 ∷ [])) (map characterOf vs) (length h + 1) n) ∙ values-characters vs a
 
+-- a name is in lower case
+pub name-lowered : (name : List ℕ) → isName name ≡ true → map lower name ≡ name
+unfolding isName
+name-lowered name hn = lower-plains name (all-wider isNameByte (λ b. not (isUpper b)) name-byte-plain name (and-true (leb 1 (length name) && leb (length name) 32) (all isNameByte name) hn .1))
+
 -- no letter of a human part is in upper case
 human-plain : (k : Form) → Plain k → (name : List ℕ) → all isNameByte name ≡ true → noUpper (humanPart k name) ≡ true
 human-plain k pl name hn =

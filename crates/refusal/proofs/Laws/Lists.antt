@@ -1,6 +1,6 @@
 -- Lists by position, where the code counts i, i + 1, ..
 use Prim.Native.Nat.{ℕ, zero, suc, _+_, _-_, _<_, _≤_, min}
-use mathlib.Core.Path.{_≡_, refl, sym, ap, _∙_}
+use mathlib.Core.Path.{_≡_, refl, sym, ap, ap₂, _∙_}
 use mathlib.Core.List.{List, [], _∷_, _++_, append-assoc, append-nil}
 use lib.ListN.{length, take, drop, set, getD, length-append, length-take, length-drop, drop-of-length-le}
 use lib.Seq.{drop-cons, take-suc, take-suc-set, drop-drop, sets-eq, take-at, drop-at, take-all, take-nil, take-add, take-append-seam, take-length, set-at, append-snoc, length-take-le}
@@ -95,3 +95,20 @@ module _ {A : Type 0} where
 
   pub part-none : (a e m : ℕ) (t : List A) → m ≡ min e (length t) → m ≤ a → drop a (take e t) ≡ []
   part-none a e m t p h = drop-of-length-le (take e t) {i = a} (rw length-take (omega arith))
+
+  -- one element behind the first of two parts, and then the second: what copying the first, a store and copying the second leave
+  pub parts-joined : (first second a o₀ part′ : List A) (x : A) → a ≡ first ++ drop (length first) o₀ → length first < length o₀ →
+      part′ ≡ second ++ drop (length second) (take (length (set a (length first) x) - (length first + 1)) (drop (length first + 1) (set a (length first) x))) →
+      take (length first + 1) (set a (length first) x) ++ (part′ ++ drop (length (set a (length first) x) - (length first + 1)) (drop (length first + 1) (set a (length first) x))) ≡
+      (first ++ x ∷ second) ++ drop (length first + 1 + length second) o₀
+  parts-joined first second a o₀ part′ x e h p =
+      let n = length first in
+      let b = set a n x in
+      let s : b ≡ (first ++ (x ∷ [])) ++ drop (n + 1) o₀ =
+      ap (λ w. set w n x) (e ∙ ap (λ w. first ++ w) (drop-one o₀ n x h)) ∙ set-at first (getD o₀ n x) (drop (n + 1) o₀) x n refl ∙ sym (append-snoc first x (drop (n + 1) o₀)) in
+      let l : length (first ++ (x ∷ [])) ≡ n + 1 = length-append first (x ∷ []) in
+      let m : length ((first ++ (x ∷ [])) ++ second) ≡ n + 1 + length second = length-append (first ++ (x ∷ [])) second ∙ ap (λ k. k + length second) l in
+      put-rest (n + 1) b part′
+      ∙ ap (λ w. take (n + 1) b ++ w) (p ∙ ap (λ d. second ++ drop (length second) d) (part-rest (n + 1) b))
+      ∙ overwrite-part b o₀ (first ++ (x ∷ [])) second (n + 1) s l
+      ∙ ap₂ (λ w k. w ++ drop k o₀) (append-assoc first (x ∷ []) second) m

@@ -10,12 +10,9 @@ use borrow.Author.Tests.{leb-true, leb-false, lt-ltb, le-ltb, le-leb, lt-leb, eq
 use Rattle.refusal.proofs.Laws.Booleans.{and-false-right, cases}
 use Rattle.tables.specs.Tables.{Table, empty}
 use Rattle.refusal.specs.Pick.{pick}
-use Rattle.refusal.specs.Number.{numberOf}
-use Rattle.refusal.specs.declared.Refusal.{Refusal}
-use Rattle.refusal.specs.declared.Refusal.the-variants as the
 use Rattle.session.specs.Commands.{Command, payloadOf}
 use Rattle.session.specs.declared.commands.Machine.{Machine}
-use Rattle.session.specs.PhaseOne.{Tables, Buffers, falls, decided, applied, filledBy, commandIn, payloadIn, numberOne, tablesOne, buffersOne}
+use Rattle.session.specs.PhaseOne.{Tables, Buffers, falls, decided, applied, filledBy, firstOf, commandIn, payloadIn, numberOne, tablesOne, buffersOne}
 
 module _ (count width used n capacity : ℕ) where
   pub no-slot : width ≤ count → false ≡ (ltb count width && leb (used + n) capacity)
@@ -43,48 +40,26 @@ module _ (t : Table) (index : ℕ) where
 
 -- ---- one command
 
--- no refusal is 0
-pub number-not-zero : (r : Refusal) → eqb (numberOf r) 0 ≡ false
-number-not-zero the.NotStanza = refl
-number-not-zero the.Unfinished = refl
-number-not-zero the.TooLong = refl
-number-not-zero the.BadCommand = refl
-number-not-zero the.BadIndex = refl
-number-not-zero the.NoSuchIndex = refl
-number-not-zero the.FallingIndex = refl
-number-not-zero the.NoSpace = refl
-number-not-zero the.SecondKey = refl
-number-not-zero the.TooManyStanzas = refl
-number-not-zero the.WorkAndError = refl
-number-not-zero the.UnfitResponse = refl
-number-not-zero the.SessionOver = refl
-number-not-zero the.OutOfTurn = refl
-number-not-zero the.ShortOutput = refl
-number-not-zero the.NotBech32 = refl
-number-not-zero the.Unwritable = refl
-number-not-zero the.NoSuchMachine = refl
-number-not-zero the.HeldBack = refl
+module _ (m : Machine) (g : List ℕ) (t : Tables) (b : Buffers) (z : ℕ) (l y : List ℕ) where
+  pub number-is : (x : Command) (n v f : ℕ) → x ≡ commandIn m g l y → n ≡ length (payloadOf x l y) → v ≡ decided t b x n → f ≡ firstOf v z → f ≡ numberOne m g t b z l y
+  number-is x n v f e q d o = o ∙ ap (λ j. firstOf j z) (d ∙ ap (decided t b x) q ∙ ap (λ w. decided t b w (length (payloadOf w l y))) e)
 
-module _ (m : Machine) (g : List ℕ) (t : Tables) (b : Buffers) (l y : List ℕ) where
-  pub number-is : (x : Command) (n v : ℕ) → x ≡ commandIn m g l y → n ≡ length (payloadOf x l y) → v ≡ decided t b x n → v ≡ numberOne m g t b l y
-  number-is x n v e q d = d ∙ ap (decided t b x) q ∙ ap (λ z. decided t b z (length (payloadOf z l y))) e
-
-  pub refused-one : (n : ℕ) → n ≡ numberOne m g t b l y → eqb n 0 ≡ false → (t ≡ tablesOne m g t b l y) × (b ≡ buffersOne m g t b l y)
+  pub refused-one : (n : ℕ) → n ≡ numberOne m g t b z l y → eqb n 0 ≡ false → (t ≡ tablesOne m g t b z l y) × (b ≡ buffersOne m g t b z l y)
   refused-one n q f =
-      let z : eqb (numberOne m g t b l y) 0 ≡ false = ap (λ k. eqb k 0) (sym q) ∙ f in
-      (sym (ap (λ c. pick c (applied t b (commandIn m g l y) (payloadIn m g l y)) t) z), sym (ap (λ c. pick c (filledBy t b (commandIn m g l y) (payloadIn m g l y)) b) z))
+      let f0 : eqb (numberOne m g t b z l y) 0 ≡ false = ap (λ k. eqb k 0) (sym q) ∙ f in
+      (sym (ap (λ c. pick c (applied t b (commandIn m g l y) (payloadIn m g l y)) t) f0), sym (ap (λ c. pick c (filledBy t b (commandIn m g l y) (payloadIn m g l y)) b) f0))
 
-  accepted-one : (x : Command) → x ≡ commandIn m g l y → numberOne m g t b l y ≡ 0 →
-      (applied t b x (payloadOf x l y) ≡ tablesOne m g t b l y) × (filledBy t b x (payloadOf x l y) ≡ buffersOne m g t b l y)
+  accepted-one : (x : Command) → x ≡ commandIn m g l y → numberOne m g t b z l y ≡ 0 →
+      (applied t b x (payloadOf x l y) ≡ tablesOne m g t b z l y) × (filledBy t b x (payloadOf x l y) ≡ buffersOne m g t b z l y)
   accepted-one x e q =
-      let z : eqb (numberOne m g t b l y) 0 ≡ true = eq-eqb (numberOne m g t b l y) 0 q in (
-        ap (λ w. applied t b w (payloadOf w l y)) e ∙ sym (ap (λ c. pick c (applied t b (commandIn m g l y) (payloadIn m g l y)) t) z),
-        ap (λ w. filledBy t b w (payloadOf w l y)) e ∙ sym (ap (λ c. pick c (filledBy t b (commandIn m g l y) (payloadIn m g l y)) b) z),
+      let f0 : eqb (numberOne m g t b z l y) 0 ≡ true = eq-eqb (numberOne m g t b z l y) 0 q in (
+        ap (λ w. applied t b w (payloadOf w l y)) e ∙ sym (ap (λ c. pick c (applied t b (commandIn m g l y) (payloadIn m g l y)) t) f0),
+        ap (λ w. filledBy t b w (payloadOf w l y)) e ∙ sym (ap (λ c. pick c (filledBy t b (commandIn m g l y) (payloadIn m g l y)) b) f0),
       )
 
-  pub accepted-all : (x : Command) (t′ : Tables) (r i k h : List ℕ) → x ≡ commandIn m g l y → numberOne m g t b l y ≡ 0 →
+  pub accepted-all : (x : Command) (t′ : Tables) (r i k h : List ℕ) → x ≡ commandIn m g l y → numberOne m g t b z l y ≡ 0 →
       (t′ ≡ applied t b x (payloadOf x l y)) × ((r ≡ filledBy t b x (payloadOf x l y) .recipients) × ((i ≡ filledBy t b x (payloadOf x l y) .identities) × ((k ≡ filledBy t b x (payloadOf x l y) .keys) × (h ≡ filledBy t b x (payloadOf x l y) .headers)))) →
-      (t′ ≡ tablesOne m g t b l y) × ((r ≡ buffersOne m g t b l y .recipients) × ((i ≡ buffersOne m g t b l y .identities) × ((k ≡ buffersOne m g t b l y .keys) × (h ≡ buffersOne m g t b l y .headers))))
+      (t′ ≡ tablesOne m g t b z l y) × ((r ≡ buffersOne m g t b z l y .recipients) × ((i ≡ buffersOne m g t b z l y .identities) × ((k ≡ buffersOne m g t b z l y .keys) × (h ≡ buffersOne m g t b z l y .headers))))
   accepted-all x t′ r i k h e q a =
       let w = accepted-one x e q in
       (a .0 ∙ w .0, (a .1 .0 ∙ ap (λ z. z .recipients) (w .1), (a .1 .1 .0 ∙ ap (λ z. z .identities) (w .1), (a .1 .1 .1 .0 ∙ ap (λ z. z .keys) (w .1), a .1 .1 .1 .1 ∙ ap (λ z. z .headers) (w .1)))))

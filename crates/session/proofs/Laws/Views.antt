@@ -95,18 +95,18 @@ module _ (t : Tables) (b : Buffers) (p : List ℕ) (r : Reached t) where
 
 -- ---- one command, accepted or refused
 
-module _ (m : Machine) (g : List ℕ) (t : Tables) (b : Buffers) (l y : List ℕ) (r : Reached t) where
-  pub one-reached : Reached (tablesOne m g t b l y)
+module _ (m : Machine) (g : List ℕ) (t : Tables) (b : Buffers) (z : ℕ) (l y : List ℕ) (r : Reached t) where
+  pub one-reached : Reached (tablesOne m g t b z l y)
   one-reached =
-      cases (eqb (numberOne m g t b l y) 0)
+      cases (eqb (numberOne m g t b z l y) 0)
       (λ e. subst Reached (sym (ap (λ x. pick x (applied t b (commandIn m g l y) (payloadIn m g l y)) t) e)) (applied-reached t b (commandIn m g l y) (payloadIn m g l y) r))
       (λ e. subst Reached (sym (ap (λ x. pick x (applied t b (commandIn m g l y) (payloadIn m g l y)) t) e)) r)
 
   -- the rows that it adds: one to its kind's table if it is accepted; none if it is refused, or ignored
-  pub one-view : (k : Kind) → viewOf k (tablesOne m g t b l y) (buffersOne m g t b l y) ≡ viewOf k t b ++ pick (eqb (numberOne m g t b l y) 0) (rowsOf (commandIn m g l y) k (payloadIn m g l y)) []
+  pub one-view : (k : Kind) → viewOf k (tablesOne m g t b z l y) (buffersOne m g t b z l y) ≡ viewOf k t b ++ pick (eqb (numberOne m g t b z l y) 0) (rowsOf (commandIn m g l y) k (payloadIn m g l y)) []
   one-view k =
-      both (eqb (numberOne m g t b l y) 0)
-      (λ e. applied-view t b (payloadIn m g l y) r (commandIn m g l y) (eqb-true (numberOne m g t b l y) 0 e) k)
+      both (eqb (numberOne m g t b z l y) 0)
+      (λ e. applied-view t b (payloadIn m g l y) r (commandIn m g l y) (eqb-true (numberOne m g t b z l y) 0 e) k)
     where
       both : (f : Bool) →
           (f ≡ true → viewOf k (applied t b (commandIn m g l y) (payloadIn m g l y)) (filledBy t b (commandIn m g l y) (payloadIn m g l y)) ≡ viewOf k t b ++ rowsOf (commandIn m g l y) k (payloadIn m g l y)) →

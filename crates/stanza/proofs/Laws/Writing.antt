@@ -5,11 +5,17 @@ use mathlib.Core.List.{List, [], _∷_, _++_}
 use lib.ListN.{length, take, drop, set, getD, length-append, length-drop, length-set}
 use lib.Seq.{sets-eq, getD-at}
 use native.Mathlib.Omega.{arith}
-use borrow.Author.Tests.{le-ltb}
-use Rattle.refusal.specs.Output.{filled}
+use borrow.Author.Tests.{le-ltb, lt-ltb, eq-eqb, ne-eqb}
+use mathlib.Core.Bool.{Bool, true, false}
+use lib.Dec.{eqb}
+use Rattle.refusal.specs.Pick.{pick}
+use Rattle.refusal.specs.Output.{bytes, refused, answered, filled}
+use Rattle.refusal.proofs.Laws.Booleans.{cases}
 use Rattle.refusal.proofs.Laws.Lists.{part-rest, put-rest, overwrite-part, front-part, front-store, front-whole}
 use Rattle.base64.specs.Lines.{linesOf}
+use Rattle.stanza.specs.Arguments.{lineWith}
 use Rattle.stanza.specs.Grammar.{firstLine, stanzaText}
+use Rattle.stanza.specs.Writing.{isWritable, sized, written, bufferAfter}
 
 pub first-length : (l : List ℕ) → length (firstLine l) ≡ length l + 4
 first-length l = simp length-append (omega arith)
@@ -46,3 +52,56 @@ text-done l b o o₀ part h e p =
     let n : length o ≡ length o₀ = ap length e ∙ simp (length-append (firstLine l), first-length l, length-drop) (omega (arith, text-length l b)) in
     let f : length (linesOf b) ≤ length (drop k o) = simp length-drop (omega (arith, text-length l b)) in
     put-rest k o part ∙ rw (p, part-rest k o, le-ltb (length (drop k o)) (length (linesOf b)) f) (overwrite-part o o₀ (firstLine l) (linesOf b) k e (first-length l))
+
+-- ---- by the size that was worked out first
+
+bytes-only : (w : Bool) (n m : ℕ) → bytes n ≡ pick w (bytes m) (refused 17) → (w ≡ true) × (n ≡ m)
+bytes-only true n m e = (refl, cc)
+bytes-only false n m e = let z : _≡_ {A = ℕ} 0 1 = cc in absurd (omega arith)
+
+refused-only : (w : Bool) (r m : ℕ) → refused r ≡ pick w (bytes m) (refused 17) → (w ≡ false) × (r ≡ 17)
+refused-only true r m e = let z : _≡_ {A = ℕ} 0 1 = cc in absurd (omega arith)
+refused-only false r m e = (refl, cc)
+
+module _ (l b o : List ℕ) where
+  pub size-refused : (r : ℕ) → refused r ≡ sized l b → (refused r ≡ written l b o) × (o ≡ bufferAfter l b o)
+  size-refused r e = let f = refused-only (isWritable l b) r (length (stanzaText l b)) e in rw (f .0, f .1) (refl, refl)
+
+  pub size-bytes : (n : ℕ) → bytes n ≡ sized l b → (isWritable l b ≡ true) × (n ≡ length (stanzaText l b))
+  size-bytes n e = bytes-only (isWritable l b) n (length (stanzaText l b)) e
+
+  pub size-short : (n : ℕ) → bytes n ≡ sized l b → length o < n → (refused 15 ≡ written l b o) × (o ≡ bufferAfter l b o)
+  size-short n e h =
+      let f = size-bytes n e in
+      rw (f .0, lt-ltb (length o) (length (stanzaText l b)) (omega (arith, f .1))) (refl, refl)
+
+  pub size-fits : (n : ℕ) (o′ : List ℕ) → bytes n ≡ sized l b → n ≤ length o → o′ ≡ stanzaText l b ++ drop (length (stanzaText l b)) o → (bytes n ≡ written l b o) × (o′ ≡ bufferAfter l b o)
+  size-fits n o′ e h q =
+      let f = size-bytes n e in
+      rw (f .0, le-ltb (length o) (length (stanzaText l b)) (omega (arith, f .1))) (ap bytes (f .1), q)
+
+-- ---- a command and what stands behind it
+
+module _ (command arguments o : List ℕ) where
+  line-longer : length command ≤ length (lineWith command arguments)
+  line-longer = cases (eqb (length arguments) 0) (λ e. rw e (omega arith)) (λ e. rw e (simp length-append (omega arith)))
+
+  pub join-short : length o < length command → (refused 15 ≡ answered (lineWith command arguments) o) × (o ≡ filled (lineWith command arguments) o)
+  join-short h = rw (lt-ltb (length o) (length (lineWith command arguments)) (omega (arith, line-longer))) (refl, refl)
+
+  pub join-alone : (o′ : List ℕ) → length arguments ≡ 0 → length command ≤ length o → o′ ≡ command ++ drop (length command) o →
+      (bytes (length command) ≡ answered (lineWith command arguments) o) × (o′ ≡ filled (lineWith command arguments) o)
+  join-alone o′ e h q = rw (eq-eqb (length arguments) 0 e, le-ltb (length o) (length command) h) (refl, q)
+
+  joined-length : length (command ++ 32 ∷ arguments) ≡ length command + 1 + length arguments
+  joined-length = simp length-append (omega arith)
+
+  pub join-over : (length arguments ≡ 0 → ⊥) → length o ≤ length command + length arguments → (refused 15 ≡ answered (lineWith command arguments) o) × (o ≡ filled (lineWith command arguments) o)
+  join-over e h = rw (ne-eqb (length arguments) 0 e, lt-ltb (length o) (length (command ++ 32 ∷ arguments)) (omega (arith, joined-length))) (refl, refl)
+
+  pub join-both : (o′ : List ℕ) → (length arguments ≡ 0 → ⊥) → length command + length arguments < length o →
+      o′ ≡ (command ++ 32 ∷ arguments) ++ drop (length command + 1 + length arguments) o →
+      (bytes (length command + 1 + length arguments) ≡ answered (lineWith command arguments) o) × (o′ ≡ filled (lineWith command arguments) o)
+  join-both o′ e h q =
+      rw (ne-eqb (length arguments) 0 e, le-ltb (length o) (length (command ++ 32 ∷ arguments)) (omega (arith, joined-length)))
+      (ap bytes (sym joined-length), q ∙ ap (λ k. (command ++ 32 ∷ arguments) ++ drop k o) (sym joined-length))

@@ -1,87 +1,60 @@
-use Prim.Native.Nat.{_+_}
-use mathlib.Core.Path.{_≡_, refl, sym, ap, _∙_}
-use mathlib.Core.List.{_++_}
-use lib.ListN.{length, drop}
-use native.Mathlib.Omega.{arith}
-use borrow.Author.Tests.{lt-leb, le-leb, lt-ltb, le-ltb, not-true, not-false}
+use mathlib.Core.Path.{sym, ap, _∙_}
 use denote.Ref.{now}
-use Rattle.base64.proofs.Laws.Lines.{lines-length}
-use Rattle.stanza.specs.Grammar.{stanzaText}
-use Rattle.stanza.proofs.Laws.Writing.{text-length}
+use native.Mathlib.Omega.{arith}
+use Rattle.refusal.specs.Number.{numberOf}
+use Rattle.refusal.specs.Output.{said}
+use Rattle.stanza.proofs.Laws.Writing.{size-refused, size-bytes, size-short, size-fits}
 use borrow.Author.Needs.{needs}
 use Rattle.stanza.proofs.writing.write.Statement.{statement}
 use Rattle.stanza.proofs.writing.write.Tie as tie
 use Rattle.stanza.proofs.writing.write.Reads as reads
 use Rattle.stanza.proofs.writing.write.Lts as lts
-use Rattle.base64.proofs.lines_length.Reads as lines-length-reads
-use Rattle.stanza.proofs.arguments.is_line.Reads as is-line-reads
+use Rattle.stanza.proofs.writing.size.Reads as size-reads
 use Rattle.stanza.proofs.writing.write_into.Reads as write-into-reads
 
--- src/writing.rt:19:9
-is-line-requires : tie.Need-is-line-requires
-is-line-requires c κs = search needs
+-- src/writing.rt:40:9
+size-requires : tie.Need-size-requires
+size-requires c κs = search needs
 
--- src/writing.rt:20:9
+-- src/writing.rt:42:32
+enum-told : tie.Need-enum-told
+enum-told c = search needs
+
+-- src/writing.rt:43:24
+enum-known-size : tie.Need-enum-known-size
+enum-known-size c = search needs
+
+-- src/writing.rt:45:17
 returns : tie.Need-returns
-returns c = rw (sym (c .before .is-line .ensures) ∙ not-true _ (c .if1 .taken)) (refl, refl)
+returns c = size-short (now (c .before .before .before .before .before .before .before .before .args .line)) (now (c .before .before .before .before .before .before .before .before .args .body)) (now (c .before .before .before .before .before .before .before .before .args .out)) (c .before .before .size2 .given .0 .0) (sym (ap said (c .before .before .size2 .given .1)) ∙ c .before .before .before .before .size .ensures) (c .if1 .taken)
 
--- src/writing.rt:24:9
-returns-2 : tie.Need-returns-2
-returns-2 c = rw ((sym (c .before .before .is-line .ensures) ∙ not-false _ (c .before .if1 .left)), lt-leb (length (stanzaText (now (c .before .before .before .before .before .before .args .line)) (now (c .before .before .before .before .before .before .args .body)))) 8192 (omega (arith, text-length (now (c .before .before .before .before .before .before .args .line)) (now (c .before .before .before .before .before .before .args .body))))) (refl, refl)
-
--- src/writing.rt:27:9
-returns-3 : tie.Need-returns-3
-returns-3 c = rw ((sym (c .before .before .before .is-line .ensures) ∙ not-false _ (c .before .before .if1 .left)), lt-leb (length (stanzaText (now (c .before .before .before .before .before .before .before .args .line)) (now (c .before .before .before .before .before .before .before .args .body)))) 8192 (omega (arith, text-length (now (c .before .before .before .before .before .before .before .args .line)) (now (c .before .before .before .before .before .before .before .args .body)), lines-length (now (c .before .before .before .before .before .before .before .args .body))))) (refl, refl)
-
--- src/writing.rt:29:13
-add-n : tie.Need-add-n
-add-n c = search needs
-
--- src/writing.rt:29:30
-lines-length-requires : tie.Need-lines-length-requires
-lines-length-requires c κs = search needs
-
--- src/writing.rt:29:13
-add-n-2 : tie.Need-add-n-2
-add-n-2 c = omega (arith, c .lines-length .ensures, lines-length (now (c .before .before .before .before .before .before .before .before .args .body)))
-
--- src/writing.rt:31:9
-returns-4 : tie.Need-returns-4
-returns-4 c = rw ((sym (c .before .before .before .before .before .is-line .ensures) ∙ not-false _ (c .before .before .before .before .if1 .left)), lt-leb (length (stanzaText (now (c .before .before .before .before .before .before .before .before .before .args .line)) (now (c .before .before .before .before .before .before .before .before .before .args .body)))) 8192 (omega (arith, text-length (now (c .before .before .before .before .before .before .before .before .before .args .line)) (now (c .before .before .before .before .before .before .before .before .before .args .body)), c .before .lines-length .ensures))) (refl, refl)
-
--- src/writing.rt:34:9
-returns-5 : tie.Need-returns-5
-returns-5 c =
-    let n : length (stanzaText (now (c .before .before .before .before .before .before .before .before .before .before .args .line)) (now (c .before .before .before .before .before .before .before .before .before .before .args .body))) ≡ length (now (c .before .before .before .before .before .before .before .before .before .before .args .line)) + 4 + c .before .before .lines-length .result = text-length (now (c .before .before .before .before .before .before .before .before .before .before .args .line)) (now (c .before .before .before .before .before .before .before .before .before .before .args .body)) ∙ rw (c .before .before .lines-length .ensures) in
-    rw ((sym (c .before .before .before .before .before .before .is-line .ensures) ∙ not-false _ (c .before .before .before .before .before .if1 .left)), n, le-leb (length (now (c .before .before .before .before .before .before .before .before .before .before .args .line)) + 4 + c .before .before .lines-length .result) 8192 (c .before .if4 .left), lt-ltb _ _ (c .if5 .taken)) (refl, refl)
-
--- src/writing.rt:36:5
+-- src/writing.rt:47:13
 write-into-requires : tie.Need-write-into-requires
-write-into-requires c κs = omega (arith, text-length (now (c .before .before .before .before .before .before .before .before .before .before .before .args .line)) (now (c .before .before .before .before .before .before .before .before .before .before .before .args .body)), c .before .before .before .lines-length .ensures, c .before .if5 .left)
+write-into-requires c κs = omega (arith, size-bytes (now (c .before .before .before .before .before .before .before .before .before .args .line)) (now (c .before .before .before .before .before .before .before .before .before .args .body)) (now (c .before .before .before .before .before .before .before .before .before .args .out)) (c .before .before .before .size2 .given .0 .0) (sym (ap said (c .before .before .before .size2 .given .1)) ∙ c .before .before .before .before .before .size .ensures) .1, c .before .if1 .left)
 
--- src/writing.rt:15:1
+-- src/writing.rt:36:1
+returns-2 : tie.Need-returns-2
+returns-2 c =
+    let w = size-refused (now (c .before .before .before .before .before .before .args .line)) (now (c .before .before .before .before .before .before .args .body)) (now (c .before .before .before .before .before .before .args .out)) (numberOf (c .enum-told .given .0 .0)) (sym (ap said (c .enum-told .given .1)) ∙ c .before .before .size .ensures) in
+    (ap said (c .enum-told .given .1) ∙ w .0, w .1)
+
+-- src/writing.rt:36:1
 same-length : tie.Need-same-length
 same-length c = search needs
 
--- src/writing.rt:15:1
-returns-6 : tie.Need-returns-6
-returns-6 c =
-    let n : length (stanzaText (now (c .before .before .before .before .before .before .before .before .before .before .before .before .before .before .args .line)) (now (c .before .before .before .before .before .before .before .before .before .before .before .before .before .before .args .body))) ≡ length (now (c .before .before .before .before .before .before .before .before .before .before .before .before .before .before .args .line)) + 4 + c .before .before .before .before .before .before .lines-length .result = text-length (now (c .before .before .before .before .before .before .before .before .before .before .before .before .before .before .args .line)) (now (c .before .before .before .before .before .before .before .before .before .before .before .before .before .before .args .body)) ∙ rw (c .before .before .before .before .before .before .lines-length .ensures) in
-    rw ((sym (c .before .before .before .before .before .before .before .before .before .before .is-line .ensures) ∙ not-false _ (c .before .before .before .before .before .before .before .before .before .if1 .left)), n, le-leb (length (now (c .before .before .before .before .before .before .before .before .before .before .before .before .before .before .args .line)) + 4 + c .before .before .before .before .before .before .lines-length .result) 8192 (c .before .before .before .before .before .if4 .left), le-ltb _ _ (c .before .before .before .before .if5 .left)) (refl, c .before .before .write-into .ensures)
+-- src/writing.rt:36:1
+returns-3 : tie.Need-returns-3
+returns-3 c = size-fits (now (c .before .before .before .before .before .before .before .before .before .before .before .before .args .line)) (now (c .before .before .before .before .before .before .before .before .before .before .before .before .args .body)) (now (c .before .before .before .before .before .before .before .before .before .before .before .before .args .out)) (c .before .before .before .before .before .before .size2 .given .0 .0) _ (sym (ap said (c .before .before .before .before .before .before .size2 .given .1)) ∙ c .before .before .before .before .before .before .before .before .size .ensures) (c .before .before .before .before .if1 .left) (c .before .before .write-into .ensures)
 
 pub write-spec : {M : Type 1} → statement M
 write-spec =
     tie.close
     (tie.spec
-    is-line-requires
+    size-requires
+    enum-told
+    enum-known-size
     returns
-    returns-2
-    returns-3
-    add-n
-    lines-length-requires
-    add-n-2
-    returns-4
-    returns-5
     write-into-requires
+    returns-2
     same-length
-    returns-6)
+    returns-3)

@@ -4,8 +4,7 @@ use denote.Ref.{now}
 use lib.ListN.{length, set, length-set, length-drop}
 use native.Mathlib.Omega.{arith}
 use borrow.Rule.Slice.PartMut.{same-len-mid}
-use Rattle.refusal.proofs.Laws.Lists.{part-rest}
-use Rattle.tables.proofs.Laws.Copying.{two-lines}
+use Rattle.refusal.proofs.Laws.Lists.{part-rest, parts-joined}
 use borrow.Author.Needs.{needs}
 use Rattle.tables.proofs.copying.copy_lines.Statement.{statement}
 use Rattle.tables.proofs.copying.copy_lines.Tie as tie
@@ -54,7 +53,7 @@ same-length c =
 -- src/copying.rt:35:1
 returns : tie.Need-returns
 returns c =
-    two-lines (now (c .before .before .before .before .before .before .before .before .before .before .before .args .first)) (now (c .before .before .before .before .before .before .before .before .before .before .before .args .second)) (c .before .before .before .before .before .before .copy .last .1 .0) (now (c .before .before .before .before .before .before .before .before .before .before .before .args .out)) (c .before .before .copy2 .last .1 .0) (c .before .before .before .before .before .before .copy .ensures) (omega (arith, c .before .before .before .before .before .before .before .before .before .before .before .pre)) (c .before .before .copy2 .ensures)
+    parts-joined (now (c .before .before .before .before .before .before .before .before .before .before .before .args .first)) (now (c .before .before .before .before .before .before .before .before .before .before .before .args .second)) (c .before .before .before .before .before .before .copy .last .1 .0) (now (c .before .before .before .before .before .before .before .before .before .before .before .args .out)) (c .before .before .copy2 .last .1 .0) 10 (c .before .before .before .before .before .before .copy .ensures) (omega (arith, c .before .before .before .before .before .before .before .before .before .before .before .pre)) (c .before .before .copy2 .ensures)
 
 pub copy-lines-spec : {M : Type 1} → statement M
 copy-lines-spec =

@@ -1,0 +1,24 @@
+use borrow.Author.Needs.{needs}
+use Rattle.session.proofs.phase_one.first_of.Statement.{statement}
+use Rattle.session.proofs.phase_one.first_of.Tie as tie
+use Rattle.session.proofs.phase_one.first_of.Reads as reads
+use Rattle.session.proofs.phase_one.first_of.Lts as lts
+
+-- src/phase_one.rt:220:32
+enum-told : tie.Need-enum-told
+enum-told c = search needs
+
+-- src/phase_one.rt:221:30
+enum-told-2 : tie.Need-enum-told-2
+enum-told-2 c = search needs
+
+-- src/phase_one.rt:216:1
+returns : tie.Need-returns
+returns c = ?
+
+-- src/phase_one.rt:216:1
+returns-2 : tie.Need-returns-2
+returns-2 c = ?
+
+pub first-of-spec : {M : Type 1} → statement M
+first-of-spec = tie.close (tie.spec enum-told enum-told-2 returns returns-2)
