@@ -3,9 +3,11 @@ use Prim.Native.Nat.{ℕ, _+_}
 use mathlib.Core.Bool.{Bool, _&&_}
 use mathlib.Core.List.{List, [], _∷_, _++_, map}
 use lib.Dec.{ltb, leb}
-use lib.ListN.{length, take, drop, set, replicate}
+use lib.ListN.{length, take, drop, set, getD, replicate}
 use Rattle.refusal.specs.Pick.{pick}
 use Rattle.tables.specs.declared.tables.Entry.{Entry}
+use Rattle.tables.specs.declared.tables.Found.{Found}
+use Rattle.tables.specs.declared.tables.Found.the-variants as the
 use Rattle.tables.specs.declared.tables.Table64.{Table64}
 use Rattle.tables.specs.declared.tables.Table256.{Table256}
 use Rattle.tables.specs.declared.tables.Table384.{Table384}
@@ -77,3 +79,18 @@ placed t payload buffer = take (t .used) buffer ++ payload ++ drop (t .used + le
 -- the buffer after a command: with its payload where it fits, else as it was
 abbrev pub kept : Table → List ℕ → List ℕ → List ℕ
 kept t payload buffer = pick (fits t (length payload) (length buffer)) (placed t payload buffer) buffer
+
+-- ---- look-up: "If there is none, or the room lent is too short for it, the part is empty"
+
+-- the entry of a number
+abbrev pub found : Table → ℕ → Found
+found t n = pick (ltb n (t .count) && ltb n (t .width)) (the.Entry (getD (t .slots) n empty)) the.Nothing
+
+-- `n` bytes of the buffer from `start` on, none where it is too short for them
+abbrev pub partOf : ℕ → ℕ → List ℕ → List ℕ
+partOf start n buffer = pick (leb (start + n) (length buffer)) (take n (drop start buffer)) []
+
+-- the entry's payload as a part of the buffer
+abbrev pub shown : Found → List ℕ → List ℕ
+shown the.Nothing buffer = []
+shown (the.Entry e) buffer = partOf (e .start) (e .length) buffer

@@ -3,6 +3,8 @@ mod copying;
 mod tables;
 
 pub use tables::Entry;
+pub use tables::Found;
 pub use tables::Table64;
 pub use tables::Table256;
 pub use tables::Table384;
+pub use tables::payload;

@@ -3,7 +3,7 @@ ghost use mathlib.Core.Path.{_≡_};
 ghost use mathlib.Core.List.{_∷_, _++_};
 ghost use Prim.Native.Nat.{_+_};
 ghost use lib.ListN.{length};
-ghost use Rattle.tables.specs.Tables.{of64, of256, of384, entered, opened, kept};
+ghost use Rattle.tables.specs.Tables.{of64, of256, of384, entered, opened, kept, found, shown, partOf};
 use crate::copying::copy_at;
 use crate::copying::copy_lines_at;
 
@@ -13,6 +13,12 @@ pub struct Entry {
     pub length: usize,
     pub index: usize,
     pub mark: u8,
+}
+
+// What stands at a number of a table.
+pub enum Found {
+    Entry(Entry),
+    Nothing,
 }
 
 // A table of 64 slots: the first `count` are entries, whose payloads take the first `used` bytes of the buffer.
@@ -37,6 +43,9 @@ pub struct Table384 {
 }
 
 impl Table64 {
+    // How many slots it has.
+    pub const SLOTS: usize = 64;
+
     // No entry.
     pub fn open() -> Table64
         ensures { λ r. ⌜ of64 r ≡ opened 64 ⌝ }
@@ -53,13 +62,27 @@ impl Table64 {
         }
     }
 
+    // What stands at a number.
+    pub fn find(self, n: usize) -> Found
+        ensures { λ r. ⌜ r ≡ found (of64 self) n ⌝ }
+    {
+        if self.count <= n {
+            return Found::Nothing;
+        }
+        if Table64::SLOTS <= n {
+            return Found::Nothing;
+        }
+        let e = self.slots[n];
+        Found::Entry(e)
+    }
+
     // One entry more, of `length` bytes of a buffer of `capacity` bytes; the table as it was where it does not fit.
     pub fn enter(mut self, length: usize, index: usize, mark: u8, capacity: usize) -> Table64
         ensures { λ r. ⌜ of64 r ≡ entered (of64 self) length index mark capacity ⌝ }
     {
         let count = self.count;
         let used = self.used;
-        if 64 <= count {
+        if Table64::SLOTS <= count {
             return self;
         }
         if capacity < used {
@@ -86,7 +109,7 @@ impl Table64 {
     {
         let count = self.count;
         let used = self.used;
-        if 64 <= count {
+        if Table64::SLOTS <= count {
             return self;
         }
         let n = payload.len();
@@ -97,6 +120,9 @@ impl Table64 {
 }
 
 impl Table256 {
+    // How many slots it has.
+    pub const SLOTS: usize = 256;
+
     // No entry.
     pub fn open() -> Table256
         ensures { λ r. ⌜ of256 r ≡ opened 256 ⌝ }
@@ -113,13 +139,27 @@ impl Table256 {
         }
     }
 
+    // What stands at a number.
+    pub fn find(self, n: usize) -> Found
+        ensures { λ r. ⌜ r ≡ found (of256 self) n ⌝ }
+    {
+        if self.count <= n {
+            return Found::Nothing;
+        }
+        if Table256::SLOTS <= n {
+            return Found::Nothing;
+        }
+        let e = self.slots[n];
+        Found::Entry(e)
+    }
+
     // One entry more, of `length` bytes of a buffer of `capacity` bytes; the table as it was where it does not fit.
     pub fn enter(mut self, length: usize, index: usize, mark: u8, capacity: usize) -> Table256
         ensures { λ r. ⌜ of256 r ≡ entered (of256 self) length index mark capacity ⌝ }
     {
         let count = self.count;
         let used = self.used;
-        if 256 <= count {
+        if Table256::SLOTS <= count {
             return self;
         }
         if capacity < used {
@@ -146,7 +186,7 @@ impl Table256 {
     {
         let count = self.count;
         let used = self.used;
-        if 256 <= count {
+        if Table256::SLOTS <= count {
             return self;
         }
         let n = payload.len();
@@ -169,7 +209,7 @@ impl Table256 {
     {
         let count = self.count;
         let used = self.used;
-        if 256 <= count {
+        if Table256::SLOTS <= count {
             return self;
         }
         let n = first.len() + 1 + second.len();
@@ -180,6 +220,9 @@ impl Table256 {
 }
 
 impl Table384 {
+    // How many slots it has.
+    pub const SLOTS: usize = 384;
+
     // No entry.
     pub fn open() -> Table384
         ensures { λ r. ⌜ of384 r ≡ opened 384 ⌝ }
@@ -196,13 +239,27 @@ impl Table384 {
         }
     }
 
+    // What stands at a number.
+    pub fn find(self, n: usize) -> Found
+        ensures { λ r. ⌜ r ≡ found (of384 self) n ⌝ }
+    {
+        if self.count <= n {
+            return Found::Nothing;
+        }
+        if Table384::SLOTS <= n {
+            return Found::Nothing;
+        }
+        let e = self.slots[n];
+        Found::Entry(e)
+    }
+
     // One entry more, of `length` bytes of a buffer of `capacity` bytes; the table as it was where it does not fit.
     pub fn enter(mut self, length: usize, index: usize, mark: u8, capacity: usize) -> Table384
         ensures { λ r. ⌜ of384 r ≡ entered (of384 self) length index mark capacity ⌝ }
     {
         let count = self.count;
         let used = self.used;
-        if 384 <= count {
+        if Table384::SLOTS <= count {
             return self;
         }
         if capacity < used {
@@ -229,7 +286,7 @@ impl Table384 {
     {
         let count = self.count;
         let used = self.used;
-        if 384 <= count {
+        if Table384::SLOTS <= count {
             return self;
         }
         let n = payload.len();
@@ -237,4 +294,30 @@ impl Table384 {
         copy_at(payload, used, buffer);
         self.enter(n, index, mark, capacity)
     }
+}
+
+// The payload of what was found, a part of its kind's buffer; empty where there is no entry, or the buffer is too short for it.
+pub fn payload<'a>(found: Found, buffer: &'a [u8]) -> &'a [u8]
+    ensures { λ r. ⌜ now r ≡ shown found (now (buffer .entry)) ⌝ }
+{
+    let capacity = buffer.len();
+    match found {
+        Found::Nothing => &buffer[capacity..],
+        Found::Entry(e) => part(e.start, e.length, buffer),
+    }
+}
+
+// `length` bytes from `start` on, or none where the buffer is too short.
+fn part<'a>(start: usize, length: usize, buffer: &'a [u8]) -> &'a [u8]
+    ensures { λ r. ⌜ now r ≡ partOf start length (now (buffer .entry)) ⌝ }
+{
+    let capacity = buffer.len();
+    if capacity < start {
+        return &buffer[capacity..];
+    }
+    if capacity - start < length {
+        return &buffer[capacity..];
+    }
+    let end = start + length;
+    &buffer[start..end]
 }
