@@ -7,7 +7,7 @@ use lib.ListN.{length}
 use Rattle.refusal.specs.Number.{numberOf}
 use Rattle.refusal.specs.Pick.{pick}
 use Rattle.refusal.specs.Same.{same}
-use Rattle.stanza.specs.Arguments.{countOf, argumentOf}
+use Rattle.stanza.specs.Arguments.{countOf, argumentOf, lineWith}
 use Rattle.stanza.specs.Index.{readIndex, Reading, number, refused}
 use Rattle.bech32.specs.Text.{parse}
 use Rattle.bech32.specs.Calls.{formOf, markOf}
@@ -144,6 +144,25 @@ rowCommand other-word plugin line body = other
 -- the command of a stanza: its arguments' text, and how many bytes its body has
 abbrev pub command : Machine → List ℕ → List ℕ → ℕ → Command
 command machine plugin line body = rowCommand (wordIn machine (argumentOf line 0)) plugin line body
+
+-- the word of a command that is accepted
+abbrev pub wordOf : Command → Word
+wordOf (recipient m) = add-recipient
+wordOf (identity m) = add-identity
+wordOf key = wrap-file-key
+wordOf (header i m) = recipient-stanza
+wordOf done = done-word
+wordOf other = other-word
+wordOf (bad n) = other-word
+
+-- the arguments' text of a command that is sent: its word, and behind a space what is given; any other word stands first in what is given
+abbrev pub lineSent : Word → List ℕ → List ℕ
+lineSent add-recipient arguments = lineWith addRecipient arguments
+lineSent add-identity arguments = lineWith addIdentity arguments
+lineSent wrap-file-key arguments = lineWith wrapFileKey arguments
+lineSent recipient-stanza arguments = lineWith recipientStanza arguments
+lineSent done-word arguments = lineWith doneWord arguments
+lineSent other-word arguments = arguments
 
 -- an entry's payload: the argument, the key, or for a header stanza the rest of its first line, the LF, and its body
 abbrev pub payloadOf : Command → List ℕ → List ℕ → List ℕ

@@ -2,13 +2,22 @@
 ghost use mathlib.Core.Path.{_≡_};
 ghost use mathlib.Core.Bool.{_&&_};
 ghost use lib.Dec.{eqb};
+ghost use Rattle.refusal.specs.Output.{said, answered, filled};
 ghost use Rattle.stanza.specs.Arguments.{countOf};
-ghost use Rattle.session.specs.Commands.{wordSaid, wordIn, afterSpace, restOf, findingMark, headerMark, textCommand, headerCommand, command, commandSaid};
+ghost use Rattle.session.specs.Commands.{wordSaid, wordIn, afterSpace, restOf, findingMark, headerMark, textCommand, headerCommand, command, commandSaid, wordOf, lineSent};
 ghost use Rattle.profile.specs.Profile.{found};
 use bech32::Kind;
 use profile::Conformity;
 use refusal::Refusal;
+use refusal::Written;
 use stanza::Index;
+
+// The words of phase one, compared with a command's first argument and written where an end sends.
+const ADD_RECIPIENT: [u8; 13] = *b"add-recipient";
+const ADD_IDENTITY: [u8; 12] = *b"add-identity";
+const WRAP_FILE_KEY: [u8; 13] = *b"wrap-file-key";
+const RECIPIENT_STANZA: [u8; 16] = *b"recipient-stanza";
+const DONE: [u8; 4] = *b"done";
 
 pub enum Machine {
     RecipientV1,
@@ -39,16 +48,16 @@ pub enum Command {
 fn recipient_word(word: &[u8]) -> Word
     ensures { λ r. ⌜ wordSaid r ≡ wordIn Machine.RecipientV1 (now (word .entry)) ⌝ }
 {
-    if stanza::is_same(word, b"add-recipient") {
+    if stanza::is_same(word, &ADD_RECIPIENT) {
         return Word::AddRecipient;
     }
-    if stanza::is_same(word, b"add-identity") {
+    if stanza::is_same(word, &ADD_IDENTITY) {
         return Word::AddIdentity;
     }
-    if stanza::is_same(word, b"wrap-file-key") {
+    if stanza::is_same(word, &WRAP_FILE_KEY) {
         return Word::WrapFileKey;
     }
-    if stanza::is_same(word, b"done") {
+    if stanza::is_same(word, &DONE) {
         return Word::Done;
     }
     Word::Other
@@ -57,13 +66,13 @@ fn recipient_word(word: &[u8]) -> Word
 fn identity_word(word: &[u8]) -> Word
     ensures { λ r. ⌜ wordSaid r ≡ wordIn Machine.IdentityV1 (now (word .entry)) ⌝ }
 {
-    if stanza::is_same(word, b"add-identity") {
+    if stanza::is_same(word, &ADD_IDENTITY) {
         return Word::AddIdentity;
     }
-    if stanza::is_same(word, b"recipient-stanza") {
+    if stanza::is_same(word, &RECIPIENT_STANZA) {
         return Word::RecipientStanza;
     }
-    if stanza::is_same(word, b"done") {
+    if stanza::is_same(word, &DONE) {
         return Word::Done;
     }
     Word::Other
@@ -182,5 +191,36 @@ pub fn parse_one(machine: Machine, plugin: &[u8], line: &[u8], body: usize) -> C
             Command::Refused(Refusal::BadCommand)
         }
         Word::Other => Command::Other,
+    }
+}
+
+// The word of a command.
+pub fn word_of(command: Command) -> Word
+    ensures { λ r. ⌜ wordSaid r ≡ wordOf (commandSaid command) ⌝ }
+{
+    match command {
+        Command::Recipient(_) => Word::AddRecipient,
+        Command::Identity(_) => Word::AddIdentity,
+        Command::Key => Word::WrapFileKey,
+        Command::Header(_, _) => Word::RecipientStanza,
+        Command::Done => Word::Done,
+        Command::Other => Word::Other,
+        Command::Refused(_) => Word::Other,
+    }
+}
+
+// The arguments' text of a command that is sent, at the front of `out`: how many bytes, or 15 and nothing written. Any other word stands first in
+// `arguments`.
+pub fn put_line(word: Word, arguments: &[u8], out: &mut [u8]) -> Written
+    ensures answer { λ r. ⌜ said r ≡ answered (lineSent (wordSaid word) (now (arguments .entry))) (now (out .entry)) ⌝ }
+    ensures buffer { λ r. ⌜ now (out .exit) ≡ filled (lineSent (wordSaid word) (now (arguments .entry))) (now (out .entry)) ⌝ }
+{
+    match word {
+        Word::AddRecipient => stanza::join(&ADD_RECIPIENT, arguments, out),
+        Word::AddIdentity => stanza::join(&ADD_IDENTITY, arguments, out),
+        Word::WrapFileKey => stanza::join(&WRAP_FILE_KEY, arguments, out),
+        Word::RecipientStanza => stanza::join(&RECIPIENT_STANZA, arguments, out),
+        Word::Done => stanza::join(&DONE, arguments, out),
+        Word::Other => stanza::join(arguments, b"", out),
     }
 }

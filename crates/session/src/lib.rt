@@ -1,12 +1,20 @@
-// What both ends of a conversation keep: machines, tables and their entries; the commands of phase one, what is decided of them, and what they do to the tables.
+// What both ends of a conversation keep and do alike: machines, phases, tables with their look-up; the commands of phase one, what is decided of them, and
+// what they do to the tables.
 mod commands;
+mod look_up;
+mod opening;
 mod phase_one;
+mod phases;
 
 pub use commands::Command;
 pub use commands::Machine;
 pub use commands::Word;
 pub use commands::parse_one;
+pub use commands::put_line;
 pub use commands::rest_of;
+pub use commands::word_of;
+pub use opening::Named;
+pub use opening::machine_named;
 pub use phase_one::Step;
 pub use phase_one::Tables;
 pub use phase_one::Verdict;
@@ -14,3 +22,6 @@ pub use phase_one::apply_one;
 pub use phase_one::decide_one;
 pub use phase_one::open_tables;
 pub use phase_one::step_one;
+pub use phases::Phase;
+pub use phases::is_closing;
+pub use phases::turn_one;

@@ -12,7 +12,7 @@ use Rattle.refusal.proofs.Laws.Booleans.{cases}
 use Rattle.session.specs.Commands.{Command, recipient, identity, key, header, done, other, bad}
 use Rattle.tables.specs.Tables.{Table, fits, entered, kept, view}
 use Rattle.session.specs.declared.commands.Machine.{Machine}
-use Rattle.session.specs.PhaseOne.{Tables, Buffers, openedTables, falls, decided, applied, filledBy, commandIn, payloadIn, numberOne, tablesOne, buffersOne}
+use Rattle.session.specs.PhaseOne.{Tables, Buffers, openedTables, falls, decided, applied, filledBy, firstOf, commandIn, payloadIn, numberOne, tablesOne, buffersOne}
 use Rattle.session.specs.Views.{Kind, recipients, identities, keys, headers, tableOf, viewOf, rowsOf}
 use Rattle.tables.proofs.Laws.Tables.{Kept, opened-kept, entered-kept, entered-view}
 
@@ -95,6 +95,9 @@ module _ (t : Tables) (b : Buffers) (p : List ℕ) (r : Reached t) where
 
 -- ---- one command, accepted or refused
 
+first-zero : (n late : ℕ) → firstOf n late ≡ 0 → n ≡ 0
+first-zero n late h = cases (eqb n 0) (λ e. eqb-true n 0 e) (λ e. rw e at h)
+
 module _ (m : Machine) (g : List ℕ) (t : Tables) (b : Buffers) (z : ℕ) (l y : List ℕ) (r : Reached t) where
   pub one-reached : Reached (tablesOne m g t b z l y)
   one-reached =
@@ -106,7 +109,7 @@ module _ (m : Machine) (g : List ℕ) (t : Tables) (b : Buffers) (z : ℕ) (l y 
   pub one-view : (k : Kind) → viewOf k (tablesOne m g t b z l y) (buffersOne m g t b z l y) ≡ viewOf k t b ++ pick (eqb (numberOne m g t b z l y) 0) (rowsOf (commandIn m g l y) k (payloadIn m g l y)) []
   one-view k =
       both (eqb (numberOne m g t b z l y) 0)
-      (λ e. applied-view t b (payloadIn m g l y) r (commandIn m g l y) (eqb-true (numberOne m g t b z l y) 0 e) k)
+      (λ e. applied-view t b (payloadIn m g l y) r (commandIn m g l y) (first-zero (decided t b (commandIn m g l y) (length (payloadIn m g l y))) z (eqb-true (numberOne m g t b z l y) 0 e)) k)
     where
       both : (f : Bool) →
           (f ≡ true → viewOf k (applied t b (commandIn m g l y) (payloadIn m g l y)) (filledBy t b (commandIn m g l y) (payloadIn m g l y)) ≡ viewOf k t b ++ rowsOf (commandIn m g l y) k (payloadIn m g l y)) →

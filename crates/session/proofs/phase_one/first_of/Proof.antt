@@ -1,3 +1,4 @@
+use Rattle.refusal.proofs.Laws.Number.{number-not-zero}
 use borrow.Author.Needs.{needs}
 use Rattle.session.proofs.phase_one.first_of.Statement.{statement}
 use Rattle.session.proofs.phase_one.first_of.Tie as tie
@@ -14,11 +15,11 @@ enum-told-2 c = search needs
 
 -- src/phase_one.rt:216:1
 returns : tie.Need-returns
-returns c = ?
+returns c = rw (c .enum-told .given .1, number-not-zero (c .enum-told .given .0 .0))
 
 -- src/phase_one.rt:216:1
 returns-2 : tie.Need-returns-2
-returns-2 c = ?
+returns-2 c = rw (c .enum-told2 .given .1)
 
 pub first-of-spec : {M : Type 1} → statement M
 first-of-spec = tie.close (tie.spec enum-told enum-told-2 returns returns-2)
