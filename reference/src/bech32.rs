@@ -93,6 +93,12 @@ pub fn read(kind: Kind, text: &[u8], out: &mut [u8]) -> Result<Reading, Refusal>
     Ok(Reading { name, payload_len: payload.len() })
 }
 
+/// Whether the text is one of the kind and of the plugin, whose name is compared without case.
+#[must_use]
+pub fn is_of_plugin(kind: Kind, text: &[u8], plugin: &[u8]) -> bool {
+    parse(kind, text).is_some_and(|(name, _)| name.eq_ignore_ascii_case(plugin))
+}
+
 /// Writes the text of a name and a payload to the front of `out` and gives its length.
 ///
 /// 17 for a bad name, one with an upper-case letter too, or a text of more than 1,024 characters; then 15.
@@ -121,8 +127,8 @@ fn parse(kind: Kind, text: &[u8]) -> Option<(Vec<u8>, Vec<u8>)> {
     Some((name, payload))
 }
 
-/// Whether this is a name as writers take it.
-fn is_name(name: &[u8]) -> bool {
+/// Whether this is a name as writers and openings take it.
+pub(crate) fn is_name(name: &[u8]) -> bool {
     let is_good = |byte: &u8| matches!(byte, b'a'..=b'z' | b'0'..=b'9' | b'+' | b'-' | b'.' | b'_');
     (1..=NAME_LIMIT).contains(&name.len()) && name.iter().all(is_good)
 }
@@ -456,5 +462,21 @@ mod tests {
         let mut out = [7; 13];
         assert_eq!(write(Recipient, b"a", b"", &mut out), Ok(12));
         assert_eq!(out[12], 7);
+    }
+
+    #[test]
+    fn texts_of_a_plugin() {
+        let recipient = b"age1interop1qyqszqg83syvs";
+        let identity = b"AGE-PLUGIN-INTEROP-1QYQSZQG5Z25TP";
+        for name in [b"interop".as_slice(), b"Interop", b"INTEROP"] {
+            assert!(is_of_plugin(Recipient, recipient, name));
+            assert!(is_of_plugin(Identity, identity, name));
+        }
+        for name in [b"".as_slice(), b"intero", b"interop-", b"interop "] {
+            assert!(!is_of_plugin(Recipient, recipient, name));
+            assert!(!is_of_plugin(Identity, identity, name));
+        }
+        assert!(!is_of_plugin(Identity, recipient, b"interop"));
+        assert!(!is_of_plugin(Recipient, &recipient[1..], b"interop"));
     }
 }

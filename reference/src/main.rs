@@ -1,11 +1,12 @@
-//! `reference replay` answers the script on standard input; `reference generate` prints the test script.
+//! `reference replay` answers the script on standard input; `reference generate` prints the test script;
+//! `reference judge` judges a recorded phase one on standard input.
 
-use std::io::{self, BufWriter, Write};
+use std::io::{self, BufWriter, Read, Write};
 use std::process::ExitCode;
 
-use reference::{generate, replay};
+use reference::{generate, judge, replay};
 
-const USAGE: &str = "usage: reference replay < SCRIPT | reference generate";
+const USAGE: &str = "usage: reference replay < SCRIPT | reference generate | reference judge < RECORDING";
 
 fn main() -> ExitCode {
     let words: Vec<String> = std::env::args().skip(1).collect();
@@ -13,6 +14,7 @@ fn main() -> ExitCode {
     let done = match words[..] {
         ["replay"] => print_answers(),
         ["generate"] => io::stdout().lock().write_all(&generate::script()),
+        ["judge"] => print_verdict(),
         _ => {
             eprintln!("{USAGE}");
             return ExitCode::from(2);
@@ -31,4 +33,10 @@ fn print_answers() -> io::Result<()> {
     let mut output = BufWriter::new(io::stdout().lock());
     replay::run(io::stdin().lock(), &mut output)?;
     output.flush()
+}
+
+fn print_verdict() -> io::Result<()> {
+    let mut text = Vec::new();
+    io::stdin().lock().read_to_end(&mut text)?;
+    io::stdout().lock().write_all(judge::judge(&text).report().as_bytes())
 }

@@ -2,13 +2,18 @@
 //!
 //! A call that is not built yet is a bad line.
 
+mod session;
+
 use std::io::{self, BufRead, Write};
 
 use crate::bech32::{self, Kind};
 use crate::index;
+use crate::judge;
+use crate::profile;
 use crate::refusal::Refusal;
 use crate::script;
 use crate::stanza;
+use session::{finding_word, Sessions};
 
 /// OUT, the length of the output buffer lent, is at most this.
 const OUT_LIMIT: u64 = 65_536;
@@ -30,6 +35,7 @@ pub fn run(mut input: impl BufRead, mut output: impl Write) -> io::Result<()> {
 pub struct Replay {
     /// How many lines were read, skipped ones too.
     lines: u64,
+    sessions: Sessions,
 }
 
 impl Replay {
@@ -50,12 +56,15 @@ impl Replay {
     /// Makes the call that the line asks for; none for a bad line.
     fn call(&mut self, line: &[u8]) -> Option<Result<Answer, Refusal>> {
         let words = script::words(line)?;
-        let call = Call::parse(&words)?;
-        Some(call.make())
+        let words: Vec<&[u8]> = words.iter().map(Vec::as_slice).collect();
+        match session::Line::parse(&words) {
+            Some(line) => self.sessions.answer(&line),
+            None => Some(Call::parse(&words)?.make()),
+        }
     }
 }
 
-/// A line of REPLAY.md's table.
+/// A line of REPLAY.md's table that needs no session.
 #[derive(Debug, PartialEq, Eq)]
 enum Call<'a> {
     Stanza { text: &'a [u8] },
@@ -64,14 +73,15 @@ enum Call<'a> {
     Checksum { text: &'a [u8] },
     Read { kind: Kind, text: &'a [u8], out: usize },
     WriteText { kind: Kind, name: &'a [u8], payload: &'a [u8], out: usize },
+    Profile { name: &'a [u8], line: &'a [u8], body: &'a [u8] },
+    Judge { text: &'a [u8] },
 }
 
 impl<'a> Call<'a> {
     /// The call that the words make. Escapes are resolved before: each word, the first and numbers too,
     /// is the byte string it stands for.
-    fn parse(words: &'a [Vec<u8>]) -> Option<Self> {
-        let words: Vec<&[u8]> = words.iter().map(Vec::as_slice).collect();
-        match words[..] {
+    fn parse(words: &[&'a [u8]]) -> Option<Self> {
+        match *words {
             [b"stanza", text] => Some(Call::Stanza { text }),
             [b"write", arguments, body, out] => {
                 let out = length(out)?;
@@ -83,6 +93,8 @@ impl<'a> Call<'a> {
             [b"identity", text, out] => Self::read(Kind::Identity, text, out),
             [b"write-recipient", name, payload, out] => Self::write(Kind::Recipient, name, payload, out),
             [b"write-identity", name, payload, out] => Self::write(Kind::Identity, name, payload, out),
+            [b"profile", name, line, body] => Some(Call::Profile { name, line, body }),
+            [b"judge", text] => Some(Call::Judge { text }),
             _ => None,
         }
     }
@@ -105,6 +117,10 @@ impl<'a> Call<'a> {
             }
             Call::Read { kind, text, out } => read_bech32(kind, text, out),
             Call::WriteText { kind, name, payload, out } => write_bech32(kind, name, payload, out),
+            Call::Profile { name, line, body } => {
+                Ok(Answer::words("ok").word(finding_word(profile::check(name, line, body))))
+            }
+            Call::Judge { text } => Ok(judged(text)),
         }
     }
 }
@@ -143,13 +159,33 @@ fn write_bech32(kind: Kind, name: &[u8], payload: &[u8], out: usize) -> Result<A
     Ok(Answer::words("ok").bytes(&out[..len]))
 }
 
-/// A line to be printed, built word by word.
+/// `ok R I K H ANSWER`.
+fn judged(text: &[u8]) -> Answer {
+    let verdict = judge::judge(text);
+    let counts = [verdict.recipients, verdict.identities, verdict.file_keys, verdict.header_stanzas];
+    let answer = counts.iter().fold(Answer::words("ok"), |answer, &count| answer.number(count as u64));
+    answer.number(verdict.answer.into())
+}
+
+/// A line to be printed, built word by word; for `show`, several lines.
 struct Answer(Vec<u8>);
 
 impl Answer {
     /// Begins a line with plain words.
     fn words(words: &str) -> Self {
         Answer(words.as_bytes().to_vec())
+    }
+
+    /// Goes on with another line, which begins with plain words.
+    fn line(mut self, words: &str) -> Self {
+        self.0.push(b'\n');
+        self.0.extend(words.as_bytes());
+        self
+    }
+
+    /// One plain word.
+    fn word(self, word: &str) -> Self {
+        self.bytes(word.as_bytes())
     }
 
     fn number(mut self, number: u64) -> Self {
@@ -234,6 +270,22 @@ mod tests {
     }
 
     #[test]
+    fn the_stanza_check() {
+        let line = format!("fido2-hmac\\s{}\\s{}", "A".repeat(43), "A".repeat(16));
+        let body = "b".repeat(32);
+        assert_eq!(answers(&format!("profile FIDO2-HMAC {line} {body}")), "ok conforming\n");
+        assert_eq!(answers(&format!("profile fido2-hmac {line} \\e")), "ok nonconforming\n");
+        assert_eq!(answers(&format!("profile yubikey {line} {body}")), "ok unknown\n");
+        assert_eq!(answers("profile \\e \\e \\e"), "ok unknown\n");
+    }
+
+    #[test]
+    fn the_judging_program() {
+        assert_eq!(answers("judge \\e"), "ok 0 0 0 0 2\n");
+        assert_eq!(answers("judge ->\\sadd-identity\\sa\\n\\n->\\sdone\\n\\nrest"), "ok 0 1 0 0 0\n");
+    }
+
+    #[test]
     fn all_lines_are_counted() {
         assert_eq!(
             answers("# one\n\nindex 3\nnothing\n#\nindex\nindex 4"),
@@ -245,11 +297,11 @@ mod tests {
     fn bad_lines() {
         for line in [
             "stanza", "stanza a b", "write a b", "write a b 1 2", "write a b c", "write a b \\e", "index",
-            "index 1 2", "INDEX 1", "index 1 ", " index 1", "index  1", "index \\q", "\\e", "open", "show",
+            "index 1 2", "INDEX 1", "index 1 ", " index 1", "index  1", "index \\q", "\\e", "open", "shows",
             "checksum", "checksum a b", "recipient a", "recipient a 1 2", "recipient a b", "Recipient a 1",
             "identity a", "identity a 65537", "write-recipient a b", "write-recipient a b 1 2",
-            "write-identity a b -1", "write_identity a b 1", "profile a b c", "judge a", "index\t1",
-            "index 1\r", "index \u{e9}",
+            "write-identity a b -1", "write_identity a b 1", "profile a b", "profile a b c d", "judge",
+            "judge a b", "index\t1", "index 1\r", "index \u{e9}",
         ] {
             assert_eq!(answers(line), "bad line 1\n", "{line}");
         }

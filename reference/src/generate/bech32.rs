@@ -43,7 +43,7 @@ pub(super) fn sections(script: &mut Script) {
 }
 
 /// The text of a name and a payload; no limit plays a part.
-fn text_of(kind: Kind, name: &[u8], payload: &[u8]) -> Vec<u8> {
+pub(super) fn text_of(kind: Kind, name: &[u8], payload: &[u8]) -> Vec<u8> {
     signed(kind, name, &symbols(payload))
 }
 
@@ -53,7 +53,7 @@ fn signed(kind: Kind, name: &[u8], symbols: &[u8]) -> Vec<u8> {
 }
 
 /// The text with its letters in the other case.
-fn other_case(text: &[u8]) -> Vec<u8> {
+pub(super) fn other_case(text: &[u8]) -> Vec<u8> {
     text.iter().map(|&byte| other_case_of(byte)).collect()
 }
 

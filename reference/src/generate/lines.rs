@@ -1,5 +1,6 @@
 //! Lines that are bad, odd but good, skipped, or as long as a line may be.
 
+use super::commands::{Command, End, ENDS, RECIPIENT, ROOMY};
 use super::Script;
 use crate::script::LINE_LIMIT;
 
@@ -7,6 +8,8 @@ pub(super) fn sections(script: &mut Script) {
     wrong_calls(script);
     wrong_words(script);
     wrong_numbers(script);
+    session_lines(script);
+    not_built_yet(script);
     every_raw_byte(script);
     odd_but_good(script);
     skipped(script);
@@ -109,6 +112,129 @@ fn wrong_numbers(script: &mut Script) {
             "write-recipient A b 65537", "write-identity \\e b x",
         ],
     );
+}
+
+/// Bad lines of sessions, of the stanza check and of the judging program, while a session is open.
+fn session_lines(script: &mut Script) {
+    for end in ENDS {
+        script.heading(&format!("Bad lines leave the session as it was, {end:?}"));
+        script.open(end, RECIPIENT, b"interop", ROOMY);
+        script.pass(end, &Command::add_recipient(b"kept"));
+        all(script, BAD_SESSION_LINES);
+        script.pass(end, &Command::add_recipient(b"too"));
+        script.show();
+    }
+    script.heading("Escapes and leading zeros in lines of sessions");
+    all(
+        script,
+        &[
+            "\\x6fpen plu\\egin recipient\\x2dv1 \\x61 0009 9 9 9 0 0 00000000",
+            "rec\\eeive \\x2d>\\x20add-recipient\\x20abc\\x0a\\n \\x30",
+            "receive ->\\sadd-identity\\sdef\\n\\n 00065536",
+            "entry \\erecipient 00000000000000000000000000000",
+            "buffers 9 9 9 9 \\x30 0 0065536",
+            "\\x73how",
+            "open client identity-v1 a \\x64efault 9 9 9 9 9 9 9",
+            "send add\\x2didentity a\\eb \\e\\e 0020",
+            "show",
+        ],
+    );
+}
+
+const BAD_SESSION_LINES: &[&str] = &[
+    "open",
+    "open client",
+    "open plugin",
+    "open plugin recipient-v1 a",
+    "open plugin recipient-v1 a 0 0 0 0 0 0",
+    "open plugin recipient-v1 a 0 0 0 0 0 0 0 0",
+    "open plugin recipient-v1 a 0 0 0 0 0 0 65537",
+    "open plugin recipient-v1 a 0 0 0 x 0 0 0",
+    "open plugin recipient-v1 a \\e 0 0 0 0 0 0",
+    "open plugin recipient-v1 a screen 0 0 0 0 0 0 0",
+    "open plugin recipient-v2 A 0 0 0 0 0 0 -1",
+    "open client recipient-v1 a 0 0 0 0 0 0 0",
+    "open client recipient-v1 a screen 0 0 0 0 0 0",
+    "open client recipient-v1 a screen 0 0 0 0 0 0 0 0",
+    "open client recipient-v1 a Screen 0 0 0 0 0 0 0",
+    "open client recipient-v1 a no_screen 0 0 0 0 0 0 0",
+    "open client recipient-v1 a \\e 0 0 0 0 0 0 0",
+    "open client recipient-v1 a yes 0 0 0 0 0 0 0",
+    "open client recipient-v2 A none 0 0 0 0 0 0 0",
+    "open client recipient-v1 a screen 65537 0 0 0 0 0 0",
+    "open Client recipient-v1 a screen 0 0 0 0 0 0 0",
+    "open host recipient-v1 a 0 0 0 0 0 0 0",
+    "Open plugin recipient-v1 a 0 0 0 0 0 0 0",
+    "buffers",
+    "buffers 0 0 0 0 0 0",
+    "buffers 0 0 0 0 0 0 0 0",
+    "buffers 0 0 0 0 0 0 65537",
+    "buffers 0 0 0 0 0 0 x",
+    "buffers 0 0 0 0 0 0 ",
+    "send",
+    "send done \\e \\e",
+    "send done \\e \\e 9 9",
+    "send done \\e \\e 65537",
+    "send done \\e \\e x",
+    "send done  \\e 9",
+    "send done \\ \\e 9",
+    "sends done \\e \\e 9",
+    "receive",
+    "receive ->\\sdone\\n\\n",
+    "receive ->\\sdone\\n\\n 9 9",
+    "receive ->\\sdone\\n\\n 65537",
+    "receive ->\\sdone\\n\\n \\e",
+    "receive ->\\sdone\\n\\n -1",
+    "receive -> done 9",
+    "receive ->\\sdone\\q 9",
+    "entry",
+    "entry recipient",
+    "entry recipient 0 0",
+    "entry recipient x",
+    "entry recipient \\e",
+    "entry recipient -1",
+    "entry identity 18446744073709551616",
+    "entry identity 99999999999999999999999",
+    "entry file-key 0",
+    "entry header 0",
+    "entry Identity 0",
+    "entry \\e 0",
+    "show 1",
+    "show \\e",
+    "show ",
+    "Show",
+    "shows",
+    "profile",
+    "profile fido2-hmac",
+    "profile fido2-hmac a",
+    "profile fido2-hmac a b c",
+    "profile fido2-hmac  b",
+    "Profile fido2-hmac a b",
+    "judge",
+    "judge a b",
+    "judge ",
+    "judge \\x",
+    "Judge a",
+];
+
+/// Calls of phase two, at both ends.
+fn not_built_yet(script: &mut Script) {
+    let lines = [
+        "response ->\\sok\\n\\n 9", "response \\e 0", "reply ok \\e 9", "reply yes \\e 9",
+        "reply maybe \\e 9",
+    ];
+    script.heading("Not built yet: responses and replies, a client that receives, a plugin that sends");
+    for end in ENDS {
+        script.open(end, RECIPIENT, b"interop", ROOMY);
+        for last in [Command::add_recipient(b"kept"), Command::done()] {
+            script.pass(end, &last);
+            all(script, &lines);
+            let other = if end == End::Client { End::Plugin } else { End::Client };
+            script.pass(other, &Command::new(b"msg", b"", b"hello"));
+            script.pass(other, &Command::done());
+        }
+        script.show();
+    }
 }
 
 /// Each raw byte but LF, which would end the line.

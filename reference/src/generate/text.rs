@@ -28,7 +28,7 @@ pub(super) fn sections(script: &mut Script) {
 }
 
 /// The text of a stanza of any length; the paper's limit plays no part.
-fn stanza_text(arguments: &[u8], body: &[u8]) -> Vec<u8> {
+pub(super) fn stanza_text(arguments: &[u8], body: &[u8]) -> Vec<u8> {
     let mut characters = vec![0; base64::encoded_len(body.len())];
     base64::fill_encoded(body, &mut characters);
     let mut text = [b"-> ", arguments, b"\n"].concat();

@@ -1,0 +1,129 @@
+//! The judging program (document 01): a recorded phase one of recipient-v1, received command by command.
+
+use crate::session::{Buffers, Command, Kind, Plugin, KINDS};
+
+/// The machine whose recordings are judged.
+const MACHINE: &[u8] = b"recipient-v1";
+
+/// The papers give no plugin name, and it can't show: it decides marks alone, and they are not reported.
+const PLUGIN: &[u8] = b"judge";
+
+/// The lengths of the buffers for recipients, identities and file keys; header stanzas, and all that
+/// belongs to phase two, have none.
+const LENGTHS: [usize; KINDS] = [16_384, 16_384, 1_024, 0, 0, 0, 0];
+
+/// How many entries of each kind were kept, and the number of the refusal that ended it, or 0.
+#[derive(Clone, Copy, Debug, PartialEq, Eq)]
+pub struct Verdict {
+    pub recipients: usize,
+    pub identities: usize,
+    pub file_keys: usize,
+    pub header_stanzas: usize,
+    pub answer: u8,
+}
+
+impl Verdict {
+    /// The five lines that the program writes.
+    #[must_use]
+    pub fn report(&self) -> String {
+        format!(
+            "recipients {}\nidentities {}\nfile keys {}\nheader stanzas {}\nanswer {}\n",
+            self.recipients, self.identities, self.file_keys, self.header_stanzas, self.answer
+        )
+    }
+}
+
+/// Receives the text up to done or the first refusal; what is behind that is not looked at.
+#[must_use]
+pub fn judge(text: &[u8]) -> Verdict {
+    let mut plugin = Plugin::open(MACHINE, PLUGIN).expect("a machine's name and a plugin's");
+    let mut buffers = Buffers::zeros(LENGTHS);
+    let answer = receive_all(&mut plugin, text, &mut buffers);
+    let count = |kind| plugin.session().tables().of(kind).len();
+    Verdict {
+        recipients: count(Kind::Recipient),
+        identities: count(Kind::Identity),
+        file_keys: count(Kind::FileKey),
+        header_stanzas: count(Kind::Header),
+        answer,
+    }
+}
+
+/// The number of the first refusal, or 0 if done comes first.
+fn receive_all(plugin: &mut Plugin, mut text: &[u8], buffers: &mut Buffers) -> u8 {
+    loop {
+        match plugin.receive(text, buffers) {
+            Ok(received) if received.command == Command::Done => return 0,
+            Ok(received) => text = &text[received.taken..],
+            Err(refusal) => return refusal.number(),
+        }
+    }
+}
+
+#[cfg(test)]
+mod tests {
+    use super::*;
+
+    /// The example of document 004, as document 01 fills it in.
+    const EXAMPLE: &str = "-> add-recipient foo\n\n-> add-identity bar\n\n\
+        -> wrap-file-key\nAAAAAAAAAAAAAAAAAAAAAA\n-> add-recipient baz\n\n\
+        -> wrap-file-key\nAAAAAAAAAAAAAAAAAAAAAA\n-> done\n\n";
+
+    /// Recipients, identities, file keys, header stanzas, answer.
+    fn numbers(text: &str) -> [usize; 5] {
+        let Verdict { recipients, identities, file_keys, header_stanzas, answer } = judge(text.as_bytes());
+        [recipients, identities, file_keys, header_stanzas, answer.into()]
+    }
+
+    #[test]
+    fn worked_example() {
+        let report = "recipients 2\nidentities 1\nfile keys 2\nheader stanzas 0\nanswer 0\n";
+        assert_eq!(judge(EXAMPLE.as_bytes()).report(), report);
+    }
+
+    #[test]
+    fn empty_input() {
+        assert_eq!(numbers(""), [0, 0, 0, 0, 2]);
+    }
+
+    #[test]
+    fn counts_at_a_refusal_are_those_before_it() {
+        assert_eq!(numbers(&EXAMPLE[..EXAMPLE.len() - 1]), [2, 1, 2, 0, 2]);
+        assert_eq!(numbers(&EXAMPLE.replace("add-identity bar", "add-identity bar baz")), [1, 0, 0, 0, 4]);
+        assert_eq!(
+            numbers(&EXAMPLE.replace("-> add-recipient baz", "-> add-recipient baz ")),
+            [1, 1, 1, 0, 1]
+        );
+    }
+
+    #[test]
+    fn unknown_commands_and_what_follows_done_do_not_count() {
+        assert_eq!(numbers(&format!("-> recipient-stanza 01\n\n{EXAMPLE}\r")), [2, 1, 2, 0, 0]);
+    }
+
+    #[test]
+    fn sixty_four_recipients_pass_and_the_next_gives_8() {
+        let recipients = "-> add-recipient r\n\n".repeat(64);
+        assert_eq!(numbers(&format!("{recipients}-> done\n\n")), [64, 0, 0, 0, 0]);
+        assert_eq!(numbers(&format!("{recipients}-> add-recipient r\n\n")), [64, 0, 0, 0, 8]);
+    }
+
+    #[test]
+    fn buffers_of_16384_bytes() {
+        let add = |command: &str, len| format!("-> {command} {}\n\n", "x".repeat(len));
+        for command in ["add-recipient", "add-identity"] {
+            let exact = add(command, 8_000) + &add(command, 8_000) + &add(command, 384);
+            let counts = numbers(&format!("{exact}-> done\n\n"));
+            assert_eq!((counts[0] + counts[1], counts[4]), (3, 0));
+            let counts = numbers(&(exact + &add(command, 1)));
+            assert_eq!((counts[0] + counts[1], counts[4]), (3, 8));
+        }
+    }
+
+    #[test]
+    fn sixty_four_file_keys_fill_their_buffer() {
+        let keys = "-> wrap-file-key\nAAAAAAAAAAAAAAAAAAAAAA\n".repeat(64);
+        assert_eq!(numbers(&format!("{keys}-> done\n\n")), [0, 0, 64, 0, 0]);
+        assert_eq!(numbers(&format!("{keys}{keys}")), [0, 0, 64, 0, 8]);
+    }
+}
