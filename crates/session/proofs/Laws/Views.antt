@@ -1,15 +1,22 @@
 -- An accepted command of phase one adds one row to its kind's table and none to another's: once for every kind.
-use Prim.Native.Nat.{ℕ}
+use Prim.Native.Nat.{ℕ, _<_}
 use mathlib.Core.Path.{_≡_, refl, sym, ap, _∙_, subst}
-use mathlib.Core.Bool.{Bool, true, false}
+use mathlib.Core.Bool.{Bool, true, false, _&&_}
 use mathlib.Core.List.{List, [], _∷_, _++_, append-nil}
-use lib.Dec.{eqb}
-use lib.ListN.{length}
+use lib.Dec.{eqb, leb}
+use lib.ListN.{length, length-append}
 use native.Mathlib.Omega.{arith}
 use borrow.Author.Tests.{eqb-true}
 use Rattle.refusal.specs.Pick.{pick}
-use Rattle.refusal.proofs.Laws.Booleans.{cases}
-use Rattle.session.specs.Commands.{Command, recipient, identity, key, header, done, other, bad}
+use Rattle.refusal.proofs.Laws.Booleans.{cases, and-true}
+use Rattle.stanza.specs.Arguments.{isLine, countOf, argumentOf}
+use Rattle.stanza.specs.Index.{Reading, number, refused, readIndex}
+use Rattle.stanza.proofs.Laws.Arguments.{argument-some}
+use Rattle.bech32.specs.Text.{parse}
+use Rattle.bech32.specs.Calls.{formOf, markOf}
+use Rattle.bech32.specs.declared.charset.Kind.{Kind as TextKind}
+use Rattle.bech32.specs.declared.charset.Kind.the-variants as the-kind
+use Rattle.session.specs.Commands.{Word, add-recipient, add-identity, wrap-file-key, recipient-stanza, done-word, other-word, wordIn, Command, recipient, identity, key, header, done, other, bad, textOfKind, headerMark, indexed, isBare, rowCommand, payloadOf}
 use Rattle.tables.specs.Tables.{Table, fits, entered, kept, view}
 use Rattle.session.specs.declared.commands.Machine.{Machine}
 use Rattle.session.specs.PhaseOne.{Tables, Buffers, openedTables, falls, decided, applied, filledBy, firstOf, commandIn, payloadIn, numberOne, tablesOne, buffersOne}
@@ -27,28 +34,38 @@ opened-reached identities = opened-kept 64
 opened-reached keys = opened-kept 64
 opened-reached headers = opened-kept 256
 
+-- the payload of a command that makes an entry is not empty
+abbrev pub Stored : Command → List ℕ → Type 0
+Stored (recipient m) p = 0 < length p
+Stored (identity m) p = 0 < length p
+Stored key p = 0 < length p
+Stored (header i m) p = 0 < length p
+Stored done p = Unit
+Stored other p = Unit
+Stored (bad n) p = Unit
+
 -- commands keep them so
-pub applied-reached : (t : Tables) (b : Buffers) (c : Command) (p : List ℕ) → Reached t → Reached (applied t b c p)
+pub applied-reached : (t : Tables) (b : Buffers) (c : Command) (p : List ℕ) → Stored c p → Reached t → Reached (applied t b c p)
 unfolding Reached
-applied-reached t b (recipient m) p r recipients = entered-kept (t .recipients) (length p) 0 m (length (b .recipients)) (r recipients)
-applied-reached t b (recipient m) p r identities = r identities
-applied-reached t b (recipient m) p r keys = r keys
-applied-reached t b (recipient m) p r headers = r headers
-applied-reached t b (identity m) p r recipients = r recipients
-applied-reached t b (identity m) p r identities = entered-kept (t .identities) (length p) 0 m (length (b .identities)) (r identities)
-applied-reached t b (identity m) p r keys = r keys
-applied-reached t b (identity m) p r headers = r headers
-applied-reached t b key p r recipients = r recipients
-applied-reached t b key p r identities = r identities
-applied-reached t b key p r keys = entered-kept (t .keys) (length p) 0 0 (length (b .keys)) (r keys)
-applied-reached t b key p r headers = r headers
-applied-reached t b (header i m) p r recipients = r recipients
-applied-reached t b (header i m) p r identities = r identities
-applied-reached t b (header i m) p r keys = r keys
-applied-reached t b (header i m) p r headers = entered-kept (t .headers) (length p) i m (length (b .headers)) (r headers)
-applied-reached t b done p r k = r k
-applied-reached t b other p r k = r k
-applied-reached t b (bad n) p r k = r k
+applied-reached t b (recipient m) p h r recipients = entered-kept (t .recipients) (length p) 0 m (length (b .recipients)) (r recipients) h
+applied-reached t b (recipient m) p h r identities = r identities
+applied-reached t b (recipient m) p h r keys = r keys
+applied-reached t b (recipient m) p h r headers = r headers
+applied-reached t b (identity m) p h r recipients = r recipients
+applied-reached t b (identity m) p h r identities = entered-kept (t .identities) (length p) 0 m (length (b .identities)) (r identities) h
+applied-reached t b (identity m) p h r keys = r keys
+applied-reached t b (identity m) p h r headers = r headers
+applied-reached t b key p h r recipients = r recipients
+applied-reached t b key p h r identities = r identities
+applied-reached t b key p h r keys = entered-kept (t .keys) (length p) 0 0 (length (b .keys)) (r keys) h
+applied-reached t b key p h r headers = r headers
+applied-reached t b (header i m) p h r recipients = r recipients
+applied-reached t b (header i m) p h r identities = r identities
+applied-reached t b (header i m) p h r keys = r keys
+applied-reached t b (header i m) p h r headers = entered-kept (t .headers) (length p) i m (length (b .headers)) (r headers) h
+applied-reached t b done p h r k = r k
+applied-reached t b other p h r k = r k
+applied-reached t b (bad n) p h r k = r k
 
 -- a command that needs space and is accepted fits
 space : (f : Bool) → _≡_ {A = ℕ} (pick f 0 8) 0 → f ≡ true
@@ -98,11 +115,45 @@ module _ (t : Tables) (b : Buffers) (p : List ℕ) (r : Reached t) where
 first-zero : (n late : ℕ) → firstOf n late ≡ 0 → n ≡ 0
 first-zero n late h = cases (eqb n 0) (λ e. eqb-true n 0 e) (λ e. rw e at h)
 
+-- no payload of a command that was read is empty: no argument is, a key has 16 bytes, and a header stanza its LF
+module _ (g l y : List ℕ) (a : isLine l ≡ true) where
+  text-stored : (k : TextKind) (f : Bool) (m : ℕ) → (f ≡ true → 0 < length (argumentOf l 1)) → Stored (pick f (textOfKind k m) (bad 4)) (payloadOf (pick f (textOfKind k m) (bad 4)) l y)
+  text-stored the-kind.Recipient true m h = h refl
+  text-stored the-kind.Identity true m h = h refl
+  text-stored k false m h = tt
+
+  bare-stored : (f : Bool) → (f ≡ true → 0 < length y) → Stored (pick f key (bad 4)) (payloadOf (pick f key (bad 4)) l y)
+  bare-stored true h = h refl
+  bare-stored false h = tt
+
+  done-stored : (f : Bool) → Stored (pick f done (bad 4)) (payloadOf (pick f done (bad 4)) l y)
+  done-stored true = tt
+  done-stored false = tt
+
+  header-stored : (f : Bool) (i : Reading) (m : ℕ) → Stored (pick f (indexed i m) (bad 4)) (payloadOf (pick f (indexed i m) (bad 4)) l y)
+  header-stored true (number i) m = simp length-append (omega arith)
+  header-stored true (refused n) m = tt
+  header-stored false i m = tt
+
+  two-some : (eqb (countOf l) 2 && eqb (length y) 0) ≡ true → 0 < length (argumentOf l 1)
+  two-some e = argument-some l 1 a (omega (arith, eqb-true (countOf l) 2 (and-true (eqb (countOf l) 2) (eqb (length y) 0) e .0)))
+
+  row-stored : (w : Word) → Stored (rowCommand w g l (length y)) (payloadOf (rowCommand w g l (length y)) l y)
+  row-stored add-recipient = text-stored the-kind.Recipient (eqb (countOf l) 2 && eqb (length y) 0) (markOf (parse (formOf the-kind.Recipient) (argumentOf l 1)) g) two-some
+  row-stored add-identity = text-stored the-kind.Identity (eqb (countOf l) 2 && eqb (length y) 0) (markOf (parse (formOf the-kind.Identity) (argumentOf l 1)) g) two-some
+  row-stored wrap-file-key = bare-stored (isBare l (length y) 16) (λ e. omega (arith, eqb-true (length y) 16 (and-true (eqb (countOf l) 1) (eqb (length y) 16) e .1)))
+  row-stored recipient-stanza = header-stored (leb 3 (countOf l)) (readIndex (argumentOf l 1)) (headerMark g l (length y))
+  row-stored done-word = done-stored (isBare l (length y) 0)
+  row-stored other-word = tt
+
+  pub payload-stored : (m : Machine) → Stored (commandIn m g l y) (payloadIn m g l y)
+  payload-stored m = row-stored (wordIn m (argumentOf l 0))
+
 module _ (m : Machine) (g : List ℕ) (t : Tables) (b : Buffers) (z : ℕ) (l y : List ℕ) (r : Reached t) where
-  pub one-reached : Reached (tablesOne m g t b z l y)
-  one-reached =
+  pub one-reached : isLine l ≡ true → Reached (tablesOne m g t b z l y)
+  one-reached a =
       cases (eqb (numberOne m g t b z l y) 0)
-      (λ e. subst Reached (sym (ap (λ x. pick x (applied t b (commandIn m g l y) (payloadIn m g l y)) t) e)) (applied-reached t b (commandIn m g l y) (payloadIn m g l y) r))
+      (λ e. subst Reached (sym (ap (λ x. pick x (applied t b (commandIn m g l y) (payloadIn m g l y)) t) e)) (applied-reached t b (commandIn m g l y) (payloadIn m g l y) (payload-stored g l y a m) r))
       (λ e. subst Reached (sym (ap (λ x. pick x (applied t b (commandIn m g l y) (payloadIn m g l y)) t) e)) r)
 
   -- the rows that it adds: one to its kind's table if it is accepted; none if it is refused, or ignored

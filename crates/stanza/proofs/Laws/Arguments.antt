@@ -259,3 +259,14 @@ unfolding words isWordByte
 words-are [] = unfold areWords all in refl
 words-are (b ∷ t) =
     cases (eqb b 32) (λ e. rw e (space-words (words t) (words-are t))) (λ e. rw e (before-words b (words t) (rw e) (words-are t)))
+
+-- no argument is empty
+arguments-some : (ws : List (List ℕ)) (k : ℕ) → areArguments ws ≡ true → k < length ws → 0 < length (getD ws k [])
+unfolding areArguments isArgument
+arguments-some [] k e h = absurd (omega arith)
+arguments-some ([] ∷ ws) zero e h = absurd (omega (arith, let z : _≡_ {A = ℕ} 0 1 = cc in z))
+arguments-some ((b ∷ w) ∷ ws) zero e h = omega arith
+arguments-some (w ∷ ws) (suc k) e h = arguments-some ws k (and-true (isArgument w) (areArguments ws) e .1) (omega arith)
+
+pub argument-some : (t : List ℕ) (k : ℕ) → isLine t ≡ true → k < countOf t → 0 < length (argumentOf t k)
+argument-some t k e h = arguments-some (words t) k e h

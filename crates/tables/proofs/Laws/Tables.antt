@@ -40,16 +40,22 @@ unfoldable pub Chained : ℕ → List Entry → ℕ → Type 0
 Chained s [] u = s ≡ u
 Chained s (e ∷ es) u = (e .start ≡ s) × Chained (s + e .length) es u
 
+-- no payload is empty
+unfoldable pub AllSome : List Entry → Type 0
+AllSome [] = Unit
+AllSome (e ∷ es) = (0 < e .length) × AllSome es
+
 pub record Kept (t : Table) : Type 0 where
   pub counted : t .count ≤ t .width
   pub wide : length (t .slots) ≡ t .width
   pub chained : Chained 0 (take (t .count) (t .slots)) (t .used)
+  pub some : AllSome (take (t .count) (t .slots))
   pub rest : drop (t .count) (t .slots) ≡ replicate (t .width - t .count) empty
 
 -- an opened table is one, and shows nothing
 pub opened-kept : (n : ℕ) → Kept (opened n)
-unfolding Chained
-opened-kept n = record { counted = omega arith; wide = length-replicate n empty; chained = refl; rest = ap (λ k. replicate k empty) (sym (sub-zero n)) }
+unfolding Chained AllSome
+opened-kept n = record { counted = omega arith; wide = length-replicate n empty; chained = refl; some = tt; rest = ap (λ k. replicate k empty) (sym (sub-zero n)) }
 
 pub opened-view : (n : ℕ) (buffer : List ℕ) → view (opened n) buffer ≡ []
 opened-view n buffer = refl
@@ -66,20 +72,26 @@ unfolding Chained
 chain-more [] e s u h q = (q ∙ sym h, ap (λ x. x + e .length) h)
 chain-more (x ∷ es) e s u h q = (h .0, chain-more es e (s + x .length) u (h .1) q)
 
+some-more : (es : List Entry) (e : Entry) → AllSome es → 0 < e .length → AllSome (es ++ (e ∷ []))
+unfolding AllSome
+some-more [] e h g = (g, tt)
+some-more (x ∷ es) e h g = (h .0, some-more es e (h .1) g)
+
 -- the number of an entry is the count before: it stands behind those that are there
 slots-more : (t : Table) (e : Entry) → Kept t → t .count < t .width → take (t .count + 1) (set (t .slots) (t .count) e) ≡ take (t .count) (t .slots) ++ (e ∷ [])
 slots-more t e k h =
     let n : t .count + 1 ≡ suc (t .count) = omega arith in
     ap (λ j. take j (set (t .slots) (t .count) e)) n ∙ take-suc-set (t .slots) (t .count) e (omega (arith, k .wide))
 
-pub appended-kept : (t : Table) (n index mark : ℕ) → Kept t → t .count < t .width → Kept (appended t n index mark)
-appended-kept t n index mark k h =
+pub appended-kept : (t : Table) (n index mark : ℕ) → Kept t → 0 < n → t .count < t .width → Kept (appended t n index mark)
+appended-kept t n index mark k g h =
     let e : Entry = record { start = t .used; length = n; index = index; mark = mark } in
     let w : t .width - t .count ≡ suc (t .width - (t .count + 1)) = omega arith in
     record {
       counted = omega arith;
       wide = length-set (t .slots) (t .count) e ∙ k .wide;
       chained = subst (λ l. Chained 0 l (t .used + n)) (sym (slots-more t e k h)) (chain-more (take (t .count) (t .slots)) e 0 (t .used) (k .chained) refl);
+      some = subst AllSome (sym (slots-more t e k h)) (some-more (take (t .count) (t .slots)) e (k .some) g);
       rest = drop-set-lt (t .count + 1) (t .slots) (t .count) e (omega arith) ∙ sym (drop-drop 1 (t .count) (t .slots)) ∙ ap (drop 1) (k .rest ∙ ap (λ j. replicate j empty) w);
     }
 
@@ -129,8 +141,8 @@ pub entered-view : (t : Table) (p b : List ℕ) (index mark : ℕ) → Kept t �
     view (entered t (length p) index mark (length b)) (kept t p b) ≡ pick (fits t (length p) (length b)) (view t b ++ (record { payload = p; index = index; mark = mark } ∷ [])) (view t b)
 entered-view t p b index mark k = cases (fits t (length p) (length b)) (λ f. rw f (appended-view t p b index mark k f)) (λ f. rw f)
 
-pub entered-kept : (t : Table) (n index mark capacity : ℕ) → Kept t → Kept (entered t n index mark capacity)
-entered-kept t n index mark capacity k =
+pub entered-kept : (t : Table) (n index mark capacity : ℕ) → Kept t → 0 < n → Kept (entered t n index mark capacity)
+entered-kept t n index mark capacity k g =
     cases (fits t n capacity)
-    (λ f. rw f (appended-kept t n index mark k (ltb-true (t .count) (t .width) (and-true (ltb (t .count) (t .width)) (leb (t .used + n) capacity) f .0))))
+    (λ f. rw f (appended-kept t n index mark k g (ltb-true (t .count) (t .width) (and-true (ltb (t .count) (t .width)) (leb (t .used + n) capacity) f .0))))
     (λ f. rw f k)
