@@ -1,6 +1,7 @@
 -- Calls of either end, and lists of calls: each call gets the session and the buffers as the one before left them, refused or not, and nobody else writes
 -- there meanwhile (document 01, "Phase two", the paragraph on demand 3).
 use Prim.Native.Nat.{ℕ, _+_}
+use mathlib.Core.Path.{_≡_}
 use mathlib.Core.List.{List, [], _∷_, _++_}
 use lib.Dec.{eqb}
 use lib.ListN.{take, drop}
@@ -95,3 +96,11 @@ acceptedRows k s b [] = []
 acceptedRows k s b (c ∷ cs) =
     let o = outcome s b c in
     pick (eqb (o .number) 0) (rowsOf (commandOf s c) k (payloadOf s c)) [] ++ acceptedRows k (o .session) (o .buffers) cs
+
+-- a list of calls is accepted when every call in it is
+unfoldable pub AllZero : List ℕ → Type 0
+AllZero [] = Unit
+AllZero (n ∷ ns) = (n ≡ 0) × AllZero ns
+
+abbrev pub Accepted : Session → Buffers → List Call → Type 0
+Accepted s b cs = AllZero (numbers s b cs)

@@ -3,3 +3,4 @@ pub mod Session
 pub mod Receiving
 pub mod Sending
 pub mod Calls
+pub mod Phases
