@@ -1,4 +1,5 @@
 -- What both ends of a conversation keep.
+pub mod Bodies
 pub mod Commands
 pub mod LookUp
 pub mod Opening

@@ -1,8 +1,13 @@
--- The machines by their names, byte for byte (document 01: No. 18, "neither machine's name").
+-- Openings: the machine by its name, byte for byte, and the plugin's name (document 01, "Numbers given back": 18, "neither machine's name", then 17).
 use Prim.Native.Nat.{ℕ}
 use mathlib.Core.List.{List, [], _∷_}
 use Rattle.refusal.specs.Pick.{pick}
 use Rattle.refusal.specs.Same.{same}
+use lib.ListN.{take}
+use Rattle.bech32.specs.Text.{isName}
+use Rattle.bech32.specs.declared.human.Name.{Name}
+use Rattle.session.specs.PhaseOne.{verdictSaid}
+use Rattle.session.specs.declared.opening.Settings.{Settings as CodeSettings}
 use Rattle.session.specs.declared.commands.Machine.{Machine}
 use Rattle.session.specs.declared.commands.Machine.the-variants.{RecipientV1, IdentityV1}
 use Rattle.session.specs.declared.opening.Named.{Named as CodeNamed}
@@ -29,3 +34,35 @@ namedSaid the.Nothing = nameless
 -- the machine of a name
 abbrev pub machineNamed : List ℕ → Named
 machineNamed t = pick (same t recipientV1) (named RecipientV1) (pick (same t identityV1) (named IdentityV1) nameless)
+
+-- ---- what an opening is given
+
+-- the name that the code's value holds
+abbrev pub nameOf : Name → List ℕ
+nameOf n = take (n .length) (n .bytes)
+
+-- the number, 0 where nothing is refused; the machine and the name
+pub record Settings : Type 0 where
+  pub number : ℕ
+  pub machine : Machine
+  pub name : List ℕ
+
+-- what the code's answer stands for
+abbrev pub settingsSaid : CodeSettings → Settings
+settingsSaid s = record { number = verdictSaid (s .verdict); machine = s .machine; name = nameOf (s .name) }
+
+-- a refused opening names nothing
+abbrev pub refusedSettings : ℕ → Settings
+refusedSettings n = record { number = n; machine = RecipientV1; name = [] }
+
+-- No. 17: the name is none in lower case
+abbrev pub settingsNamed : Machine → List ℕ → Settings
+settingsNamed machine name = pick (isName name) (record { number = 0; machine = machine; name = name }) (refusedSettings 17)
+
+abbrev pub settingsOf : Named → List ℕ → Settings
+settingsOf (named machine) name = settingsNamed machine name
+settingsOf nameless name = refusedSettings 18
+
+-- No. 18 first
+abbrev pub settings : List ℕ → List ℕ → Settings
+settings machine name = settingsOf (machineNamed machine) name

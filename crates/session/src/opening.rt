@@ -1,7 +1,11 @@
-// The machines by their names.
+// Openings: the machine and the plugin by their names.
 ghost use mathlib.Core.Path.{_≡_};
-ghost use Rattle.session.specs.Opening.{machineNamed, namedSaid};
+ghost use lib.ListN.{take};
+ghost use Rattle.session.specs.Opening.{machineNamed, namedSaid, settingsSaid, settingsNamed, settings};
 use crate::commands::Machine;
+use crate::phase_one::Verdict;
+use bech32::Name;
+use refusal::Refusal;
 
 const RECIPIENT_V1: [u8; 12] = *b"recipient-v1";
 const IDENTITY_V1: [u8; 11] = *b"identity-v1";
@@ -22,4 +26,55 @@ pub fn machine_named(name: &[u8]) -> Named
         return Named::Machine(Machine::IdentityV1);
     }
     Named::Nothing
+}
+
+// What an opening is given, judged: accepted with the machine and the plugin's name, or 18 or 17 with no name.
+pub struct Settings {
+    pub verdict: Verdict,
+    pub machine: Machine,
+    pub name: Name,
+}
+
+// 18, then 17.
+pub fn read_settings(machine: &[u8], name: &[u8]) -> Settings
+    ensures { λ r. ⌜ settingsSaid r ≡ settings (now (machine .entry)) (now (name .entry)) ⌝ }
+{
+    let named = machine_named(machine);
+    match named {
+        Named::Machine(m) => read_name(m, name),
+        Named::Nothing => Settings {
+            verdict: Verdict::Refused(Refusal::NoSuchMachine),
+            machine: Machine::RecipientV1,
+            name: bech32::name_of(b""),
+        },
+    }
+}
+
+// The plugin's name for a machine.
+fn read_name(machine: Machine, text: &[u8]) -> Settings
+    ensures { λ r. ⌜ settingsSaid r ≡ settingsNamed machine (now (text .entry)) ⌝ }
+{
+    let name = bech32::name_of(text);
+    if name.length == 0 {
+        return Settings {
+            verdict: Verdict::Refused(Refusal::Unwritable),
+            machine: Machine::RecipientV1,
+            name: name,
+        };
+    }
+    Settings {
+        verdict: Verdict::Accepted,
+        machine: machine,
+        name: name,
+    }
+}
+
+// A name as a part of its bytes.
+pub fn name_text<'a>(bytes: &'a [u8], length: usize) -> &'a [u8]
+    ensures { λ r. ⌜ now r ≡ take length (now (bytes .entry)) ⌝ }
+{
+    if length < bytes.len() {
+        return &bytes[..length];
+    }
+    bytes
 }

@@ -1,8 +1,10 @@
 // The phases of a conversation, whose turn it is, and which refusals close a session.
 ghost use mathlib.Core.Path.{_≡_};
 ghost use Rattle.refusal.specs.Number.{numberOf};
+ghost use Rattle.session.specs.Commands.{commandSaid};
 ghost use Rattle.session.specs.PhaseOne.{verdictSaid};
-ghost use Rattle.session.specs.Phases.{turnOne, closes};
+ghost use Rattle.session.specs.Phases.{turnOne, closes, phaseAfter, phaseReceived, phaseSent, phaseOpened};
+use crate::commands::Command;
 use crate::phase_one::Verdict;
 use refusal::Refusal;
 
@@ -35,4 +37,54 @@ pub fn is_closing(refusal: Refusal) -> bool
         return false;
     }
     n != 2
+}
+
+// The phase behind an accepted command of phase one.
+fn phase_after(command: Command) -> Phase
+    ensures { λ r. ⌜ r ≡ phaseAfter (commandSaid command) ⌝ }
+{
+    match command {
+        Command::Done => Phase::Two,
+        Command::Recipient(_) => Phase::One,
+        Command::Identity(_) => Phase::One,
+        Command::Key => Phase::One,
+        Command::Header(_, _) => Phase::One,
+        Command::Other => Phase::One,
+        Command::Refused(_) => Phase::One,
+    }
+}
+
+// The phase behind a command of phase one that was received: a refusal may close the session.
+pub fn phase_received(verdict: Verdict, command: Command) -> Phase
+    ensures { λ r. ⌜ r ≡ phaseReceived (verdictSaid verdict) (commandSaid command) ⌝ }
+{
+    match verdict {
+        Verdict::Accepted => phase_after(command),
+        Verdict::Refused(r) => {
+            if is_closing(r) {
+                return Phase::Closed;
+            }
+            Phase::One
+        }
+    }
+}
+
+// The phase behind a command of phase one that was sent: no refusal closes the session.
+pub fn phase_sent(verdict: Verdict, command: Command) -> Phase
+    ensures { λ r. ⌜ r ≡ phaseSent (verdictSaid verdict) (commandSaid command) ⌝ }
+{
+    match verdict {
+        Verdict::Accepted => phase_after(command),
+        Verdict::Refused(_) => Phase::One,
+    }
+}
+
+// The phase behind an opening.
+pub fn phase_opened(verdict: Verdict) -> Phase
+    ensures { λ r. ⌜ r ≡ phaseOpened (verdictSaid verdict) ⌝ }
+{
+    match verdict {
+        Verdict::Accepted => Phase::One,
+        Verdict::Refused(_) => Phase::Closed,
+    }
 }
