@@ -8,8 +8,8 @@ use Rattle.base64.specs.Lines.{bodyOf}
 use Rattle.stanza.specs.Reading.{Reading, stanza, refused, readFirst}
 use Rattle.session.specs.Commands.{Word, wordOf}
 use Rattle.session.specs.PhaseOne.{Buffers, commandIn, numberOne, tablesOne, buffersOne}
-use Rattle.session.specs.Phases.{turnOne, closes}
-use Rattle.conversation.specs.Session.{Session, moved, closed, phaseAfter}
+use Rattle.session.specs.Phases.{turnOne, closes, phaseAfter}
+use Rattle.conversation.specs.Session.{Session, moved, closed}
 
 -- which command it was and how many bytes were taken; or the number
 pub data Heard : Type 0 where

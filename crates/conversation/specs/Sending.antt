@@ -10,8 +10,8 @@ use Rattle.stanza.specs.Grammar.{stanzaText}
 use Rattle.stanza.specs.Writing.{isWritable}
 use Rattle.session.specs.Commands.{Word, lineSent}
 use Rattle.session.specs.PhaseOne.{Buffers, commandIn, numberOne, tablesOne, buffersOne}
-use Rattle.session.specs.Phases.{turnOne}
-use Rattle.conversation.specs.Session.{Session, moved, phaseAfter}
+use Rattle.session.specs.Phases.{turnOne, phaseAfter}
+use Rattle.conversation.specs.Session.{Session, moved}
 
 -- how many bytes were written, or the number; the session, the four buffers and the output buffer afterwards
 pub record Sent : Type 0 where

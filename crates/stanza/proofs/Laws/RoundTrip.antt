@@ -15,6 +15,7 @@ use Rattle.refusal.proofs.Laws.Run.{run-back, run-stop-append}
 use Rattle.refusal.proofs.Laws.Booleans.{and-true, true-and, cases}
 use Rattle.base64.specs.Lines.{linesOf, bodyOf}
 use Rattle.base64.proofs.Laws.RoundTrip.{body-lines}
+use Rattle.base64.proofs.Laws.Lines.{lines-length}
 use Rattle.stanza.specs.Arguments.{isGraphic, isLine}
 use Rattle.stanza.specs.Automaton.{scan, start, whole}
 use Rattle.stanza.specs.Grammar.{firstLine, stanzaText, IsStanza}
@@ -133,3 +134,12 @@ written-read t e n k r =
     let p : e ≡ length (s .line) + 3 = cc in
     let m : n ≡ length (s .body) = cc in
     again t (s .line) (s .body) e n k p m (s .text) (s .arguments) (s .bytes) (w .limit) (w .within)
+
+-- no body has more than 6,144 bytes
+pub body-limit : (t : List ℕ) (e n k : ℕ) → readFirst t ≡ stanza e n k → length (bodyOf (drop (e + 1) (take k t))) ≤ 6144
+body-limit t e n k r =
+    let a = written-read t e n k r in
+    let l = drop 3 (take e t) in
+    let b = bodyOf (drop (e + 1) (take k t)) in
+    let w = leb-true (length (stanzaText l b)) 8192 (and-true (isLine l) (leb (length (stanzaText l b)) 8192) (a .writable) .1) in
+    omega (arith, text-length l b, lines-length b)
