@@ -6,7 +6,7 @@ use lib.ListN.{take, drop}
 use Rattle.refusal.specs.Pick.{pick}
 use Rattle.base64.specs.Lines.{bodyOf}
 use Rattle.stanza.specs.Reading.{Reading, stanza, refused, readFirst}
-use Rattle.session.specs.Commands.{Word, wordOf}
+use Rattle.session.specs.Commands.{Command, Word, wordOf}
 use Rattle.session.specs.PhaseOne.{Buffers, commandIn, numberOne, tablesOne, buffersOne}
 use Rattle.session.specs.Phases.{turnOne, closes, phaseAfter}
 use Rattle.conversation.specs.Session.{Session, moved, closed}
@@ -15,6 +15,10 @@ use Rattle.conversation.specs.Session.{Session, moved, closed}
 pub data Heard : Type 0 where
   heard : Word → ℕ → Heard
   declined : ℕ → Heard
+
+-- the answer to a command with the number n that took k bytes
+abbrev pub answerOf : ℕ → Command → ℕ → Heard
+answerOf n c k = pick (eqb n 0) (heard (wordOf c) k) (declined n)
 
 -- the answer, the session and the four buffers afterwards
 pub record Received : Type 0 where

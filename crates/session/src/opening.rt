@@ -8,6 +8,7 @@ use bech32::Name;
 use refusal::Refusal;
 
 const RECIPIENT_V1: [u8; 12] = *b"recipient-v1";
+
 const IDENTITY_V1: [u8; 11] = *b"identity-v1";
 
 // The machine of a name, or none.

@@ -12,10 +12,10 @@ use crate::commands::Command;
 use crate::commands::Machine;
 use crate::commands::parse_one;
 use crate::commands::rest_of;
+use refusal::Refusal;
 use tables::Table64;
 use tables::Table256;
 use tables::Table384;
-use refusal::Refusal;
 
 // The tables of both phases.
 pub struct Tables {
@@ -32,6 +32,23 @@ pub struct Tables {
 pub enum Verdict {
     Accepted,
     Refused(Refusal),
+}
+
+impl Tables {
+    // How many entries each kind has at most.
+    pub const RECIPIENTS: usize = Table64::SLOTS;
+
+    pub const IDENTITIES: usize = Table64::SLOTS;
+
+    pub const FILE_KEYS: usize = Table64::SLOTS;
+
+    pub const HEADER_STANZAS: usize = Table256::SLOTS;
+
+    pub const ERRORS: usize = Table384::SLOTS;
+
+    pub const RETURNED_STANZAS: usize = Table256::SLOTS;
+
+    pub const RETURNED_KEYS: usize = Table256::SLOTS;
 }
 
 // No entry of any kind.
@@ -70,7 +87,7 @@ fn is_falling(headers: Table256, index: u32) -> bool
     if count == 0 {
         return false;
     }
-    if 256 < count {
+    if Tables::HEADER_STANZAS < count {
         return false;
     }
     let last = headers.slots[count - 1];
@@ -100,7 +117,13 @@ fn decide_header(headers: Table256, index: u32, n: usize, capacity: usize) -> Ve
     if is_falling(headers, index) {
         return Verdict::Refused(Refusal::FallingIndex);
     }
-    space_or(has_space(headers.count, 256, headers.used, n, capacity))
+    space_or(has_space(
+        headers.count,
+        Tables::HEADER_STANZAS,
+        headers.used,
+        n,
+        capacity,
+    ))
 }
 
 // What is decided of a command with a payload of n bytes, by the lengths of the four buffers.
@@ -118,15 +141,15 @@ pub fn decide_one(
     match command {
         Command::Recipient(_) => {
             let t = tables.recipients;
-            space_or(has_space(t.count, 64, t.used, n, recipients))
+            space_or(has_space(t.count, Tables::RECIPIENTS, t.used, n, recipients))
         }
         Command::Identity(_) => {
             let t = tables.identities;
-            space_or(has_space(t.count, 64, t.used, n, identities))
+            space_or(has_space(t.count, Tables::IDENTITIES, t.used, n, identities))
         }
         Command::Key => {
             let t = tables.keys;
-            space_or(has_space(t.count, 64, t.used, n, keys))
+            space_or(has_space(t.count, Tables::FILE_KEYS, t.used, n, keys))
         }
         Command::Header(index, _) => decide_header(tables.headers, index, n, headers),
         Command::Done => Verdict::Accepted,

@@ -1,22 +1,20 @@
 -- Receiving, by what one step of phase one came to: for the code of the plugin end.
 use Prim.Native.Nat.{ℕ}
-use mathlib.Core.Path.{_≡_, refl}
-use mathlib.Core.Bool.{Bool, true, false}
+use mathlib.Core.Path.{_≡_, refl, sym, ap, _∙_}
+use mathlib.Core.Bool.{Bool, true, false, false≢true}
+use native.Mathlib.Omega.{arith}
 use mathlib.Core.List.{List}
 use lib.Dec.{eqb}
 use Rattle.refusal.specs.Pick.{pick}
+use Rattle.stanza.specs.Reading.{readFirst}
 use Rattle.session.specs.Commands.{Command, wordOf}
 use Rattle.session.specs.PhaseOne.{Tables, Buffers, buffersOf, applied, filledBy, commandIn, payloadIn, numberOne, tablesOne, buffersOne}
-use Rattle.session.specs.Phases.{closes, phaseAfter, phaseReceived}
+use Rattle.session.specs.Phases.{turnOne, closes, phaseAfter, phaseReceived}
 use Rattle.session.specs.declared.commands.Machine.{Machine}
 use Rattle.session.specs.declared.phases.Phase.{Phase}
-use Rattle.session.specs.declared.phases.Phase.the-variants.{One, Closed}
-use Rattle.conversation.specs.Session.{Session}
-use Rattle.conversation.specs.Receiving.{Heard, heard, declined, Received, receivedStanza, refusedReceipt}
-
--- the answer of a step with the number n
-abbrev pub answerOf : ℕ → Command → ℕ → Heard
-answerOf n c k = pick (eqb n 0) (heard (wordOf c) k) (declined n)
+use Rattle.session.specs.declared.phases.Phase.the-variants.{One, Two, Ended, Closed}
+use Rattle.conversation.specs.Session.{Session, closed}
+use Rattle.conversation.specs.Receiving.{Heard, heard, declined, answerOf, Received, receivedStanza, receivedAs, received, refusedReceipt}
 
 abbrev sessionIn : Machine → List ℕ → Bool → Phase → Tables → Session
 sessionIn m g x p t = record { machine = m; name = g; screen = x; phase = p; tables = t }
@@ -57,3 +55,40 @@ module _ (m : Machine) (g : List ℕ) (x : Bool) (t : Tables) (b : Buffers) wher
     pub received-by : (n : ℕ) (c : Command) (a : Heard) (p : Phase) (t′ : Tables) (b′ : Buffers) → n ≡ numberOne m g t b 0 l y → c ≡ commandIn m g l y → a ≡ answerOf n c k → p ≡ phaseReceived n c → t′ ≡ tablesOne m g t b 0 l y → b′ ≡ buffersOne m g t b 0 l y →
         receipt a (sessionIn m g x p t′) b′ ≡ receivedStanza (sessionIn m g x One t) b l y k
     received-by n c a p t′ b′ en ec ea ep et eb = rw (ea, ep, et, eb, en, ec) step-is
+
+    -- the same where name, arguments' text and body are said otherwise
+    pub received-from : (g′ l′ y′ : List ℕ) (n : ℕ) (c : Command) (a : Heard) (p : Phase) (t′ : Tables) (b′ : Buffers) → g′ ≡ g → l′ ≡ l → y′ ≡ y → n ≡ numberOne m g′ t b 0 l′ y′ → c ≡ commandIn m g′ l′ y′ → a ≡ answerOf n c k → p ≡ phaseReceived n c →
+        t′ ≡ tablesOne m g′ t b 0 l′ y′ → b′ ≡ buffersOne m g′ t b 0 l′ y′ → receipt a (sessionIn m g x p t′) b′ ≡ receivedStanza (sessionIn m g x One t) b l y k
+    received-from g′ l′ y′ n c a p t′ b′ eg el ey en ec ea ep et eb =
+        received-by n c a p t′ b′ (en ∙ same (λ g l y. numberOne m g t b 0 l y)) (ec ∙ same (λ g l y. commandIn m g l y)) ea ep (et ∙ same (λ g l y. tablesOne m g t b 0 l y)) (eb ∙ same (λ g l y. buffersOne m g t b 0 l y))
+      where
+        same : {X : Type 0} (f : List ℕ → List ℕ → List ℕ → X) → f g′ l′ y′ ≡ f g l y
+        same f = ap (λ g. f g l′ y′) eg ∙ ap (λ l. f g l y′) el ∙ ap (f g l) ey
+
+-- ---- whose turn it is
+
+turn-first : (p : Phase) → turnOne p ≡ 0 → p ≡ One
+turn-first One e = refl
+turn-first Two e = absurd (omega arith)
+turn-first Ended e = absurd (omega arith)
+turn-first Closed e = absurd (omega arith)
+
+-- 13 and 14 leave the session as it was
+turn-keeps : (p : Phase) → eqb (turnOne p) 0 ≡ false → closes (turnOne p) ≡ false
+turn-keeps One e = absurd (false≢true (sym e))
+turn-keeps Two e = refl
+turn-keeps Ended e = refl
+turn-keeps Closed e = refl
+
+pub received-out-of-turn : (s : Session) (text : List ℕ) (b : Buffers) (n : ℕ) → n ≡ turnOne (s .phase) → eqb n 0 ≡ false → receipt (declined n) s b ≡ received s text b
+unfolding received
+received-out-of-turn s text b n e f =
+    let z : eqb (turnOne (s .phase)) 0 ≡ false = ap (λ j. eqb j 0) (sym e) ∙ f in
+    ap (λ j. receipt (declined j) s b) e
+    ∙ ap (λ q. receipt (declined (turnOne (s .phase))) (pick q (closed s) s) b) (sym (turn-keeps (s .phase) z))
+    ∙ ap (λ q. pick q (receivedAs (readFirst text) s text b) (refusedReceipt (turnOne (s .phase)) s b)) (sym z)
+
+pub received-in-turn : (m : Machine) (g : List ℕ) (x : Bool) (p : Phase) (t : Tables) (text : List ℕ) (b : Buffers) → 0 ≡ turnOne p →
+    receivedAs (readFirst text) (sessionIn m g x One t) text b ≡ received (sessionIn m g x p t) text b
+unfolding received
+received-in-turn m g x p t text b e = rw (turn-first p (sym e))

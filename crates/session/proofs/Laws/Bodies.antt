@@ -1,5 +1,5 @@
 -- The body of a stanza in a store.
-use Prim.Native.Nat.{ℕ}
+use Prim.Native.Nat.{ℕ, _≤_}
 use mathlib.Core.Path.{_≡_, refl, sym, ap, _∙_}
 use mathlib.Core.Bool.{true, false, Bool}
 use mathlib.Core.List.{List, [], _++_}
@@ -10,7 +10,9 @@ use native.Mathlib.Omega.{arith}
 use borrow.Author.Tests.{ltb-true, ltb-false, le-leb, lt-leb}
 use Rattle.refusal.specs.Pick.{pick}
 use Rattle.refusal.specs.Output.{bytes, refused, answered, filled}
-use Rattle.refusal.proofs.Laws.Booleans.{cases}
+use Rattle.stanza.specs.Parts.{bodyIn}
+use Rattle.stanza.specs.declared.reading.Stanza.{Stanza}
+use Rattle.session.specs.Bodies.{bodyWithin}
 
 written : (f : Bool) (n m : ℕ) → bytes n ≡ pick f (refused 15) (bytes m) → (f ≡ false) × (n ≡ m)
 written true n m e = let z : _≡_ {A = ℕ} 0 1 = cc in absurd (omega arith)
@@ -33,3 +35,7 @@ module _ (body store : List ℕ) where
   body-over r e =
       let g = ltb-true (length store) (length body) (overflown (ltb (length store) (length body)) r (length body) e) in
       rw (lt-leb (length body) (length store) (omega arith)) (refl, refl)
+
+-- the body is whole where the store is long enough
+pub body-whole : (text : List ℕ) (s : Stanza) (n : ℕ) → length (bodyIn text s) ≤ n → bodyWithin n text s ≡ bodyIn text s
+body-whole text s n h = rw (le-leb (length (bodyIn text s)) n h)

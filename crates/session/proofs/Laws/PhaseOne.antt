@@ -12,7 +12,7 @@ use Rattle.tables.specs.Tables.{Table, empty}
 use Rattle.refusal.specs.Pick.{pick}
 use Rattle.session.specs.Commands.{Command, payloadOf}
 use Rattle.session.specs.declared.commands.Machine.{Machine}
-use Rattle.session.specs.PhaseOne.{Tables, Buffers, falls, decided, applied, filledBy, firstOf, commandIn, payloadIn, numberOne, tablesOne, buffersOne}
+use Rattle.session.specs.PhaseOne.{Tables, Buffers, buffersOf, falls, decided, applied, filledBy, firstOf, commandIn, payloadIn, numberOne, tablesOne, buffersOne}
 
 module _ (count width used n capacity : ℕ) where
   pub no-slot : width ≤ count → false ≡ (ltb count width && leb (used + n) capacity)
@@ -63,3 +63,7 @@ module _ (m : Machine) (g : List ℕ) (t : Tables) (b : Buffers) (z : ℕ) (l y 
   accepted-all x t′ r i k h e q a =
       let w = accepted-one x e q in
       (a .0 ∙ w .0, (a .1 .0 ∙ ap (λ z. z .recipients) (w .1), (a .1 .1 .0 ∙ ap (λ z. z .identities) (w .1), (a .1 .1 .1 .0 ∙ ap (λ z. z .keys) (w .1), a .1 .1 .1 .1 ∙ ap (λ z. z .headers) (w .1)))))
+
+-- the four buffers, one by one
+pub buffers-are : (r i k h : List ℕ) (b : Buffers) → (r ≡ b .recipients) × ((i ≡ b .identities) × ((k ≡ b .keys) × (h ≡ b .headers))) → buffersOf r i k h ≡ b
+buffers-are r i k h b e = rw (e .0, e .1 .0, e .1 .1 .0, e .1 .1 .1)

@@ -1,0 +1,80 @@
+use mathlib.Core.Path.{sym, ap, _∙_}
+use mathlib.Core.Bool.{false}
+use denote.Ref.{now}
+use Rattle.refusal.specs.Number.{numberOf}
+use Rattle.refusal.proofs.Laws.Number.{number-not-zero}
+use Rattle.stanza.specs.Reading.{readSaid}
+use Rattle.session.specs.Commands.{other}
+use Rattle.session.specs.Opening.{nameOf}
+use Rattle.session.specs.PhaseOne.{tablesOf, buffersOf}
+use Rattle.conversation.proofs.Laws.Receiving.{refusal-is}
+use borrow.Author.Needs.{needs}
+use Rattle.plugin.proofs.receiving.receive_text.Statement.{statement}
+use Rattle.plugin.proofs.receiving.receive_text.Tie as tie
+use Rattle.plugin.proofs.receiving.receive_text.Reads as reads
+use Rattle.plugin.proofs.receiving.receive_text.Lts as lts
+use Rattle.plugin.proofs.receiving.receive_stanza.Reads as receive-stanza-reads
+use Rattle.session.proofs.phase_received.Reads as phase-received-reads
+use Rattle.stanza.proofs.read.Reads as read-reads
+
+-- src/receiving.rt:111:9
+read-requires : tie.Need-read-requires
+read-requires c κs = search needs
+
+-- src/receiving.rt:113:23
+enum-known-first : tie.Need-enum-known-first
+enum-known-first c = search needs
+
+-- src/receiving.rt:113:29
+receive-stanza-requires : tie.Need-receive-stanza-requires
+receive-stanza-requires c κs = sym (c .before .before .before .before .before .before .before .read .ensures) ∙ ap readSaid (c .before .before .before .before .before .first .given .1)
+
+-- src/receiving.rt:116:24
+enum-known-first-2 : tie.Need-enum-known-first-2
+enum-known-first-2 c = search needs
+
+-- src/receiving.rt:118:20
+phase-received-requires : tie.Need-phase-received-requires
+phase-received-requires c κs = search needs
+
+-- src/receiving.rt:99:1
+same-length : tie.Need-same-length
+same-length c = search needs
+
+-- src/receiving.rt:99:1
+same-length-2 : tie.Need-same-length-2
+same-length-2 c = search needs
+
+-- src/receiving.rt:99:1
+same-length-3 : tie.Need-same-length-3
+same-length-3 c = search needs
+
+-- src/receiving.rt:99:1
+same-length-4 : tie.Need-same-length-4
+same-length-4 c = search needs
+
+-- src/receiving.rt:99:1
+returns : tie.Need-returns
+returns c = rw (sym (c .before .before .before .before .before .before .before .before .before .before .before .before .before .before .before .before .read .ensures), c .before .before .before .before .before .before .before .before .before .before .before .before .before .before .first .given .1) (c .before .before .before .before .before .before .before .before .receive-stanza .ensures)
+
+-- src/receiving.rt:99:1
+returns-2 : tie.Need-returns-2
+returns-2 c =
+    rw (sym (c .before .before .before .before .read .ensures), c .before .before .first2 .given .1, c .phase-received .ensures)
+    (refusal-is (c .before .before .before .before .before .before .before .before .before .before .args .machine) (nameOf (c .before .before .before .before .before .before .before .before .before .before .args .name)) false (tablesOf (c .before .before .before .before .before .before .before .before .before .before .args .tables)) (buffersOf (now (c .before .before .before .before .before .before .before .before .before .before .args .recipients)) (now (c .before .before .before .before .before .before .before .before .before .before .args .identities)) (now (c .before .before .before .before .before .before .before .before .before .before .args .keys)) (now (c .before .before .before .before .before .before .before .before .before .before .args .headers))) (numberOf (c .before .before .first2 .given .0 .0)) other (number-not-zero (c .before .before .first2 .given .0 .0)))
+
+pub receive-text-spec : {M : Type 1} → statement M
+receive-text-spec =
+    tie.close
+    (tie.spec
+    read-requires
+    enum-known-first
+    receive-stanza-requires
+    enum-known-first-2
+    phase-received-requires
+    same-length
+    same-length-2
+    same-length-3
+    same-length-4
+    returns
+    returns-2)

@@ -1,0 +1,3 @@
+-- What the plugin end's values stand for.
+pub mod Session
+pub mod Receiving

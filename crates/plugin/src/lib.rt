@@ -1,0 +1,8 @@
+// The plugin end: its session, opened by a machine's and a plugin's name; phase one received. Payloads are kept in buffers that each call is lent.
+mod receiving;
+mod sessions;
+
+pub use receiving::Heard;
+pub use receiving::Received;
+pub use sessions::Opening;
+pub use sessions::Session;
