@@ -112,7 +112,7 @@ module _ (t : Tables) (b : Buffers) (p : List ℕ) (r : Reached t) where
 
 -- ---- one command, accepted or refused
 
-first-zero : (n late : ℕ) → firstOf n late ≡ 0 → n ≡ 0
+pub first-zero : (n late : ℕ) → firstOf n late ≡ 0 → n ≡ 0
 first-zero n late h = cases (eqb n 0) (λ e. eqb-true n 0 e) (λ e. rw e at h)
 
 -- no payload of a command that was read is empty: no argument is, a key has 16 bytes, and a header stanza its LF
