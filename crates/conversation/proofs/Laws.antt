@@ -1,2 +1,4 @@
 pub mod Accepted
+pub mod Reached
 pub mod Refusals
+pub mod Tables
