@@ -20,7 +20,7 @@ use Rattle.session.specs.declared.commands.Machine.{Machine}
 use Rattle.session.specs.declared.phases.Phase.the-variants.{One}
 use Rattle.session.proofs.Laws.Views.{Reached, applied-view}
 use Rattle.bech32.specs.Text.{isName}
-use Rattle.conversation.specs.Session.{Session, openedSession, refusedOpening, openedAs, opened}
+use Rattle.conversation.specs.Session.{Session, moved, phaseAfter, openedSession, refusedOpening, openedAs, opened}
 use Rattle.conversation.specs.Calls.{Call, outcome, after, commandOf, payloadOf, acceptedRows}
 use Rattle.conversation.proofs.Laws.Accepted.{accepted}
 use Rattle.conversation.proofs.Laws.Reached.{ReachedSession, opening-reached, call-reached, after-reached}
@@ -50,3 +50,96 @@ tables-after k s b [] r = sym (append-nil (viewOf k (s .tables) b))
 tables-after k s b (c ∷ cs) r =
     tables-after k (outcome s b c .session) (outcome s b c .buffers) cs (call-reached s b c r) ∙ ap (λ v. v ++ acceptedRows k (outcome s b c .session) (outcome s b c .buffers) cs) (call-view s b c r k)
     ∙ append-assoc (viewOf k (s .tables) b) _ _
+
+-- what an opening hands back has empty tables
+opening-tables : (machine name : List ℕ) (screen : Bool) → opened machine name screen .session .tables ≡ openedTables
+opening-tables machine name screen = any (machineNamed machine)
+  where
+    any : (m : Named) → openedAs m name screen .session .tables ≡ openedTables
+    any nameless = refl
+    any (named m) = by (isName name)
+      where
+        by : (f : Bool) → pick f (record { number = 0; session = openedSession m name screen }) (refusedOpening 17) .session .tables ≡ openedTables
+        by true = refl
+        by false = refl
+
+empty-view : (k : Kind) (b : Buffers) → viewOf k openedTables b ≡ []
+empty-view recipients b = refl
+empty-view identities b = refl
+empty-view keys b = refl
+empty-view headers b = refl
+
+-- from an opening on, each kind's table is exactly the list's accepted commands of that kind, in order
+pub tables-opened : (k : Kind) (machine name : List ℕ) (screen : Bool) (b : Buffers) (cs : List Call) →
+    viewOf k (after (opened machine name screen .session) b cs .session .tables) (after (opened machine name screen .session) b cs .buffers) ≡ acceptedRows k (opened machine name screen .session) b cs
+tables-opened k machine name screen b cs =
+    let s = opened machine name screen .session in
+    tables-after k s b cs (opening-reached machine name screen) ∙ ap (λ v. v ++ acceptedRows k s b cs) (ap (λ t. viewOf k t b) (opening-tables machine name screen) ∙ empty-view k b)
+
+-- ---- counts and numbers
+
+-- a kind's count is the number of its rows, whatever the buffers
+pub count-rows : (k : Kind) (s : Session) (b : Buffers) → ReachedSession s → tableOf k (s .tables) .count ≡ length (viewOf k (s .tables) b)
+unfolding Reached
+count-rows k s b r = sym (view-count (tableOf k (s .tables)) (bufferOf k b) (r .tables k))
+
+-- so a kind's count grows by the number of its accepted commands
+pub count-after : (k : Kind) (s : Session) (b : Buffers) (cs : List Call) → ReachedSession s → tableOf k (after s b cs .session .tables) .count ≡ tableOf k (s .tables) .count + length (acceptedRows k s b cs)
+count-after k s b cs r =
+    count-rows k (after s b cs .session) (after s b cs .buffers) (after-reached s b cs r) ∙ ap length (tables-after k s b cs r) ∙ length-append (viewOf k (s .tables) b) (acceptedRows k s b cs)
+    ∙ ap (λ n. n + length (acceptedRows k s b cs)) (sym (count-rows k s b r))
+
+-- an accepted command of a kind: its number is the count before, and its row stands there
+pub record Numbered (s : Session) (b : Buffers) (c : Call) (k : Kind) (row : Row) : Type 0 where
+  pub count : tableOf k (outcome s b c .session .tables) .count ≡ tableOf k (s .tables) .count + 1
+  pub entry : (d : Row) → getD (viewOf k (outcome s b c .session .tables) (outcome s b c .buffers)) (tableOf k (s .tables) .count) d ≡ row
+  pub rows : viewOf k (outcome s b c .session .tables) (outcome s b c .buffers) ≡ viewOf k (s .tables) b ++ (row ∷ [])
+
+pub numbered : (s : Session) (b : Buffers) (c : Call) (k : Kind) (row : Row) → ReachedSession s → outcome s b c .number ≡ 0 → rowsOf (commandOf s c) k (payloadOf s c) ≡ row ∷ [] → Numbered s b c k row
+numbered s b c k row r z q =
+    let v : viewOf k (outcome s b c .session .tables) (outcome s b c .buffers) ≡ viewOf k (s .tables) b ++ (row ∷ []) =
+    call-view s b c r k ∙ ap (λ n. viewOf k (s .tables) b ++ pick (eqb n 0) (rowsOf (commandOf s c) k (payloadOf s c)) []) z ∙ ap (λ l. viewOf k (s .tables) b ++ l) q in
+    record {
+      count =
+          count-rows k (outcome s b c .session) (outcome s b c .buffers) (call-reached s b c r) ∙ ap length v ∙ length-append (viewOf k (s .tables) b) (row ∷ [])
+          ∙ ap (λ n. n + 1) (sym (count-rows k s b r));
+      entry = λ d. ap (λ l. getD l (tableOf k (s .tables) .count) d) v ∙ getD-at (viewOf k (s .tables) b) row [] d (tableOf k (s .tables) .count) (sym (count-rows k s b r));
+      rows = v;
+    }
+
+-- a command makes no entry of a kind: the kind's table and its buffer stay
+applied-elsewhere : (t : Tables) (b : Buffers) (c : Command) (k : Kind) (p : List ℕ) → rowsOf c k p ≡ [] → (tableOf k (applied t b c p) ≡ tableOf k t) × (bufferOf k (filledBy t b c p) ≡ bufferOf k b)
+applied-elsewhere t b (recipient m) recipients p h = (cc, cc)
+applied-elsewhere t b (recipient m) identities p h = (refl, refl)
+applied-elsewhere t b (recipient m) keys p h = (refl, refl)
+applied-elsewhere t b (recipient m) headers p h = (refl, refl)
+applied-elsewhere t b (identity m) recipients p h = (refl, refl)
+applied-elsewhere t b (identity m) identities p h = (cc, cc)
+applied-elsewhere t b (identity m) keys p h = (refl, refl)
+applied-elsewhere t b (identity m) headers p h = (refl, refl)
+applied-elsewhere t b key recipients p h = (refl, refl)
+applied-elsewhere t b key identities p h = (refl, refl)
+applied-elsewhere t b key keys p h = (cc, cc)
+applied-elsewhere t b key headers p h = (refl, refl)
+applied-elsewhere t b (header i m) recipients p h = (refl, refl)
+applied-elsewhere t b (header i m) identities p h = (refl, refl)
+applied-elsewhere t b (header i m) keys p h = (refl, refl)
+applied-elsewhere t b (header i m) headers p h = (cc, cc)
+applied-elsewhere t b done k p h = (refl, refl)
+applied-elsewhere t b other k p h = (refl, refl)
+applied-elsewhere t b (bad n) k p h = (refl, refl)
+
+-- for a kind whose row it does not make, nothing changes
+pub elsewhere : (s : Session) (b : Buffers) (c : Call) (k : Kind) → outcome s b c .number ≡ 0 → rowsOf (commandOf s c) k (payloadOf s c) ≡ [] →
+    (tableOf k (outcome s b c .session .tables) ≡ tableOf k (s .tables)) × (bufferOf k (outcome s b c .buffers) ≡ bufferOf k b)
+elsewhere s b c k z q =
+    let a = accepted s b c z in
+    let w = applied-elsewhere (s .tables) b (commandOf s c) k (payloadOf s c) q in
+    (ap (λ x. tableOf k (x .tables)) (a .session) ∙ w .0, ap (bufferOf k) (a .buffers) ∙ w .1)
+
+-- an ignored command changes no table, no buffer and not the phase
+pub ignored : (s : Session) (b : Buffers) (c : Call) → outcome s b c .number ≡ 0 → commandOf s c ≡ other → 
+    (outcome s b c .session ≡ s) × (outcome s b c .buffers ≡ b)
+ignored s b c z q =
+    let a = accepted s b c z in
+    (a .session ∙ ap (λ x. moved s (phaseAfter x) (applied (s .tables) b x (payloadOf s c))) q ∙ ap (λ p. moved s p (s .tables)) (sym (a .turn)), a .buffers ∙ ap (λ x. filledBy (s .tables) b x (payloadOf s c)) q)
