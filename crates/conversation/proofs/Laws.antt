@@ -1,4 +1,5 @@
 pub mod Accepted
+pub mod Agreement
 pub mod Reached
 pub mod Refusals
 pub mod Tables

@@ -53,7 +53,7 @@ read-number m w short h = number (ltb m 8192) h
 read-number m w (whole k) h = let z : _≡_ {A = ℕ} 0 1 = cc in omega arith
 
 -- a conditional whose result has the number 0: the branch that may have it
-branch : {X : Type 0} (P : X → Type 0) (number : X → ℕ) (f : Bool) (x y : X) →
+pub branch : {X : Type 0} (P : X → Type 0) (number : X → ℕ) (f : Bool) (x y : X) →
     (f ≡ true → number x ≡ 0 → P x) → (f ≡ false → number y ≡ 0 → ⊥) → number (pick f x y) ≡ 0 → P (pick f x y)
 branch P number true x y p q h = p refl h
 branch P number false x y p q h = absurd (q refl h)

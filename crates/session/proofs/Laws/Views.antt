@@ -68,11 +68,11 @@ applied-reached t b other p h r k = r k
 applied-reached t b (bad n) p h r k = r k
 
 -- a command that needs space and is accepted fits
-space : (f : Bool) → _≡_ {A = ℕ} (pick f 0 8) 0 → f ≡ true
+pub space : (f : Bool) → _≡_ {A = ℕ} (pick f 0 8) 0 → f ≡ true
 space true h = refl
 space false h = absurd (omega arith)
 
-header-space : (g f : Bool) → _≡_ {A = ℕ} (pick g 7 (pick f 0 8)) 0 → f ≡ true
+pub header-space : (g f : Bool) → _≡_ {A = ℕ} (pick g 7 (pick f 0 8)) 0 → f ≡ true
 header-space true f h = absurd (omega arith)
 header-space false f h = space f h
 

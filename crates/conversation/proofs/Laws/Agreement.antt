@@ -1,0 +1,133 @@
+-- Our two ends agree in phase one: what the client sends the plugin accepts, and their tables stay equal.
+use Prim.Native.Nat.{ℕ, _+_, _≤_}
+use mathlib.Core.Path.{_≡_, refl, sym, ap, ap₂, _∙_, subst}
+use mathlib.Core.Bool.{Bool, true, false, _&&_}
+use mathlib.Core.List.{List, [], _∷_, _++_}
+use lib.Dec.{eqb, leb, ltb}
+use lib.ListN.{length, take, drop, take-append-drop}
+use lib.Pow.{areBytes}
+use lib.Seq.{take-append-seam}
+use native.Mathlib.Omega.{arith}
+use borrow.Author.Tests.{eqb-true, eqb-false, eq-eqb, leb-true, le-leb, ltb-true}
+use Rattle.refusal.specs.Output.{Answer, bytes, refused, overflows, filled}
+use Rattle.refusal.specs.Pick.{pick}
+use Rattle.refusal.proofs.Laws.Booleans.{cases, and-true, true-and}
+use Rattle.base64.specs.Lines.{bodyOf}
+use Rattle.stanza.specs.Grammar.{stanzaText}
+use Rattle.stanza.specs.Reading.{stanza, readFirst}
+use Rattle.stanza.specs.Writing.{isWritable}
+use Rattle.stanza.proofs.Laws.RoundTrip.{read-written, read-arguments, read-body}
+use Rattle.tables.specs.Tables.{Table, fits, appended, entered}
+use Rattle.session.specs.Commands.{Command, recipient, identity, key, header, done, other, bad, Word, wordOf, lineSent}
+use Rattle.session.specs.PhaseOne.{Tables, Buffers, commandIn, payloadIn, falls, decided, applied, filledBy, firstOf, numberOne, tablesOne, buffersOne}
+use Rattle.session.specs.Phases.{turnOne}
+use Rattle.session.specs.Views.{Kind, recipients, identities, keys, headers, tableOf, bufferOf, viewOf, rowsOf}
+use Rattle.session.specs.declared.phases.Phase.the-variants.{One}
+use Rattle.session.proofs.Laws.PhaseOne.{accepted-one}
+use Rattle.session.proofs.Laws.Views.{Reached, applied-view, space, header-space}
+use Rattle.conversation.specs.Session.{Session, moved, phaseAfter}
+use Rattle.conversation.specs.Receiving.{heard, Received, refusedReceipt, receivedStanza, receivedAs, received}
+use Rattle.conversation.specs.Sending.{Sent, refusedSending, shortness, sentStanza, sentLine, sent}
+use Rattle.conversation.specs.Calls.{sentNumber, send}
+use Rattle.conversation.proofs.Laws.Accepted.{Applied, branch, accepted}
+
+-- the two ends' sessions, but for the screen
+pub record Alike (s s′ : Session) : Type 0 where
+  pub machine : s .machine ≡ s′ .machine
+  pub name : s .name ≡ s′ .name
+  pub phase : s .phase ≡ s′ .phase
+  pub tables : s .tables ≡ s′ .tables
+
+-- ---- the decision again, with other buffers that have the room
+
+-- one kind: what fitted at the one end fits at the other
+fits-again : (t : Table) (n index mark c c′ : ℕ) → fits t n c ≡ true → entered t n index mark c .used ≤ c′ → fits t n c′ ≡ fits t n c
+fits-again t n index mark c c′ f h =
+    let u : t .used + n ≤ c′ = subst (λ g. pick g (appended t n index mark) t .used ≤ c′) f h in
+    true-and (ltb (t .count) (t .width)) (leb (t .used + n) c′) (and-true (ltb (t .count) (t .width)) (leb (t .used + n) c) f .0) (le-leb (t .used + n) c′ u) ∙ sym f
+
+module _ (t : Tables) (b b′ : Buffers) (p : List ℕ) where
+  -- the room that a command needs at the other end
+  abbrev Room : Command → Type 0
+  Room c = (k : Kind) → tableOf k (applied t b c p) .used ≤ length (bufferOf k b′)
+
+  -- the same number, and the same tables
+  again : (c : Command) → decided t b c (length p) ≡ 0 → Room c → (decided t b′ c (length p) ≡ 0) × (applied t b′ c p ≡ applied t b c p)
+  again (recipient m) h r =
+      let e = fits-again (t .recipients) (length p) 0 m (length (b .recipients)) (length (b′ .recipients)) (space (fits (t .recipients) (length p) (length (b .recipients))) h) (r recipients) in
+      (ap (λ x. pick x 0 8) e ∙ h, rw e)
+  again (identity m) h r =
+      let e = fits-again (t .identities) (length p) 0 m (length (b .identities)) (length (b′ .identities)) (space (fits (t .identities) (length p) (length (b .identities))) h) (r identities) in
+      (ap (λ x. pick x 0 8) e ∙ h, rw e)
+  again key h r =
+      let e = fits-again (t .keys) (length p) 0 0 (length (b .keys)) (length (b′ .keys)) (space (fits (t .keys) (length p) (length (b .keys))) h) (r keys) in
+      (ap (λ x. pick x 0 8) e ∙ h, rw e)
+  again (header i m) h r =
+      let e = fits-again (t .headers) (length p) i m (length (b .headers)) (length (b′ .headers)) (header-space (falls (t .headers) i) (fits (t .headers) (length p) (length (b .headers))) h) (r headers) in
+      (ap (λ x. pick (falls (t .headers) i) 7 (pick x 0 8)) e ∙ h, rw e)
+  again done h r = (refl, refl)
+  again other h r = (refl, refl)
+  again (bad n) h r = (h, refl)
+
+-- ---- the client's side: what it wrote
+
+late-zero : (n late : ℕ) → firstOf n late ≡ 0 → late ≡ 0
+late-zero n late h = cases (eqb n 0) (λ e. sym (ap (λ f. pick f late n) e) ∙ h) (λ e. absurd (eqb-false n 0 e (sym (ap (λ f. pick f late n) e) ∙ h)))
+
+room-enough : (f : Bool) → _≡_ {A = ℕ} (pick f 15 0) 0 → f ≡ false
+room-enough true h = absurd (omega arith)
+room-enough false h = refl
+
+-- a stanza that can be written, at the front of the output buffer
+record Wrote (line body : List ℕ) (r : Sent) : Type 0 where
+  writable : isWritable line body ≡ true
+  answer : r .answer ≡ bytes (length (stanzaText line body))
+  output : take (length (stanzaText line body)) (r .output) ≡ stanzaText line body
+
+module _ (s : Session) (b : Buffers) where
+  line-wrote : (line body out : List ℕ) → sentNumber (sentLine s b line body out .answer) ≡ 0 → Wrote line body (sentLine s b line body out)
+  unfolding sentStanza
+  line-wrote line body out =
+      let late = shortness (stanzaText line body) out in
+      let d = decided (s .tables) b (commandIn (s .machine) (s .name) line body) (length (payloadIn (s .machine) (s .name) line body)) in
+      branch (Wrote line body) (λ r. sentNumber (r .answer)) (isWritable line body) _ _
+      (λ w. branch (Wrote line body) (λ r. sentNumber (r .answer)) (eqb (firstOf d late) 0) _ _
+      (λ f h. let e = room-enough (overflows (stanzaText line body) out) (late-zero d late (eqb-true (firstOf d late) 0 f)) in
+      record {
+        writable = w;
+        answer = refl;
+        output = ap (λ x. take (length (stanzaText line body)) (pick x out (stanzaText line body ++ drop (length (stanzaText line body)) out))) e ∙ take-append-seam (stanzaText line body) (drop (length (stanzaText line body)) out);
+      })
+      (λ f. eqb-false (firstOf d late) 0 f))
+      (λ w h. omega arith)
+
+  sent-wrote : (word : Word) (arguments body out : List ℕ) → sentNumber (sent s word arguments body b out .answer) ≡ 0 → Wrote (lineSent word arguments) body (sent s word arguments body b out)
+  unfolding sent
+  sent-wrote word arguments body out =
+      branch (Wrote (lineSent word arguments) body) (λ r. sentNumber (r .answer)) (eqb (turnOne (s .phase)) 0) _ _ (λ f. line-wrote (lineSent word arguments) body out) (λ f. eqb-false (turnOne (s .phase)) 0 f)
+
+-- ---- the plugin's side: what it reads
+
+module _ (s : Session) (b : Buffers) (line body : List ℕ) where
+  text-received : (rest : List ℕ) → s .phase ≡ One → isWritable line body ≡ true → areBytes body ≡ true →
+      received s (stanzaText line body ++ rest) b ≡ receivedStanza s b line body (length (stanzaText line body))
+  unfolding received
+  text-received rest o w a =
+      let text = stanzaText line body ++ rest in
+      ap (λ p. pick (eqb (turnOne p) 0) (receivedAs (readFirst text) s text b) (refusedReceipt (turnOne p) s b)) o ∙ ap (λ r. receivedAs r s text b) (read-written line body rest a w)
+      ∙ ap₂ (λ l y. receivedStanza s b l y (length (stanzaText line body))) (read-arguments line body rest) (read-body line body rest a)
+
+  -- a stanza in which the decision finds no fault
+  stanza-heard : (k : ℕ) → decided (s .tables) b (commandIn (s .machine) (s .name) line body) (length (payloadIn (s .machine) (s .name) line body)) ≡ 0 →
+      receivedStanza s b line body k ≡
+      record {
+        answer = heard (wordOf (commandIn (s .machine) (s .name) line body)) k;
+        session = moved s (phaseAfter (commandIn (s .machine) (s .name) line body)) (applied (s .tables) b (commandIn (s .machine) (s .name) line body) (payloadIn (s .machine) (s .name) line body));
+        buffers = filledBy (s .tables) b (commandIn (s .machine) (s .name) line body) (payloadIn (s .machine) (s .name) line body);
+      }
+  unfolding receivedStanza
+  stanza-heard k h = 
+      let c = commandIn (s .machine) (s .name) line body in
+      let p = payloadIn (s .machine) (s .name) line body in
+      let n = numberOne (s .machine) (s .name) (s .tables) b 0 line body in
+      ap (λ f. pick f (record { answer = heard (wordOf c) k; session = moved s (phaseAfter c) (pick f (applied (s .tables) b c p) (s .tables)); buffers = pick f (filledBy (s .tables) b c p) b }) (refusedReceipt n s b)) (eq-eqb n 0 (ap (λ d. firstOf d 0) h))
