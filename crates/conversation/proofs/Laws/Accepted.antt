@@ -1,8 +1,8 @@
 -- What an accepted call does, at either end: it is phase one, its arguments' text is a line, the decision finds no fault, and the command is applied.
 use Prim.Native.Nat.{ℕ}
-use mathlib.Core.Path.{_≡_, refl, sym, ap, _∙_}
+use mathlib.Core.Path.{_≡_, refl, sym, ap, ap₂, _∙_}
 use mathlib.Core.Bool.{Bool, true, false}
-use mathlib.Core.List.{List}
+use mathlib.Core.List.{List, _++_}
 use lib.Dec.{eqb, leb, ltb}
 use lib.ListN.{length, take}
 use native.Mathlib.Omega.{arith}
@@ -18,10 +18,11 @@ use Rattle.stanza.proofs.Laws.RoundTrip.{written-read}
 use Rattle.session.specs.Commands.{Word, lineSent}
 use Rattle.session.specs.PhaseOne.{Buffers, commandIn, payloadIn, decided, applied, filledBy, firstOf, numberOne, tablesOne, buffersOne}
 use Rattle.session.specs.Phases.{turnOne}
+use Rattle.session.specs.Views.{Kind, viewOf, rowsOf}
 use Rattle.session.specs.declared.phases.Phase.{Phase}
 use Rattle.session.specs.declared.phases.Phase.the-variants.{One, Two, Ended, Closed}
 use Rattle.session.proofs.Laws.PhaseOne.{accepted-one}
-use Rattle.session.proofs.Laws.Views.{first-zero}
+use Rattle.session.proofs.Laws.Views.{Reached, applied-view, first-zero}
 use Rattle.conversation.specs.Session.{Session, moved, phaseAfter}
 use Rattle.conversation.specs.Receiving.{Received, refusedReceipt, receivedStanza, receivedAs, received}
 use Rattle.conversation.specs.Sending.{Sent, refusedSending, shortness, sentStanza, sentLine, sent}
@@ -52,6 +53,12 @@ read-number m w short h = number (ltb m 8192) h
     number false h = let z : _≡_ {A = ℕ} 0 3 = cc in omega arith
 read-number m w (whole k) h = let z : _≡_ {A = ℕ} 0 1 = cc in omega arith
 
+-- the rows that it adds to a kind's table
+pub applied-rows : (s : Session) (b : Buffers) (line body : List ℕ) (after : Session) (buffers-after : Buffers) → Applied s b line body after buffers-after → Reached (s .tables) → (k : Kind) →
+    viewOf k (after .tables) buffers-after ≡ viewOf k (s .tables) b ++ rowsOf (commandIn (s .machine) (s .name) line body) k (payloadIn (s .machine) (s .name) line body)
+applied-rows s b line body after buffers-after a r k =
+    ap₂ (viewOf k) (ap (λ x. x .tables) (a .session)) (a .buffers) ∙ applied-view (s .tables) b (payloadIn (s .machine) (s .name) line body) r (commandIn (s .machine) (s .name) line body) (a .fault) k
+
 -- a conditional whose result has the number 0: the branch that may have it
 pub branch : {X : Type 0} (P : X → Type 0) (number : X → ℕ) (f : Bool) (x y : X) →
     (f ≡ true → number x ≡ 0 → P x) → (f ≡ false → number y ≡ 0 → ⊥) → number (pick f x y) ≡ 0 → P (pick f x y)
@@ -60,7 +67,7 @@ branch P number false x y p q h = absurd (q refl h)
 
 module _ (s : Session) (b : Buffers) where
   -- what one command's tables and buffers are, where its number is 0; `late` as in `numberOne`
-  one-applied : (late : ℕ) (line body : List ℕ) → s .phase ≡ One → isLine line ≡ true → eqb (numberOne (s .machine) (s .name) (s .tables) b late line body) 0 ≡ true →
+  pub one-applied : (late : ℕ) (line body : List ℕ) → s .phase ≡ One → isLine line ≡ true → eqb (numberOne (s .machine) (s .name) (s .tables) b late line body) 0 ≡ true →
       Applied s b line body (moved s (phaseAfter (commandIn (s .machine) (s .name) line body)) (tablesOne (s .machine) (s .name) (s .tables) b late line body)) (buffersOne (s .machine) (s .name) (s .tables) b late line body)
   one-applied late line body o a h =
       let z = eqb-true (numberOne (s .machine) (s .name) (s .tables) b late line body) 0 h in

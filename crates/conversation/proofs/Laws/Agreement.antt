@@ -13,6 +13,7 @@ use Rattle.refusal.specs.Output.{Answer, bytes, refused, overflows, filled}
 use Rattle.refusal.specs.Pick.{pick}
 use Rattle.refusal.proofs.Laws.Booleans.{cases, and-true, true-and}
 use Rattle.base64.specs.Lines.{bodyOf}
+use Rattle.stanza.specs.Arguments.{isLine}
 use Rattle.stanza.specs.Grammar.{stanzaText}
 use Rattle.stanza.specs.Reading.{stanza, readFirst}
 use Rattle.stanza.specs.Writing.{isWritable}
@@ -29,7 +30,7 @@ use Rattle.conversation.specs.Session.{Session, moved, phaseAfter}
 use Rattle.conversation.specs.Receiving.{heard, Received, refusedReceipt, receivedStanza, receivedAs, received}
 use Rattle.conversation.specs.Sending.{Sent, refusedSending, shortness, sentStanza, sentLine, sent}
 use Rattle.conversation.specs.Calls.{sentNumber, send}
-use Rattle.conversation.proofs.Laws.Accepted.{Applied, branch, accepted}
+use Rattle.conversation.proofs.Laws.Accepted.{Applied, applied-rows, branch, one-applied, accepted}
 
 -- the two ends' sessions, but for the screen
 pub record Alike (s s′ : Session) : Type 0 where
@@ -117,17 +118,74 @@ module _ (s : Session) (b : Buffers) (line body : List ℕ) where
       ap (λ p. pick (eqb (turnOne p) 0) (receivedAs (readFirst text) s text b) (refusedReceipt (turnOne p) s b)) o ∙ ap (λ r. receivedAs r s text b) (read-written line body rest a w)
       ∙ ap₂ (λ l y. receivedStanza s b l y (length (stanzaText line body))) (read-arguments line body rest) (read-body line body rest a)
 
+  -- accepted, and its command applied
+  abbrev HeardAs : ℕ → Received → Type 0
+  HeardAs k r = (r .answer ≡ heard (wordOf (commandIn (s .machine) (s .name) line body)) k) × Applied s b line body (r .session) (r .buffers)
+
   -- a stanza in which the decision finds no fault
-  stanza-heard : (k : ℕ) → decided (s .tables) b (commandIn (s .machine) (s .name) line body) (length (payloadIn (s .machine) (s .name) line body)) ≡ 0 →
-      receivedStanza s b line body k ≡
-      record {
-        answer = heard (wordOf (commandIn (s .machine) (s .name) line body)) k;
-        session = moved s (phaseAfter (commandIn (s .machine) (s .name) line body)) (applied (s .tables) b (commandIn (s .machine) (s .name) line body) (payloadIn (s .machine) (s .name) line body));
-        buffers = filledBy (s .tables) b (commandIn (s .machine) (s .name) line body) (payloadIn (s .machine) (s .name) line body);
-      }
+  stanza-heard : (k : ℕ) → s .phase ≡ One → isLine line ≡ true → decided (s .tables) b (commandIn (s .machine) (s .name) line body) (length (payloadIn (s .machine) (s .name) line body)) ≡ 0 →
+      HeardAs k (receivedStanza s b line body k)
   unfolding receivedStanza
-  stanza-heard k h = 
-      let c = commandIn (s .machine) (s .name) line body in
-      let p = payloadIn (s .machine) (s .name) line body in
+  stanza-heard k o l h =
       let n = numberOne (s .machine) (s .name) (s .tables) b 0 line body in
-      ap (λ f. pick f (record { answer = heard (wordOf c) k; session = moved s (phaseAfter c) (pick f (applied (s .tables) b c p) (s .tables)); buffers = pick f (filledBy (s .tables) b c p) b }) (refusedReceipt n s b)) (eq-eqb n 0 (ap (λ d. firstOf d 0) h))
+      let f = eq-eqb n 0 (ap (λ d. firstOf d 0) h) in
+      chosen (HeardAs k) (eqb n 0) _ _ f (refl, one-applied s b 0 line body o l f)
+    where
+      chosen : {X : Type 0} (P : X → Type 0) (f : Bool) (x y : X) → f ≡ true → P x → P (pick f x y)
+      chosen P f x y e p = subst (λ g. P (pick g x y)) (sym e) p
+
+-- ---- both
+
+-- a sending r of a stanza with this arguments' text and this body, from s, and the receipt r′ of a text of which its n bytes are the beginning, from s′: r′ is
+-- accepted, the sessions are alike again, and views that were equal are equal again
+pub record Agreed (s s′ : Session) (b b′ : Buffers) (line body : List ℕ) (n : ℕ) (r : Sent) (r′ : Received) : Type 0 where
+  pub written : take n (r .output) ≡ stanzaText line body
+  pub answer : r′ .answer ≡ heard (wordOf (commandIn (s .machine) (s .name) line body)) n
+  pub alike : Alike (r .session) (r′ .session)
+  pub views : Reached (s .tables) → ((k : Kind) → viewOf k (s .tables) b ≡ viewOf k (s′ .tables) b′) → (k : Kind) → viewOf k (r .session .tables) (r .buffers) ≡ viewOf k (r′ .session .tables) (r′ .buffers)
+
+-- the plugin's session is the client's with a screen of its own
+alike-is : (s s′ : Session) → Alike s s′ → _≡_ {A = Session} (record { machine = s .machine; name = s .name; screen = s′ .screen; phase = s .phase; tables = s .tables }) s′
+alike-is s s′ a = rw (a .machine, a .name, a .phase, a .tables)
+
+module _ (s : Session) (b b′ : Buffers) (line body : List ℕ) (n : ℕ) (r : Sent) where
+  agreed-like : (screen : Bool) (rest : List ℕ) → areBytes body ≡ true → Applied s b line body (r .session) (r .buffers) → Wrote line body r → r .answer ≡ bytes n →
+      ((k : Kind) → tableOf k (r .session .tables) .used ≤ length (bufferOf k b′)) →
+      let s′ : Session = record { machine = s .machine; name = s .name; screen = screen; phase = s .phase; tables = s .tables } in
+      Agreed s s′ b b′ line body n r (received s′ (stanzaText line body ++ rest) b′)
+  agreed-like screen rest a p w q room =
+      let s′ : Session = record { machine = s .machine; name = s .name; screen = screen; phase = s .phase; tables = s .tables } in
+      let r′ : Received = received s′ (stanzaText line body ++ rest) b′ in
+      let m : n ≡ length (stanzaText line body) = cc (w .answer) in
+      let g = again (s .tables) b b′ (payloadIn (s .machine) (s .name) line body) (commandIn (s .machine) (s .name) line body) (p .fault) (λ k. subst (λ x. tableOf k (x .tables) .used ≤ length (bufferOf k b′)) (p .session) (room k)) in
+      let h : HeardAs s′ b′ line body (length (stanzaText line body)) r′ =
+      subst (HeardAs s′ b′ line body (length (stanzaText line body))) (sym (text-received s′ b′ line body rest (p .turn) (w .writable) a)) (stanza-heard s′ b′ line body (length (stanzaText line body)) (p .turn) (p .argued) (g .0)) in
+      let p′ = h .1 in
+      record {
+        written = ap (λ k. take k (r .output)) m ∙ w .output;
+        answer = h .0 ∙ ap (heard (wordOf (commandIn (s .machine) (s .name) line body))) (sym m);
+        alike = record {
+          machine = ap (λ x. x .machine) (p .session) ∙ sym (ap (λ x. x .machine) (p′ .session));
+          name = ap (λ x. x .name) (p .session) ∙ sym (ap (λ x. x .name) (p′ .session));
+          phase = ap (λ x. x .phase) (p .session) ∙ sym (ap (λ x. x .phase) (p′ .session));
+          tables = ap (λ x. x .tables) (p .session) ∙ sym (g .1) ∙ sym (ap (λ x. x .tables) (p′ .session));
+        };
+        views = λ j v k.
+            applied-rows s b line body (r .session) (r .buffers) p j k ∙ ap (λ l. l ++ rowsOf (commandIn (s .machine) (s .name) line body) k (payloadIn (s .machine) (s .name) line body)) (v k)
+            ∙ sym (applied-rows s′ b′ line body (r′ .session) (r′ .buffers) p′ j k);
+      }
+
+-- what the client sends the plugin accepts, at the front of any text, where each of its buffers has the room that the client's table takes
+pub agreement : (s s′ : Session) (b b′ : Buffers) (word : Word) (arguments body out text : List ℕ) (n : ℕ) → Alike s s′ → areBytes body ≡ true →
+    sent s word arguments body b out .answer ≡ bytes n →
+    take n text ≡ take n (sent s word arguments body b out .output) →
+    ((k : Kind) → tableOf k (sent s word arguments body b out .session .tables) .used ≤ length (bufferOf k b′)) →
+    Agreed s s′ b b′ (lineSent word arguments) body n (sent s word arguments body b out) (received s′ text b′)
+agreement s s′ b b′ word arguments body out text n a y q e room =
+    let r = sent s word arguments body b out in
+    let line = lineSent word arguments in
+    let z : sentNumber (r .answer) ≡ 0 = ap sentNumber q in
+    let w = sent-wrote s b word arguments body out z in
+    let g = agreed-like s b b′ line body n r (s′ .screen) (drop n text) y (accepted s b (send word arguments body out) z) w q room in
+    let f : stanzaText line body ++ drop n text ≡ text = ap (λ x. x ++ drop n text) (sym (e ∙ g .written)) ∙ take-append-drop n text in
+    subst (λ x. Agreed s s′ b b′ line body n r (received s′ x b′)) f (subst (λ x. Agreed s x b b′ line body n r (received x (stanzaText line body ++ drop n text) b′)) (alike-is s s′ a) g)

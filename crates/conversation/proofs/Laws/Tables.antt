@@ -18,11 +18,11 @@ use Rattle.session.specs.PhaseOne.{Tables, Buffers, openedTables, applied, fill
 use Rattle.session.specs.Views.{Kind, recipients, identities, keys, headers, tableOf, bufferOf, viewOf, rowsOf}
 use Rattle.session.specs.declared.commands.Machine.{Machine}
 use Rattle.session.specs.declared.phases.Phase.the-variants.{One}
-use Rattle.session.proofs.Laws.Views.{Reached, applied-view}
+use Rattle.session.proofs.Laws.Views.{Reached}
 use Rattle.bech32.specs.Text.{isName}
 use Rattle.conversation.specs.Session.{Session, moved, phaseAfter, openedSession, refusedOpening, openedAs, opened}
-use Rattle.conversation.specs.Calls.{Call, outcome, after, commandOf, payloadOf, acceptedRows}
-use Rattle.conversation.proofs.Laws.Accepted.{accepted}
+use Rattle.conversation.specs.Calls.{Call, outcome, after, lineIn, bodyIn, commandOf, payloadOf, acceptedRows}
+use Rattle.conversation.proofs.Laws.Accepted.{applied-rows, accepted}
 use Rattle.conversation.proofs.Laws.Reached.{ReachedSession, opening-reached, call-reached, after-reached}
 use Rattle.conversation.proofs.Laws.Refusals.{refusal}
 
@@ -33,12 +33,11 @@ module _ (s : Session) (b : Buffers) (c : Call) (r : ReachedSession s) where
   pub call-view : (k : Kind) → viewOf k (outcome s b c .session .tables) (outcome s b c .buffers) ≡ viewOf k (s .tables) b ++ pick (eqb (outcome s b c .number) 0) (rowsOf (commandOf s c) k (payloadOf s c)) []
   call-view k =
       cases (eqb (outcome s b c .number) 0)
-      (λ f. let a = accepted s b c (eqb-true (outcome s b c .number) 0 f) in
-      ap₂ (viewOf k) (ap (λ x. x .tables) (a .session)) (a .buffers) ∙ applied-view (s .tables) b (payloadOf s c) (r .tables) (commandOf s c) (a .fault) k
+      (λ f.
+      applied-rows s b (lineIn c) (bodyIn c) (outcome s b c .session) (outcome s b c .buffers) (accepted s b c (eqb-true (outcome s b c .number) 0 f)) (r .tables) k
       ∙ ap (λ x. viewOf k (s .tables) b ++ pick x (rowsOf (commandOf s c) k (payloadOf s c)) []) (sym f))
       (λ f. let w = refusal s b c (eqb-false (outcome s b c .number) 0 f) in
-      ap₂ (viewOf k) (w .tables) (w .buffers) ∙ sym (append-nil (viewOf k (s .tables) b))
-      ∙ ap (λ x. viewOf k (s .tables) b ++ pick x (rowsOf (commandOf s c) k (payloadOf s c)) []) (sym f))
+      ap₂ (viewOf k) (w .tables) (w .buffers) ∙ sym (append-nil (viewOf k (s .tables) b)) ∙ ap (λ x. viewOf k (s .tables) b ++ pick x (rowsOf (commandOf s c) k (payloadOf s c)) []) (sym f))
 
 -- ---- lists of calls
 
