@@ -8,7 +8,7 @@ use lib.ListN.{length, take}
 use native.Mathlib.Omega.{arith}
 use borrow.Author.Tests.{eqb-true, eqb-false}
 use Rattle.refusal.specs.Pick.{pick}
-use Rattle.refusal.proofs.Laws.Booleans.{cases, and-true}
+use Rattle.refusal.proofs.Laws.Booleans.{and-true}
 use Rattle.stanza.specs.Arguments.{isLine}
 use Rattle.stanza.specs.Automaton.{Scan, bad, short, whole, scan, start}
 use Rattle.stanza.specs.Grammar.{stanzaText}
@@ -16,7 +16,7 @@ use Rattle.stanza.specs.Reading.{Reading, stanza, refused, found, readFirst}
 use Rattle.stanza.specs.Writing.{isWritable}
 use Rattle.stanza.proofs.Laws.RoundTrip.{written-read}
 use Rattle.session.specs.Commands.{Word, lineSent}
-use Rattle.session.specs.PhaseOne.{Buffers, commandIn, payloadIn, decided, applied, filledBy, firstOf, numberOne, tablesOne, buffersOne}
+use Rattle.session.specs.PhaseOne.{Buffers, commandIn, payloadIn, decided, applied, filledBy, numberOne, tablesOne, buffersOne}
 use Rattle.session.specs.Phases.{turnOne}
 use Rattle.session.specs.Views.{Kind, viewOf, rowsOf}
 use Rattle.session.specs.declared.phases.Phase.{Phase}
@@ -24,15 +24,15 @@ use Rattle.session.specs.declared.phases.Phase.the-variants.{One, Two, Ended, C
 use Rattle.session.proofs.Laws.PhaseOne.{accepted-one}
 use Rattle.session.proofs.Laws.Views.{Reached, applied-view, first-zero}
 use Rattle.conversation.specs.Session.{Session, moved, phaseAfter}
-use Rattle.conversation.specs.Receiving.{Received, refusedReceipt, receivedStanza, receivedAs, received}
-use Rattle.conversation.specs.Sending.{Sent, refusedSending, shortness, sentStanza, sentLine, sent}
+use Rattle.conversation.specs.Receiving.{Received, receivedStanza, receivedAs, received}
+use Rattle.conversation.specs.Sending.{Sent, shortness, sentStanza, sentLine, sent}
 use Rattle.conversation.specs.Calls.{Call, receive, send, heardNumber, sentNumber, outcome, lineIn, bodyIn, lineRead, bodyRead}
 
 -- one command applied, by its arguments' text and its body: the session and the buffers behind it
 pub record Applied (s : Session) (b : Buffers) (line body : List ℕ) (after : Session) (buffers-after : Buffers) : Type 0 where
   pub turn : s .phase ≡ One
   pub argued : isLine line ≡ true
-  pub fault : decided (s .tables) b (commandIn (s .machine) (s .name) line body) (length (payloadIn (s .machine) (s .name) line body)) ≡ 0
+  pub faultless : decided (s .tables) b (commandIn (s .machine) (s .name) line body) (length (payloadIn (s .machine) (s .name) line body)) ≡ 0
   pub session : after ≡ moved s (phaseAfter (commandIn (s .machine) (s .name) line body)) (applied (s .tables) b (commandIn (s .machine) (s .name) line body) (payloadIn (s .machine) (s .name) line body))
   pub buffers : buffers-after ≡ filledBy (s .tables) b (commandIn (s .machine) (s .name) line body) (payloadIn (s .machine) (s .name) line body)
 
@@ -57,7 +57,7 @@ read-number m w (whole k) h = let z : _≡_ {A = ℕ} 0 1 = cc in omega arith
 pub applied-rows : (s : Session) (b : Buffers) (line body : List ℕ) (after : Session) (buffers-after : Buffers) → Applied s b line body after buffers-after → Reached (s .tables) → (k : Kind) →
     viewOf k (after .tables) buffers-after ≡ viewOf k (s .tables) b ++ rowsOf (commandIn (s .machine) (s .name) line body) k (payloadIn (s .machine) (s .name) line body)
 applied-rows s b line body after buffers-after a r k =
-    ap₂ (viewOf k) (ap (λ x. x .tables) (a .session)) (a .buffers) ∙ applied-view (s .tables) b (payloadIn (s .machine) (s .name) line body) r (commandIn (s .machine) (s .name) line body) (a .fault) k
+    ap₂ (viewOf k) (ap (λ x. x .tables) (a .session)) (a .buffers) ∙ applied-view (s .tables) b (payloadIn (s .machine) (s .name) line body) r (commandIn (s .machine) (s .name) line body) (a .faultless) k
 
 -- a conditional whose result has the number 0: the branch that may have it
 pub branch : {X : Type 0} (P : X → Type 0) (number : X → ℕ) (f : Bool) (x y : X) →
@@ -76,7 +76,7 @@ module _ (s : Session) (b : Buffers) where
       record {
         turn = o;
         argued = a;
-        fault = first-zero (decided (s .tables) b c (length (payloadIn (s .machine) (s .name) line body))) late z;
+        faultless = first-zero (decided (s .tables) b c (length (payloadIn (s .machine) (s .name) line body))) late z;
         session = ap (moved s (phaseAfter c)) (sym (w .0));
         buffers = sym (w .1);
       }

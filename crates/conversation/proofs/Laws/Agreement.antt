@@ -1,34 +1,32 @@
 -- Our two ends agree in phase one: what the client sends the plugin accepts, and their tables stay equal.
 use Prim.Native.Nat.{ℕ, _+_, _≤_}
 use mathlib.Core.Path.{_≡_, refl, sym, ap, ap₂, _∙_, subst}
-use mathlib.Core.Bool.{Bool, true, false, _&&_}
-use mathlib.Core.List.{List, [], _∷_, _++_}
+use mathlib.Core.Bool.{Bool, true, false}
+use mathlib.Core.List.{List, _++_}
 use lib.Dec.{eqb, leb, ltb}
 use lib.ListN.{length, take, drop, take-append-drop}
 use lib.Pow.{areBytes}
 use lib.Seq.{take-append-seam}
 use native.Mathlib.Omega.{arith}
-use borrow.Author.Tests.{eqb-true, eqb-false, eq-eqb, leb-true, le-leb, ltb-true}
-use Rattle.refusal.specs.Output.{Answer, bytes, refused, overflows, filled}
+use borrow.Author.Tests.{eqb-true, eqb-false, eq-eqb, le-leb}
+use Rattle.refusal.specs.Output.{bytes, overflows}
 use Rattle.refusal.specs.Pick.{pick}
 use Rattle.refusal.proofs.Laws.Booleans.{cases, and-true, true-and}
-use Rattle.base64.specs.Lines.{bodyOf}
 use Rattle.stanza.specs.Arguments.{isLine}
 use Rattle.stanza.specs.Grammar.{stanzaText}
-use Rattle.stanza.specs.Reading.{stanza, readFirst}
+use Rattle.stanza.specs.Reading.{readFirst}
 use Rattle.stanza.specs.Writing.{isWritable}
 use Rattle.stanza.proofs.Laws.RoundTrip.{read-written, read-arguments, read-body}
 use Rattle.tables.specs.Tables.{Table, fits, appended, entered}
 use Rattle.session.specs.Commands.{Command, recipient, identity, key, header, done, other, bad, Word, wordOf, lineSent}
-use Rattle.session.specs.PhaseOne.{Tables, Buffers, commandIn, payloadIn, falls, decided, applied, filledBy, firstOf, numberOne, tablesOne, buffersOne}
+use Rattle.session.specs.PhaseOne.{Tables, Buffers, commandIn, payloadIn, falls, decided, applied, firstOf, numberOne}
 use Rattle.session.specs.Phases.{turnOne}
 use Rattle.session.specs.Views.{Kind, recipients, identities, keys, headers, tableOf, bufferOf, viewOf, rowsOf}
 use Rattle.session.specs.declared.phases.Phase.the-variants.{One}
-use Rattle.session.proofs.Laws.PhaseOne.{accepted-one}
-use Rattle.session.proofs.Laws.Views.{Reached, applied-view, space, header-space}
-use Rattle.conversation.specs.Session.{Session, moved, phaseAfter}
+use Rattle.session.proofs.Laws.Views.{Reached, space, header-space}
+use Rattle.conversation.specs.Session.{Session}
 use Rattle.conversation.specs.Receiving.{heard, Received, refusedReceipt, receivedStanza, receivedAs, received}
-use Rattle.conversation.specs.Sending.{Sent, refusedSending, shortness, sentStanza, sentLine, sent}
+use Rattle.conversation.specs.Sending.{Sent, shortness, sentStanza, sentLine, sent}
 use Rattle.conversation.specs.Calls.{sentNumber, send}
 use Rattle.conversation.proofs.Laws.Accepted.{Applied, applied-rows, branch, one-applied, accepted}
 
@@ -39,7 +37,7 @@ pub record Alike (s s′ : Session) : Type 0 where
   pub phase : s .phase ≡ s′ .phase
   pub tables : s .tables ≡ s′ .tables
 
--- ---- the decision again, with other buffers that have the room
+-- ---- the decision again, with other buffers that are long enough
 
 -- one kind: what fitted at the one end fits at the other
 fits-again : (t : Table) (n index mark c c′ : ℕ) → fits t n c ≡ true → entered t n index mark c .used ≤ c′ → fits t n c′ ≡ fits t n c
@@ -48,12 +46,12 @@ fits-again t n index mark c c′ f h =
     true-and (ltb (t .count) (t .width)) (leb (t .used + n) c′) (and-true (ltb (t .count) (t .width)) (leb (t .used + n) c) f .0) (le-leb (t .used + n) c′ u) ∙ sym f
 
 module _ (t : Tables) (b b′ : Buffers) (p : List ℕ) where
-  -- the room that a command needs at the other end
-  abbrev Room : Command → Type 0
-  Room c = (k : Kind) → tableOf k (applied t b c p) .used ≤ length (bufferOf k b′)
+  -- the other end's buffers are long enough for what the tables then take
+  abbrev Enough : Command → Type 0
+  Enough c = (k : Kind) → tableOf k (applied t b c p) .used ≤ length (bufferOf k b′)
 
   -- the same number, and the same tables
-  again : (c : Command) → decided t b c (length p) ≡ 0 → Room c → (decided t b′ c (length p) ≡ 0) × (applied t b′ c p ≡ applied t b c p)
+  again : (c : Command) → decided t b c (length p) ≡ 0 → Enough c → (decided t b′ c (length p) ≡ 0) × (applied t b′ c p ≡ applied t b c p)
   again (recipient m) h r =
       let e = fits-again (t .recipients) (length p) 0 m (length (b .recipients)) (length (b′ .recipients)) (space (fits (t .recipients) (length p) (length (b .recipients))) h) (r recipients) in
       (ap (λ x. pick x 0 8) e ∙ h, rw e)
@@ -75,9 +73,9 @@ module _ (t : Tables) (b b′ : Buffers) (p : List ℕ) where
 late-zero : (n late : ℕ) → firstOf n late ≡ 0 → late ≡ 0
 late-zero n late h = cases (eqb n 0) (λ e. sym (ap (λ f. pick f late n) e) ∙ h) (λ e. absurd (eqb-false n 0 e (sym (ap (λ f. pick f late n) e) ∙ h)))
 
-room-enough : (f : Bool) → _≡_ {A = ℕ} (pick f 15 0) 0 → f ≡ false
-room-enough true h = absurd (omega arith)
-room-enough false h = refl
+not-short : (f : Bool) → _≡_ {A = ℕ} (pick f 15 0) 0 → f ≡ false
+not-short true h = absurd (omega arith)
+not-short false h = refl
 
 -- a stanza that can be written, at the front of the output buffer
 record Wrote (line body : List ℕ) (r : Sent) : Type 0 where
@@ -93,7 +91,7 @@ module _ (s : Session) (b : Buffers) where
       let d = decided (s .tables) b (commandIn (s .machine) (s .name) line body) (length (payloadIn (s .machine) (s .name) line body)) in
       branch (Wrote line body) (λ r. sentNumber (r .answer)) (isWritable line body) _ _
       (λ w. branch (Wrote line body) (λ r. sentNumber (r .answer)) (eqb (firstOf d late) 0) _ _
-      (λ f h. let e = room-enough (overflows (stanzaText line body) out) (late-zero d late (eqb-true (firstOf d late) 0 f)) in
+      (λ f h. let e = not-short (overflows (stanzaText line body) out) (late-zero d late (eqb-true (firstOf d late) 0 f)) in
       record {
         writable = w;
         answer = refl;
@@ -136,8 +134,8 @@ module _ (s : Session) (b : Buffers) (line body : List ℕ) where
 
 -- ---- both
 
--- a sending r of a stanza with this arguments' text and this body, from s, and the receipt r′ of a text of which its n bytes are the beginning, from s′: r′ is
--- accepted, the sessions are alike again, and views that were equal are equal again
+-- a sending r by the client's session s, and a receipt r′ by the plugin's s′: n bytes are written, the stanza's text; all of them are taken, as the same
+-- command; the sessions are alike again, and views that were equal are equal again
 pub record Agreed (s s′ : Session) (b b′ : Buffers) (line body : List ℕ) (n : ℕ) (r : Sent) (r′ : Received) : Type 0 where
   pub written : take n (r .output) ≡ stanzaText line body
   pub answer : r′ .answer ≡ heard (wordOf (commandIn (s .machine) (s .name) line body)) n
@@ -153,11 +151,11 @@ module _ (s : Session) (b b′ : Buffers) (line body : List ℕ) (n : ℕ) (r : 
       ((k : Kind) → tableOf k (r .session .tables) .used ≤ length (bufferOf k b′)) →
       let s′ : Session = record { machine = s .machine; name = s .name; screen = screen; phase = s .phase; tables = s .tables } in
       Agreed s s′ b b′ line body n r (received s′ (stanzaText line body ++ rest) b′)
-  agreed-like screen rest a p w q room =
+  agreed-like screen rest a p w q l =
       let s′ : Session = record { machine = s .machine; name = s .name; screen = screen; phase = s .phase; tables = s .tables } in
       let r′ : Received = received s′ (stanzaText line body ++ rest) b′ in
       let m : n ≡ length (stanzaText line body) = cc (w .answer) in
-      let g = again (s .tables) b b′ (payloadIn (s .machine) (s .name) line body) (commandIn (s .machine) (s .name) line body) (p .fault) (λ k. subst (λ x. tableOf k (x .tables) .used ≤ length (bufferOf k b′)) (p .session) (room k)) in
+      let g = again (s .tables) b b′ (payloadIn (s .machine) (s .name) line body) (commandIn (s .machine) (s .name) line body) (p .faultless) (λ k. subst (λ x. tableOf k (x .tables) .used ≤ length (bufferOf k b′)) (p .session) (l k)) in
       let h : HeardAs s′ b′ line body (length (stanzaText line body)) r′ =
       subst (HeardAs s′ b′ line body (length (stanzaText line body))) (sym (text-received s′ b′ line body rest (p .turn) (w .writable) a)) (stanza-heard s′ b′ line body (length (stanzaText line body)) (p .turn) (p .argued) (g .0)) in
       let p′ = h .1 in
@@ -175,17 +173,17 @@ module _ (s : Session) (b b′ : Buffers) (line body : List ℕ) (n : ℕ) (r : 
             ∙ sym (applied-rows s′ b′ line body (r′ .session) (r′ .buffers) p′ j k);
       }
 
--- what the client sends the plugin accepts, at the front of any text, where each of its buffers has the room that the client's table takes
+-- what the client sends the plugin accepts, at the front of any text that begins with it, where each of its buffers is long enough for what the client's table takes
 pub agreement : (s s′ : Session) (b b′ : Buffers) (word : Word) (arguments body out text : List ℕ) (n : ℕ) → Alike s s′ → areBytes body ≡ true →
     sent s word arguments body b out .answer ≡ bytes n →
     take n text ≡ take n (sent s word arguments body b out .output) →
     ((k : Kind) → tableOf k (sent s word arguments body b out .session .tables) .used ≤ length (bufferOf k b′)) →
     Agreed s s′ b b′ (lineSent word arguments) body n (sent s word arguments body b out) (received s′ text b′)
-agreement s s′ b b′ word arguments body out text n a y q e room =
+agreement s s′ b b′ word arguments body out text n a y q e l =
     let r = sent s word arguments body b out in
     let line = lineSent word arguments in
     let z : sentNumber (r .answer) ≡ 0 = ap sentNumber q in
     let w = sent-wrote s b word arguments body out z in
-    let g = agreed-like s b b′ line body n r (s′ .screen) (drop n text) y (accepted s b (send word arguments body out) z) w q room in
+    let g = agreed-like s b b′ line body n r (s′ .screen) (drop n text) y (accepted s b (send word arguments body out) z) w q l in
     let f : stanzaText line body ++ drop n text ≡ text = ap (λ x. x ++ drop n text) (sym (e ∙ g .written)) ∙ take-append-drop n text in
     subst (λ x. Agreed s s′ b b′ line body n r (received s′ x b′)) f (subst (λ x. Agreed s x b b′ line body n r (received x (stanzaText line body ++ drop n text) b′)) (alike-is s s′ a) g)

@@ -25,28 +25,36 @@ use Rattle.conversation.proofs.Laws.Refusals.{refusal}
 abbrev pub LaterOpened : Tables → Type 0
 LaterOpened t = (t .errors ≡ openedTables .errors) × (t .stanzas ≡ openedTables .stanzas) × (t .returned ≡ openedTables .returned)
 
--- each kind's entries stand in the first slots, one behind the other, none empty, and the rest is as opened; in phase one, phase two's tables are as opened
+-- each kind of phase one has its entries in the first slots, one behind the other, none empty, and the rest is as opened; in phase one, phase two's tables are as opened
 pub record ReachedSession (s : Session) : Type 0 where
   pub tables : Reached (s .tables)
   pub later : s .phase ≡ One → LaterOpened (s .tables)
 
 -- ---- openings
 
+-- a session whose tables are as opened is one
+pub empty-reached : (s : Session) → s .tables ≡ openedTables → ReachedSession s
+empty-reached s e = record { tables = subst Reached (sym e) opened-reached; later = λ o. subst LaterOpened (sym e) (refl, refl, refl) }
+
 -- a session just opened is one
 pub opened-session : (machine : Machine) (name : List ℕ) (screen : Bool) → ReachedSession (openedSession machine name screen)
-opened-session machine name screen = record { tables = opened-reached; later = λ e. (refl, refl, refl) }
+opened-session machine name screen = empty-reached (openedSession machine name screen) refl
 
--- and so is what any opening hands back, a refused one too
-pub opening-reached : (machine name : List ℕ) (screen : Bool) → ReachedSession (opened machine name screen .session)
-opening-reached machine name screen = any (machineNamed machine)
+-- any opening, a refused one too, hands back tables as opened
+pub opening-tables : (machine name : List ℕ) (screen : Bool) → opened machine name screen .session .tables ≡ openedTables
+opening-tables machine name screen = any (machineNamed machine)
   where
-    any : (m : Named) → ReachedSession (openedAs m name screen .session)
-    any nameless = record { tables = opened-reached; later = λ e. (refl, refl, refl) }
+    any : (m : Named) → openedAs m name screen .session .tables ≡ openedTables
+    any nameless = refl
     any (named m) = by (isName name)
       where
-        by : (f : Bool) → ReachedSession (pick f (record { number = 0; session = openedSession m name screen }) (refusedOpening 17) .session)
-        by true = opened-session m name screen
-        by false = record { tables = opened-reached; later = λ e. (refl, refl, refl) }
+        by : (f : Bool) → pick f (record { number = 0; session = openedSession m name screen }) (refusedOpening 17) .session .tables ≡ openedTables
+        by true = refl
+        by false = refl
+
+-- so what an opening hands back is one
+pub opening-reached : (machine name : List ℕ) (screen : Bool) → ReachedSession (opened machine name screen .session)
+opening-reached machine name screen = empty-reached (opened machine name screen .session) (opening-tables machine name screen)
 
 -- ---- calls
 

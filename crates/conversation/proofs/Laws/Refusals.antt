@@ -13,7 +13,7 @@ use Rattle.session.specs.PhaseOne.{Buffers, numberOne}
 use Rattle.session.specs.Phases.{turnOne, closes}
 use Rattle.conversation.specs.Session.{Session, closed}
 use Rattle.conversation.specs.Receiving.{Received, refusedReceipt, receivedStanza, receivedAs, received}
-use Rattle.conversation.specs.Sending.{Sent, refusedSending, shortness, sentStanza, sentLine, sent}
+use Rattle.conversation.specs.Sending.{Sent, refusedSending, shortness, sentStanza, sent}
 use Rattle.conversation.specs.Calls.{Call, receive, send, heardNumber, sentNumber, outcome, outputIn, outputAfter, sessionAfter}
 
 -- a refused call's session, tables, buffers and output buffer

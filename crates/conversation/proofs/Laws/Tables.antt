@@ -1,29 +1,24 @@
 -- Tables: of any list of calls, refused ones included, at both ends, each kind's table is exactly the list's accepted commands of that kind, in order.
 use Prim.Native.Nat.{ℕ, _+_}
 use mathlib.Core.Path.{_≡_, refl, sym, ap, ap₂, _∙_}
-use mathlib.Core.Bool.{Bool, true, false}
+use mathlib.Core.Bool.{Bool}
 use mathlib.Core.List.{List, [], _∷_, _++_, append-nil, append-assoc}
 use lib.Dec.{eqb}
 use lib.ListN.{length, getD, length-append}
 use lib.Seq.{getD-at}
-use native.Mathlib.Omega.{arith}
-use borrow.Author.Tests.{eqb-true, eqb-false, eq-eqb}
+use borrow.Author.Tests.{eqb-true, eqb-false}
 use Rattle.refusal.specs.Pick.{pick}
 use Rattle.refusal.proofs.Laws.Booleans.{cases}
 use Rattle.tables.specs.Tables.{Row}
-use Rattle.tables.proofs.Laws.Tables.{Kept, view-count}
+use Rattle.tables.proofs.Laws.Tables.{view-count}
 use Rattle.session.specs.Commands.{Command, recipient, identity, key, header, done, other, bad}
-use Rattle.session.specs.Opening.{Named, named, nameless, machineNamed}
 use Rattle.session.specs.PhaseOne.{Tables, Buffers, openedTables, applied, filledBy}
 use Rattle.session.specs.Views.{Kind, recipients, identities, keys, headers, tableOf, bufferOf, viewOf, rowsOf}
-use Rattle.session.specs.declared.commands.Machine.{Machine}
-use Rattle.session.specs.declared.phases.Phase.the-variants.{One}
 use Rattle.session.proofs.Laws.Views.{Reached}
-use Rattle.bech32.specs.Text.{isName}
-use Rattle.conversation.specs.Session.{Session, moved, phaseAfter, openedSession, refusedOpening, openedAs, opened}
+use Rattle.conversation.specs.Session.{Session, moved, phaseAfter, opened}
 use Rattle.conversation.specs.Calls.{Call, outcome, after, lineIn, bodyIn, commandOf, payloadOf, acceptedRows}
 use Rattle.conversation.proofs.Laws.Accepted.{applied-rows, accepted}
-use Rattle.conversation.proofs.Laws.Reached.{ReachedSession, opening-reached, call-reached, after-reached}
+use Rattle.conversation.proofs.Laws.Reached.{ReachedSession, empty-reached, opening-tables, call-reached, after-reached}
 use Rattle.conversation.proofs.Laws.Refusals.{refusal}
 
 -- ---- one call
@@ -50,30 +45,21 @@ tables-after k s b (c ∷ cs) r =
     tables-after k (outcome s b c .session) (outcome s b c .buffers) cs (call-reached s b c r) ∙ ap (λ v. v ++ acceptedRows k (outcome s b c .session) (outcome s b c .buffers) cs) (call-view s b c r k)
     ∙ append-assoc (viewOf k (s .tables) b) _ _
 
--- what an opening hands back has empty tables
-opening-tables : (machine name : List ℕ) (screen : Bool) → opened machine name screen .session .tables ≡ openedTables
-opening-tables machine name screen = any (machineNamed machine)
-  where
-    any : (m : Named) → openedAs m name screen .session .tables ≡ openedTables
-    any nameless = refl
-    any (named m) = by (isName name)
-      where
-        by : (f : Bool) → pick f (record { number = 0; session = openedSession m name screen }) (refusedOpening 17) .session .tables ≡ openedTables
-        by true = refl
-        by false = refl
-
 empty-view : (k : Kind) (b : Buffers) → viewOf k openedTables b ≡ []
 empty-view recipients b = refl
 empty-view identities b = refl
 empty-view keys b = refl
 empty-view headers b = refl
 
--- from an opening on, each kind's table is exactly the list's accepted commands of that kind, in order
+-- where the tables were as opened, each kind's table afterwards is exactly the list's accepted commands of that kind, in order
+pub tables-from-empty : (k : Kind) (s : Session) (b : Buffers) (cs : List Call) → s .tables ≡ openedTables →
+    viewOf k (after s b cs .session .tables) (after s b cs .buffers) ≡ acceptedRows k s b cs
+tables-from-empty k s b cs e = tables-after k s b cs (empty-reached s e) ∙ ap (λ v. v ++ acceptedRows k s b cs) (ap (λ t. viewOf k t b) e ∙ empty-view k b)
+
+-- so it is from any opening on
 pub tables-opened : (k : Kind) (machine name : List ℕ) (screen : Bool) (b : Buffers) (cs : List Call) →
     viewOf k (after (opened machine name screen .session) b cs .session .tables) (after (opened machine name screen .session) b cs .buffers) ≡ acceptedRows k (opened machine name screen .session) b cs
-tables-opened k machine name screen b cs =
-    let s = opened machine name screen .session in
-    tables-after k s b cs (opening-reached machine name screen) ∙ ap (λ v. v ++ acceptedRows k s b cs) (ap (λ t. viewOf k t b) (opening-tables machine name screen) ∙ empty-view k b)
+tables-opened k machine name screen b cs = tables-from-empty k (opened machine name screen .session) b cs (opening-tables machine name screen)
 
 -- ---- counts and numbers
 
@@ -128,7 +114,7 @@ applied-elsewhere t b done k p h = (refl, refl)
 applied-elsewhere t b other k p h = (refl, refl)
 applied-elsewhere t b (bad n) k p h = (refl, refl)
 
--- for a kind whose row it does not make, nothing changes
+-- an accepted command of another kind, or of none, changes neither a kind's table nor its buffer
 pub elsewhere : (s : Session) (b : Buffers) (c : Call) (k : Kind) → outcome s b c .number ≡ 0 → rowsOf (commandOf s c) k (payloadOf s c) ≡ [] →
     (tableOf k (outcome s b c .session .tables) ≡ tableOf k (s .tables)) × (bufferOf k (outcome s b c .buffers) ≡ bufferOf k b)
 elsewhere s b c k z q =
@@ -136,8 +122,8 @@ elsewhere s b c k z q =
     let w = applied-elsewhere (s .tables) b (commandOf s c) k (payloadOf s c) q in
     (ap (λ x. tableOf k (x .tables)) (a .session) ∙ w .0, ap (bufferOf k) (a .buffers) ∙ w .1)
 
--- an ignored command changes no table, no buffer and not the phase
-pub ignored : (s : Session) (b : Buffers) (c : Call) → outcome s b c .number ≡ 0 → commandOf s c ≡ other → 
+-- an ignored command changes nothing
+pub ignored : (s : Session) (b : Buffers) (c : Call) → outcome s b c .number ≡ 0 → commandOf s c ≡ other →
     (outcome s b c .session ≡ s) × (outcome s b c .buffers ≡ b)
 ignored s b c z q =
     let a = accepted s b c z in

@@ -1,6 +1,6 @@
 -- Look-up, by the tests of the code; and what it shows of a table that an opening and calls can reach.
 use Prim.Native.Nat.{ℕ, zero, suc, _+_, _-_, _<_, _≤_}
-use mathlib.Core.Path.{_≡_, refl, sym, ap, _∙_, subst}
+use mathlib.Core.Path.{_≡_, sym, ap, _∙_, subst}
 use mathlib.Core.Logic.{_⊎_, inl, inr, ⊎-elim, _↔_}
 use mathlib.Core.List.{List, [], _∷_}
 use lib.ListN.{length, take, drop, getD, drop-of-length-le, length-take, length-drop, List·getD-map}
@@ -81,8 +81,8 @@ pub shown-empty : (t : Table) (buffer : List ℕ) (n : ℕ) → Kept t → (show
 shown-empty t buffer n k =
     elim (decLt n (t .count)) [
       | yes h ↦
-        let w = looked t buffer n k h in
-        let p = part-empty (slotOf t n .start) (slotOf t n .length) buffer (w .some) in
-        (λ e. inr (p .0 (ap (λ x. shown x buffer) (sym (w .there)) ∙ e)), λ o. ap (λ x. shown x buffer) (w .there) ∙ p .1 (⊎-elim (λ l. absurd (omega arith)) (λ l. l) o))
+          let w = looked t buffer n k h in
+          let p = part-empty (slotOf t n .start) (slotOf t n .length) buffer (w .some) in
+          (λ e. inr (p .0 (ap (λ x. shown x buffer) (sym (w .there)) ∙ e)), λ o. ap (λ x. shown x buffer) (w .there) ∙ p .1 (⊎-elim (λ l. absurd (omega arith)) (λ l. l) o))
       | no h ↦ (λ e. inl (omega arith), λ o. ap (λ x. shown x buffer) (sym (find-none t n (omega arith))))
     ]
