@@ -1,1 +1,6 @@
+pub mod Accepted
+pub mod Agreement
+pub mod Reached
 pub mod Receiving
+pub mod Refusals
+pub mod Tables

@@ -13,8 +13,9 @@ use Rattle.stanza.specs.Reading.{Reading, readFirst}
 use Rattle.tables.specs.Tables.{Row}
 use Rattle.session.specs.Commands.{Command, Word, lineSent}
 use Rattle.session.specs.PhaseOne.{Buffers, commandIn, payloadIn}
+use Rattle.session.specs.Phases.{closes}
 use Rattle.session.specs.Views.{Kind, rowsOf}
-use Rattle.conversation.specs.Session.{Session}
+use Rattle.conversation.specs.Session.{Session, closed}
 use Rattle.conversation.specs.Receiving.{Heard, heard, declined, received}
 use Rattle.conversation.specs.Sending.{sent}
 
@@ -44,6 +45,21 @@ outcome s b (receive text) =
     let r = received s text b in record { number = heardNumber (r .answer); session = r .session; buffers = r .buffers }
 outcome s b (send word arguments body out) =
     let r = sent s word arguments body b out in record { number = sentNumber (r .answer); session = r .session; buffers = r .buffers }
+
+-- the output buffer that a call lends, and the same afterwards; a call that receives lends none
+abbrev pub outputIn : Call → List ℕ
+outputIn (receive text) = []
+outputIn (send word arguments body out) = out
+
+abbrev pub outputAfter : Session → Buffers → Call → List ℕ
+outputAfter s b (receive text) = []
+outputAfter s b (send word arguments body out) = sent s word arguments body b out .output
+
+-- the session after a refusal, by the call and its number: for what is received as the column "Session after" says; "At either end's sending, faults of its own
+-- host's making leave the session as before"
+abbrev pub sessionAfter : Call → ℕ → Session → Session
+sessionAfter (receive text) n s = pick (closes n) (closed s) s
+sessionAfter (send word arguments body out) n s = s
 
 -- ---- lists of calls
 

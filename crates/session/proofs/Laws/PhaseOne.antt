@@ -49,7 +49,7 @@ module _ (m : Machine) (g : List ℕ) (t : Tables) (b : Buffers) (z : ℕ) (l y 
       let f0 : eqb (numberOne m g t b z l y) 0 ≡ false = ap (λ k. eqb k 0) (sym q) ∙ f in
       (sym (ap (λ c. pick c (applied t b (commandIn m g l y) (payloadIn m g l y)) t) f0), sym (ap (λ c. pick c (filledBy t b (commandIn m g l y) (payloadIn m g l y)) b) f0))
 
-  accepted-one : (x : Command) → x ≡ commandIn m g l y → numberOne m g t b z l y ≡ 0 →
+  pub accepted-one : (x : Command) → x ≡ commandIn m g l y → numberOne m g t b z l y ≡ 0 →
       (applied t b x (payloadOf x l y) ≡ tablesOne m g t b z l y) × (filledBy t b x (payloadOf x l y) ≡ buffersOne m g t b z l y)
   accepted-one x e q =
       let f0 : eqb (numberOne m g t b z l y) 0 ≡ true = eq-eqb (numberOne m g t b z l y) 0 q in (

@@ -68,11 +68,11 @@ applied-reached t b other p h r k = r k
 applied-reached t b (bad n) p h r k = r k
 
 -- a command that needs space and is accepted fits
-space : (f : Bool) → _≡_ {A = ℕ} (pick f 0 8) 0 → f ≡ true
+pub space : (f : Bool) → _≡_ {A = ℕ} (pick f 0 8) 0 → f ≡ true
 space true h = refl
 space false h = absurd (omega arith)
 
-header-space : (g f : Bool) → _≡_ {A = ℕ} (pick g 7 (pick f 0 8)) 0 → f ≡ true
+pub header-space : (g f : Bool) → _≡_ {A = ℕ} (pick g 7 (pick f 0 8)) 0 → f ≡ true
 header-space true f h = absurd (omega arith)
 header-space false f h = space f h
 
@@ -112,7 +112,7 @@ module _ (t : Tables) (b : Buffers) (p : List ℕ) (r : Reached t) where
 
 -- ---- one command, accepted or refused
 
-first-zero : (n late : ℕ) → firstOf n late ≡ 0 → n ≡ 0
+pub first-zero : (n late : ℕ) → firstOf n late ≡ 0 → n ≡ 0
 first-zero n late h = cases (eqb n 0) (λ e. eqb-true n 0 e) (λ e. rw e at h)
 
 -- no payload of a command that was read is empty: no argument is, a key has 16 bytes, and a header stanza its LF

@@ -1,13 +1,17 @@
 -- Look-up, by the tests of the code; and what it shows of a table that an opening and calls can reach.
-use Prim.Native.Nat.{ℕ, _+_, _-_, _<_, _≤_}
-use mathlib.Core.Path.{_≡_, refl, sym, ap, _∙_}
-use mathlib.Core.List.{List, []}
-use lib.ListN.{length, take, drop, getD, drop-of-length-le}
-use lib.Seq.{take-nil}
+use Prim.Native.Nat.{ℕ, zero, suc, _+_, _-_, _<_, _≤_}
+use mathlib.Core.Path.{_≡_, sym, ap, _∙_, subst}
+use mathlib.Core.Logic.{_⊎_, inl, inr, ⊎-elim, _↔_}
+use mathlib.Core.List.{List, [], _∷_}
+use lib.ListN.{length, take, drop, getD, drop-of-length-le, length-take, length-drop, List·getD-map}
+use lib.Seq.{take-nil, getD-take, length-take-le}
+use native.Mathlib.Decide.{decLt}
 use native.Mathlib.Omega.{arith}
 use borrow.Author.Tests.{lt-ltb, le-ltb, le-leb, lt-leb}
-use Rattle.tables.specs.Tables.{Table, empty, found, partOf, shown}
+use Rattle.tables.specs.Tables.{Table, empty, rowOf, view, found, partOf, shown}
+use Rattle.tables.specs.declared.tables.Entry.{Entry}
 use Rattle.tables.specs.declared.tables.Found.the-variants as the
+use Rattle.tables.proofs.Laws.Tables.{AllSome, Kept}
 
 -- ---- the entry of a number
 
@@ -32,3 +36,53 @@ part-short start n b h = nothing-left b ∙ rw (lt-leb (start + n) (length b) h)
 
 pub part-there : (start n : ℕ) (b : List ℕ) → start + n ≤ length b → take (start + n - start) (drop start b) ≡ partOf start n b
 part-there start n b h = let e : start + n - start ≡ n = omega arith in rw (le-leb (start + n) (length b) h) (ap (λ k. take k (drop start b)) e)
+
+-- ---- of a table that an opening and calls can reach
+
+-- the slot of a number
+abbrev pub slotOf : Table → ℕ → Entry
+slotOf t n = getD (t .slots) n empty
+
+some-at : (es : List Entry) (n : ℕ) → AllSome es → n < length es → 0 < getD es n empty .length
+unfolding AllSome
+some-at [] n a h = absurd (omega arith)
+some-at (e ∷ es) zero a h = a .0
+some-at (e ∷ es) (suc n) a h = some-at es n (a .1) (omega arith)
+
+-- below the count there is an entry: its row is the view's of that number, and its part of a buffer that is long enough for it is that row's payload
+pub record Looked (t : Table) (buffer : List ℕ) (n : ℕ) : Type 0 where
+  pub there : found t n ≡ the.Entry (slotOf t n)
+  pub some : 0 < slotOf t n .length
+  pub row : getD (view t buffer) n (rowOf buffer empty) ≡ rowOf buffer (slotOf t n)
+  pub part : slotOf t n .start + slotOf t n .length ≤ length buffer → shown (found t n) buffer ≡ getD (view t buffer) n (rowOf buffer empty) .payload
+
+pub looked : (t : Table) (buffer : List ℕ) (n : ℕ) → Kept t → n < t .count → Looked t buffer n
+looked t buffer n k h =
+    let es = take (t .count) (t .slots) in
+    let f : found t n ≡ the.Entry (slotOf t n) = sym (find-there t n h (omega (arith, k .counted))) in
+    let g : getD es n empty ≡ slotOf t n = getD-take (t .count) (t .slots) n empty h in
+    let r : getD (view t buffer) n (rowOf buffer empty) ≡ rowOf buffer (slotOf t n) = List·getD-map (rowOf buffer) es n empty ∙ ap (rowOf buffer) g in
+    record {
+      there = f;
+      some = subst (λ e. 0 < e .length) g (some-at es n (k .some) (omega (arith, length-take-le (t .count) (t .slots) (omega (arith, k .counted, k .wide)))));
+      row = r;
+      part = λ l. ap (λ x. shown x buffer) f ∙ rw (le-leb (slotOf t n .start + slotOf t n .length) (length buffer) l) (sym (ap (λ x. x .payload) r));
+    }
+
+-- a part that is not of length 0 is empty exactly if the buffer is too short for it
+part-empty : (start n : ℕ) (b : List ℕ) → 0 < n → (partOf start n b ≡ []) ↔ (length b < start + n)
+part-empty start n b s = (λ e. elim (decLt (length b) (start + n)) [ yes h ↦ h | no h ↦ absurd (omega (arith, long (omega arith), ap length e)) ], λ h. rw (lt-leb (start + n) (length b) h))
+  where
+    long : start + n ≤ length b → length (partOf start n b) ≡ n
+    long h = rw (le-leb (start + n) (length b) h) (simp (length-take, length-drop) (omega arith))
+
+-- what is shown is empty exactly if there is no entry of that number or the buffer is too short for it
+pub shown-empty : (t : Table) (buffer : List ℕ) (n : ℕ) → Kept t → (shown (found t n) buffer ≡ []) ↔ ((t .count ≤ n) ⊎ (length buffer < slotOf t n .start + slotOf t n .length))
+shown-empty t buffer n k =
+    elim (decLt n (t .count)) [
+      | yes h ↦
+          let w = looked t buffer n k h in
+          let p = part-empty (slotOf t n .start) (slotOf t n .length) buffer (w .some) in
+          (λ e. inr (p .0 (ap (λ x. shown x buffer) (sym (w .there)) ∙ e)), λ o. ap (λ x. shown x buffer) (w .there) ∙ p .1 (⊎-elim (λ l. absurd (omega arith)) (λ l. l) o))
+      | no h ↦ (λ e. inl (omega arith), λ o. ap (λ x. shown x buffer) (sym (find-none t n (omega arith))))
+    ]

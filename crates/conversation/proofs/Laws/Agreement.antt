@@ -1,0 +1,189 @@
+-- Our two ends agree in phase one: what the client sends the plugin accepts, and their tables stay equal.
+use Prim.Native.Nat.{ℕ, _+_, _≤_}
+use mathlib.Core.Path.{_≡_, refl, sym, ap, ap₂, _∙_, subst}
+use mathlib.Core.Bool.{Bool, true, false}
+use mathlib.Core.List.{List, _++_}
+use lib.Dec.{eqb, leb, ltb}
+use lib.ListN.{length, take, drop, take-append-drop}
+use lib.Pow.{areBytes}
+use lib.Seq.{take-append-seam}
+use native.Mathlib.Omega.{arith}
+use borrow.Author.Tests.{eqb-true, eqb-false, eq-eqb, le-leb}
+use Rattle.refusal.specs.Output.{bytes, overflows}
+use Rattle.refusal.specs.Pick.{pick}
+use Rattle.refusal.proofs.Laws.Booleans.{cases, and-true, true-and}
+use Rattle.stanza.specs.Arguments.{isLine}
+use Rattle.stanza.specs.Grammar.{stanzaText}
+use Rattle.stanza.specs.Reading.{readFirst}
+use Rattle.stanza.specs.Writing.{isWritable}
+use Rattle.stanza.proofs.Laws.RoundTrip.{read-written, read-arguments, read-body}
+use Rattle.tables.specs.Tables.{Table, fits, appended, entered}
+use Rattle.session.specs.Commands.{Command, recipient, identity, key, header, done, other, bad, Word, wordOf, lineSent}
+use Rattle.session.specs.PhaseOne.{Tables, Buffers, commandIn, payloadIn, falls, decided, applied, firstOf, numberOne}
+use Rattle.session.specs.Phases.{turnOne}
+use Rattle.session.specs.Views.{Kind, recipients, identities, keys, headers, tableOf, bufferOf, viewOf, rowsOf}
+use Rattle.session.specs.declared.phases.Phase.the-variants.{One}
+use Rattle.session.proofs.Laws.Views.{Reached, space, header-space}
+use Rattle.conversation.specs.Session.{Session}
+use Rattle.conversation.specs.Receiving.{heard, Received, refusedReceipt, receivedStanza, receivedAs, received}
+use Rattle.conversation.specs.Sending.{Sent, shortness, sentStanza, sentLine, sent}
+use Rattle.conversation.specs.Calls.{sentNumber, send}
+use Rattle.conversation.proofs.Laws.Accepted.{Applied, applied-rows, branch, one-applied, accepted}
+
+-- the two ends' sessions, but for the screen
+pub record Alike (s s′ : Session) : Type 0 where
+  pub machine : s .machine ≡ s′ .machine
+  pub name : s .name ≡ s′ .name
+  pub phase : s .phase ≡ s′ .phase
+  pub tables : s .tables ≡ s′ .tables
+
+-- ---- the decision again, with other buffers that are long enough
+
+-- one kind: what fitted at the one end fits at the other
+fits-again : (t : Table) (n index mark c c′ : ℕ) → fits t n c ≡ true → entered t n index mark c .used ≤ c′ → fits t n c′ ≡ fits t n c
+fits-again t n index mark c c′ f h =
+    let u : t .used + n ≤ c′ = subst (λ g. pick g (appended t n index mark) t .used ≤ c′) f h in
+    true-and (ltb (t .count) (t .width)) (leb (t .used + n) c′) (and-true (ltb (t .count) (t .width)) (leb (t .used + n) c) f .0) (le-leb (t .used + n) c′ u) ∙ sym f
+
+module _ (t : Tables) (b b′ : Buffers) (p : List ℕ) where
+  -- the other end's buffers are long enough for what the tables then take
+  abbrev Enough : Command → Type 0
+  Enough c = (k : Kind) → tableOf k (applied t b c p) .used ≤ length (bufferOf k b′)
+
+  -- the same number, and the same tables
+  again : (c : Command) → decided t b c (length p) ≡ 0 → Enough c → (decided t b′ c (length p) ≡ 0) × (applied t b′ c p ≡ applied t b c p)
+  again (recipient m) h r =
+      let e = fits-again (t .recipients) (length p) 0 m (length (b .recipients)) (length (b′ .recipients)) (space (fits (t .recipients) (length p) (length (b .recipients))) h) (r recipients) in
+      (ap (λ x. pick x 0 8) e ∙ h, rw e)
+  again (identity m) h r =
+      let e = fits-again (t .identities) (length p) 0 m (length (b .identities)) (length (b′ .identities)) (space (fits (t .identities) (length p) (length (b .identities))) h) (r identities) in
+      (ap (λ x. pick x 0 8) e ∙ h, rw e)
+  again key h r =
+      let e = fits-again (t .keys) (length p) 0 0 (length (b .keys)) (length (b′ .keys)) (space (fits (t .keys) (length p) (length (b .keys))) h) (r keys) in
+      (ap (λ x. pick x 0 8) e ∙ h, rw e)
+  again (header i m) h r =
+      let e = fits-again (t .headers) (length p) i m (length (b .headers)) (length (b′ .headers)) (header-space (falls (t .headers) i) (fits (t .headers) (length p) (length (b .headers))) h) (r headers) in
+      (ap (λ x. pick (falls (t .headers) i) 7 (pick x 0 8)) e ∙ h, rw e)
+  again done h r = (refl, refl)
+  again other h r = (refl, refl)
+  again (bad n) h r = (h, refl)
+
+-- ---- the client's side: what it wrote
+
+late-zero : (n late : ℕ) → firstOf n late ≡ 0 → late ≡ 0
+late-zero n late h = cases (eqb n 0) (λ e. sym (ap (λ f. pick f late n) e) ∙ h) (λ e. absurd (eqb-false n 0 e (sym (ap (λ f. pick f late n) e) ∙ h)))
+
+not-short : (f : Bool) → _≡_ {A = ℕ} (pick f 15 0) 0 → f ≡ false
+not-short true h = absurd (omega arith)
+not-short false h = refl
+
+-- a stanza that can be written, at the front of the output buffer
+record Wrote (line body : List ℕ) (r : Sent) : Type 0 where
+  writable : isWritable line body ≡ true
+  answer : r .answer ≡ bytes (length (stanzaText line body))
+  output : take (length (stanzaText line body)) (r .output) ≡ stanzaText line body
+
+module _ (s : Session) (b : Buffers) where
+  line-wrote : (line body out : List ℕ) → sentNumber (sentLine s b line body out .answer) ≡ 0 → Wrote line body (sentLine s b line body out)
+  unfolding sentStanza
+  line-wrote line body out =
+      let late = shortness (stanzaText line body) out in
+      let d = decided (s .tables) b (commandIn (s .machine) (s .name) line body) (length (payloadIn (s .machine) (s .name) line body)) in
+      branch (Wrote line body) (λ r. sentNumber (r .answer)) (isWritable line body) _ _
+      (λ w. branch (Wrote line body) (λ r. sentNumber (r .answer)) (eqb (firstOf d late) 0) _ _
+      (λ f h. let e = not-short (overflows (stanzaText line body) out) (late-zero d late (eqb-true (firstOf d late) 0 f)) in
+      record {
+        writable = w;
+        answer = refl;
+        output = ap (λ x. take (length (stanzaText line body)) (pick x out (stanzaText line body ++ drop (length (stanzaText line body)) out))) e ∙ take-append-seam (stanzaText line body) (drop (length (stanzaText line body)) out);
+      })
+      (λ f. eqb-false (firstOf d late) 0 f))
+      (λ w h. omega arith)
+
+  sent-wrote : (word : Word) (arguments body out : List ℕ) → sentNumber (sent s word arguments body b out .answer) ≡ 0 → Wrote (lineSent word arguments) body (sent s word arguments body b out)
+  unfolding sent
+  sent-wrote word arguments body out =
+      branch (Wrote (lineSent word arguments) body) (λ r. sentNumber (r .answer)) (eqb (turnOne (s .phase)) 0) _ _ (λ f. line-wrote (lineSent word arguments) body out) (λ f. eqb-false (turnOne (s .phase)) 0 f)
+
+-- ---- the plugin's side: what it reads
+
+module _ (s : Session) (b : Buffers) (line body : List ℕ) where
+  text-received : (rest : List ℕ) → s .phase ≡ One → isWritable line body ≡ true → areBytes body ≡ true →
+      received s (stanzaText line body ++ rest) b ≡ receivedStanza s b line body (length (stanzaText line body))
+  unfolding received
+  text-received rest o w a =
+      let text = stanzaText line body ++ rest in
+      ap (λ p. pick (eqb (turnOne p) 0) (receivedAs (readFirst text) s text b) (refusedReceipt (turnOne p) s b)) o ∙ ap (λ r. receivedAs r s text b) (read-written line body rest a w)
+      ∙ ap₂ (λ l y. receivedStanza s b l y (length (stanzaText line body))) (read-arguments line body rest) (read-body line body rest a)
+
+  -- accepted, and its command applied
+  abbrev HeardAs : ℕ → Received → Type 0
+  HeardAs k r = (r .answer ≡ heard (wordOf (commandIn (s .machine) (s .name) line body)) k) × Applied s b line body (r .session) (r .buffers)
+
+  -- a stanza in which the decision finds no fault
+  stanza-heard : (k : ℕ) → s .phase ≡ One → isLine line ≡ true → decided (s .tables) b (commandIn (s .machine) (s .name) line body) (length (payloadIn (s .machine) (s .name) line body)) ≡ 0 →
+      HeardAs k (receivedStanza s b line body k)
+  unfolding receivedStanza
+  stanza-heard k o l h =
+      let n = numberOne (s .machine) (s .name) (s .tables) b 0 line body in
+      let f = eq-eqb n 0 (ap (λ d. firstOf d 0) h) in
+      chosen (HeardAs k) (eqb n 0) _ _ f (refl, one-applied s b 0 line body o l f)
+    where
+      chosen : {X : Type 0} (P : X → Type 0) (f : Bool) (x y : X) → f ≡ true → P x → P (pick f x y)
+      chosen P f x y e p = subst (λ g. P (pick g x y)) (sym e) p
+
+-- ---- both
+
+-- a sending r by the client's session s, and a receipt r′ by the plugin's s′: n bytes are written, the stanza's text; all of them are taken, as the same
+-- command; the sessions are alike again, and views that were equal are equal again
+pub record Agreed (s s′ : Session) (b b′ : Buffers) (line body : List ℕ) (n : ℕ) (r : Sent) (r′ : Received) : Type 0 where
+  pub written : take n (r .output) ≡ stanzaText line body
+  pub answer : r′ .answer ≡ heard (wordOf (commandIn (s .machine) (s .name) line body)) n
+  pub alike : Alike (r .session) (r′ .session)
+  pub views : Reached (s .tables) → ((k : Kind) → viewOf k (s .tables) b ≡ viewOf k (s′ .tables) b′) → (k : Kind) → viewOf k (r .session .tables) (r .buffers) ≡ viewOf k (r′ .session .tables) (r′ .buffers)
+
+-- the plugin's session is the client's with a screen of its own
+alike-is : (s s′ : Session) → Alike s s′ → _≡_ {A = Session} (record { machine = s .machine; name = s .name; screen = s′ .screen; phase = s .phase; tables = s .tables }) s′
+alike-is s s′ a = rw (a .machine, a .name, a .phase, a .tables)
+
+module _ (s : Session) (b b′ : Buffers) (line body : List ℕ) (n : ℕ) (r : Sent) where
+  agreed-like : (screen : Bool) (rest : List ℕ) → areBytes body ≡ true → Applied s b line body (r .session) (r .buffers) → Wrote line body r → r .answer ≡ bytes n →
+      ((k : Kind) → tableOf k (r .session .tables) .used ≤ length (bufferOf k b′)) →
+      let s′ : Session = record { machine = s .machine; name = s .name; screen = screen; phase = s .phase; tables = s .tables } in
+      Agreed s s′ b b′ line body n r (received s′ (stanzaText line body ++ rest) b′)
+  agreed-like screen rest a p w q l =
+      let s′ : Session = record { machine = s .machine; name = s .name; screen = screen; phase = s .phase; tables = s .tables } in
+      let r′ : Received = received s′ (stanzaText line body ++ rest) b′ in
+      let m : n ≡ length (stanzaText line body) = cc (w .answer) in
+      let g = again (s .tables) b b′ (payloadIn (s .machine) (s .name) line body) (commandIn (s .machine) (s .name) line body) (p .faultless) (λ k. subst (λ x. tableOf k (x .tables) .used ≤ length (bufferOf k b′)) (p .session) (l k)) in
+      let h : HeardAs s′ b′ line body (length (stanzaText line body)) r′ =
+      subst (HeardAs s′ b′ line body (length (stanzaText line body))) (sym (text-received s′ b′ line body rest (p .turn) (w .writable) a)) (stanza-heard s′ b′ line body (length (stanzaText line body)) (p .turn) (p .argued) (g .0)) in
+      let p′ = h .1 in
+      record {
+        written = ap (λ k. take k (r .output)) m ∙ w .output;
+        answer = h .0 ∙ ap (heard (wordOf (commandIn (s .machine) (s .name) line body))) (sym m);
+        alike = record {
+          machine = ap (λ x. x .machine) (p .session) ∙ sym (ap (λ x. x .machine) (p′ .session));
+          name = ap (λ x. x .name) (p .session) ∙ sym (ap (λ x. x .name) (p′ .session));
+          phase = ap (λ x. x .phase) (p .session) ∙ sym (ap (λ x. x .phase) (p′ .session));
+          tables = ap (λ x. x .tables) (p .session) ∙ sym (g .1) ∙ sym (ap (λ x. x .tables) (p′ .session));
+        };
+        views = λ j v k.
+            applied-rows s b line body (r .session) (r .buffers) p j k ∙ ap (λ l. l ++ rowsOf (commandIn (s .machine) (s .name) line body) k (payloadIn (s .machine) (s .name) line body)) (v k)
+            ∙ sym (applied-rows s′ b′ line body (r′ .session) (r′ .buffers) p′ j k);
+      }
+
+-- what the client sends the plugin accepts, at the front of any text that begins with it, where each of its buffers is long enough for what the client's table takes
+pub agreement : (s s′ : Session) (b b′ : Buffers) (word : Word) (arguments body out text : List ℕ) (n : ℕ) → Alike s s′ → areBytes body ≡ true →
+    sent s word arguments body b out .answer ≡ bytes n →
+    take n text ≡ take n (sent s word arguments body b out .output) →
+    ((k : Kind) → tableOf k (sent s word arguments body b out .session .tables) .used ≤ length (bufferOf k b′)) →
+    Agreed s s′ b b′ (lineSent word arguments) body n (sent s word arguments body b out) (received s′ text b′)
+agreement s s′ b b′ word arguments body out text n a y q e l =
+    let r = sent s word arguments body b out in
+    let line = lineSent word arguments in
+    let z : sentNumber (r .answer) ≡ 0 = ap sentNumber q in
+    let w = sent-wrote s b word arguments body out z in
+    let g = agreed-like s b b′ line body n r (s′ .screen) (drop n text) y (accepted s b (send word arguments body out) z) w q l in
+    let f : stanzaText line body ++ drop n text ≡ text = ap (λ x. x ++ drop n text) (sym (e ∙ g .written)) ∙ take-append-drop n text in
+    subst (λ x. Agreed s s′ b b′ line body n r (received s′ x b′)) f (subst (λ x. Agreed s x b b′ line body n r (received x (stanzaText line body ++ drop n text) b′)) (alike-is s s′ a) g)
