@@ -1,0 +1,2 @@
+-- What is shown of calls and lists of calls.
+pub mod Limits
