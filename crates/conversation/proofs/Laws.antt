@@ -1,2 +1,3 @@
 -- What is shown of calls and lists of calls.
 pub mod Limits
+pub mod Steps
