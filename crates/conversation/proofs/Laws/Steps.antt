@@ -1,16 +1,17 @@
 -- One whole stanza that a session in phase one receives: when it is accepted, and what it leaves.
-use Prim.Native.Nat.{ℕ}
+use Prim.Native.Nat.{ℕ, _+_}
 use mathlib.Core.Path.{_≡_, refl, sym, ap, _∙_, subst}
 use mathlib.Core.Bool.{Bool, true, false, _&&_, false≢true}
 use mathlib.Core.Logic.{_↔_, ⊎-elim}
 use mathlib.Core.List.{List, [], _∷_, _++_}
 use lib.Dec.{eqb, leb}
-use lib.ListN.{length}
+use lib.ListN.{length, take, drop}
 use native.Mathlib.Omega.{arith}
 use borrow.Author.Tests.{eqb-true, eq-eqb}
 use Rattle.refusal.specs.Pick.{pick}
 use Rattle.refusal.specs.Same.{same}
 use Rattle.refusal.proofs.Laws.Booleans.{and-true, cases}
+use Rattle.base64.specs.Lines.{bodyOf}
 use Rattle.stanza.specs.Arguments.{isLine, countOf, argumentOf}
 use Rattle.stanza.specs.Grammar.{stanzaText}
 use Rattle.stanza.specs.Index.{readIndex}
@@ -33,7 +34,7 @@ use Rattle.session.proofs.Laws.Views.{Reached, applied-reached, applied-view, p
 use Rattle.conversation.specs.Session.{Session, moved, phaseAfter}
 use Rattle.conversation.specs.Receiving.{Received, heard, refusedReceipt, receivedStanza, receivedAs, received}
 use Rattle.conversation.specs.Calls.{receive, heardNumber, outcome, lineRead, bodyRead}
-use Rattle.conversation.specs.Phases.{Whole, lineIn, bodyIn, isDone, commandOf, isRight}
+use Rattle.conversation.specs.Phases.{Whole, lineIn, bodyIn, isDone, commandOf, rowsFrom, isRight}
 use Rattle.conversation.proofs.Laws.Limits.{Within, Held, Passes, Grown, same as unchanged, more, within-fits, grown-within, grown-held}
 
 -- ---- a command that was read: only the word done makes done, and no fault has the number 0
@@ -170,6 +171,79 @@ module _ (machine : Machine) (name : List ℕ) (screen : Bool) where
   abbrev pub payload : List ℕ → List ℕ
   payload x = payloadIn machine name (lineIn x) (bodyIn x)
 
+  -- its arguments' text is one that can be written
+  whole-line : (x : List ℕ) → Whole x → isLine (lineIn x) ≡ true
+  whole-line x w =
+      let l = drop 3 (take (w .line) x) in
+      let y = bodyOf (drop (w .line + 1) (take (length x) x)) in
+      ap (λ r. isLine (lineRead r x)) (w .read) ∙ and-true (isLine l) (leb (length (stanzaText l y)) 8192) (written-read x (w .line) (w .body) (length x) (w .read) .writable) .0
+
   module _ (t : Tables) (b : Buffers) where
+    -- the decision of a text
+    abbrev pub judged : List ℕ → ℕ
+    judged x = decided t b (commandOf machine name x) (length (payload x))
+
     picked : (n : ℕ) (r : Received) → heardNumber (r .answer) ≡ 0 → heardNumber (pick (eqb n 0) r (refusedReceipt n (going t) b) .answer) ≡ n
     picked n r q = cases (eqb n 0) (λ e. rw e (q ∙ sym (eqb-true n 0 e))) (λ e. rw e)
+
+    -- what it leaves, by whether it is accepted
+    abbrev left : List ℕ → Bool → Received
+    left x f = let c = commandOf machine name x in record {
+      answer = heard (wordOf c) (length x);
+      session = moved (going t) (phaseAfter c) (pick f (applied t b c (payload x)) t);
+      buffers = pick f (filledBy t b c (payload x)) b;
+    }
+
+    module _ (x : List ℕ) (w : Whole x) where
+      read-as : received (going t) x b ≡ receivedStanza (going t) b (lineIn x) (bodyIn x) (length x)
+      unfolding received
+      read-as = subst (λ r. receivedAs r (going t) x b ≡ receivedStanza (going t) b (lineRead r x) (bodyRead r x) (length x)) (sym (w .read)) refl
+
+      -- its number is the decision
+      pub number-received : outcome (going t) b (receive x) .number ≡ judged x
+      unfolding receivedStanza
+      number-received =
+          let n = firstOf (judged x) 0 in
+          ap (λ r. heardNumber (r .answer)) read-as ∙ picked n (left x (eqb n 0)) refl ∙ first-same (judged x)
+
+      accepted-leaves : judged x ≡ 0 → received (going t) x b ≡ left x true
+      unfolding receivedStanza
+      accepted-leaves z =
+          let n = firstOf (judged x) 0 in
+          read-as ∙ ap (λ f. pick f (left x f) (refusedReceipt n (going t) b)) (eq-eqb n 0 (first-same (judged x) ∙ z))
+
+      -- where it is accepted: the tables and the buffers, still in phase one if it is not done
+      pub session-received : isDone x ≡ false → judged x ≡ 0 → outcome (going t) b (receive x) .session ≡ going (applied t b (commandOf machine name x) (payload x))
+      session-received d z =
+          let c = commandOf machine name x in
+          let p : Proper false c = subst (λ f. Proper f c) d (word-proper name (lineIn x) (length (bodyIn x)) machine (argumentOf (lineIn x) 0)) in
+          ap (λ r. r .session) (accepted-leaves z) ∙ ap (λ q. moved (going t) q (applied t b c (payload x))) (proper-phase c p)
+
+      pub tables-received : judged x ≡ 0 → outcome (going t) b (receive x) .session .tables ≡ applied t b (commandOf machine name x) (payload x)
+      tables-received z = ap (λ r. r .session .tables) (accepted-leaves z)
+
+      pub buffers-received : judged x ≡ 0 → outcome (going t) b (receive x) .buffers ≡ filledBy t b (commandOf machine name x) (payload x)
+      buffers-received z = ap (λ r. r .buffers) (accepted-leaves z)
+
+      -- it is accepted exactly if it is right and its rows are within the limits
+      pub received-iff : Going t b → (judged x ≡ 0) ↔ ((isRight (commandOf machine name x) ≡ true) × Fitting t b (λ k. rowsFrom machine name k x))
+      received-iff g =
+          let c = commandOf machine name x in
+          (λ z. (decided-right t b (isDone x) c (length (payload x)) (word-proper name (lineIn x) (length (bodyIn x)) machine (argumentOf (lineIn x) 0)) z,
+            λ k. grown-within (grown t b c (payload x) k) z (g k)),
+          λ h. decided-zero t b c (payload x) g (h .0) (h .1))
+
+      module _ (g : Going t b) (z : judged x ≡ 0) where
+        reached : Reached t
+        unfolding Reached
+        reached k = g k .reached
+
+        -- then its rows stand behind those of before
+        pub view-received : (k : Kind) → viewOf k (applied t b (commandOf machine name x) (payload x)) (filledBy t b (commandOf machine name x) (payload x)) ≡ viewOf k t b ++ rowsFrom machine name k x
+        view-received k = applied-view t b (payload x) reached (commandOf machine name x) z k
+
+        pub going-received : Going (applied t b (commandOf machine name x) (payload x)) (filledBy t b (commandOf machine name x) (payload x))
+        unfolding Reached
+        going-received k =
+            let c = commandOf machine name x in
+            grown-held (grown t b c (payload x) k) z (g k) (applied-reached t b c (payload x) (payload-stored name (lineIn x) (bodyIn x) (whole-line x w) machine) reached k) (view-received k)
