@@ -1,3 +1,4 @@
 -- What is shown of calls and lists of calls.
 pub mod Limits
 pub mod Steps
+pub mod Allowed

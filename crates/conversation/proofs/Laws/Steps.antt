@@ -31,11 +31,11 @@ use Rattle.session.specs.Commands.{Word, add-recipient, add-identity, wrap-file
 use Rattle.session.specs.PhaseOne.{Tables, Buffers, falls, decided, applied, filledBy, firstOf, commandIn, payloadIn, numberOne}
 use Rattle.session.specs.Views.{Kind, recipients, identities, keys, headers, tableOf, bufferOf, viewOf, rowsOf}
 use Rattle.session.proofs.Laws.Views.{Reached, applied-reached, applied-view, payload-stored, space, header-space}
-use Rattle.conversation.specs.Session.{Session, moved, phaseAfter}
+use Rattle.conversation.specs.Session.{Session, moved, phaseAfter, openedSession}
 use Rattle.conversation.specs.Receiving.{Received, heard, refusedReceipt, receivedStanza, receivedAs, received}
 use Rattle.conversation.specs.Calls.{receive, heardNumber, outcome, lineRead, bodyRead}
 use Rattle.conversation.specs.Phases.{Whole, lineIn, bodyIn, isDone, commandOf, rowsFrom, isRight}
-use Rattle.conversation.proofs.Laws.Limits.{Within, Held, Passes, Grown, same as unchanged, more, within-fits, grown-within, grown-held}
+use Rattle.conversation.proofs.Laws.Limits.{Within, Held, Passes, Grown, same as unchanged, more, within-fits, grown-within, grown-length, grown-held}
 
 -- ---- a command that was read: only the word done makes done, and no fault has the number 0
 
@@ -162,88 +162,102 @@ module _ (t : Tables) (b : Buffers) where
 first-same : (n : ℕ) → firstOf n 0 ≡ n
 first-same n = cases (eqb n 0) (λ e. rw e (sym (eqb-true n 0 e))) (λ e. rw e)
 
-module _ (machine : Machine) (name : List ℕ) (screen : Bool) where
-  -- a session in phase one with these tables
-  abbrev pub going : Tables → Session
-  going t = record { machine = machine; name = name; screen = screen; phase = One; tables = t }
+-- its arguments' text is one that can be written
+whole-line : (x : List ℕ) → Whole x → isLine (lineIn x) ≡ true
+whole-line x w =
+    let l = drop 3 (take (w .line) x) in
+    let y = bodyOf (drop (w .line + 1) (take (length x) x)) in
+    ap (λ r. isLine (lineRead r x)) (w .read) ∙ and-true (isLine l) (leb (length (stanzaText l y)) 8192) (written-read x (w .line) (w .body) (length x) (w .read) .writable) .0
 
+module _ (machine : Machine) (name : List ℕ) where
   -- the payload of a text
   abbrev pub payload : List ℕ → List ℕ
   payload x = payloadIn machine name (lineIn x) (bodyIn x)
 
-  -- its arguments' text is one that can be written
-  whole-line : (x : List ℕ) → Whole x → isLine (lineIn x) ≡ true
-  whole-line x w =
-      let l = drop 3 (take (w .line) x) in
-      let y = bodyOf (drop (w .line + 1) (take (length x) x)) in
-      ap (λ r. isLine (lineRead r x)) (w .read) ∙ and-true (isLine l) (leb (length (stanzaText l y)) 8192) (written-read x (w .line) (w .body) (length x) (w .read) .writable) .0
+  proper : (x : List ℕ) → Proper (isDone x) (commandOf machine name x)
+  proper x = word-proper name (lineIn x) (length (bodyIn x)) machine (argumentOf (lineIn x) 0)
 
   module _ (t : Tables) (b : Buffers) where
-    -- the decision of a text
+    -- the decision of a text; the tables and the buffers behind it where it is accepted
     abbrev pub judged : List ℕ → ℕ
     judged x = decided t b (commandOf machine name x) (length (payload x))
 
-    picked : (n : ℕ) (r : Received) → heardNumber (r .answer) ≡ 0 → heardNumber (pick (eqb n 0) r (refusedReceipt n (going t) b) .answer) ≡ n
+    abbrev pub tablesWith : List ℕ → Tables
+    tablesWith x = applied t b (commandOf machine name x) (payload x)
+
+    abbrev pub buffersWith : List ℕ → Buffers
+    buffersWith x = filledBy t b (commandOf machine name x) (payload x)
+
+    -- it is accepted exactly if it is right and its rows are within the limits
+    pub judged-iff : (x : List ℕ) → Going t b → (judged x ≡ 0) ↔ ((isRight (commandOf machine name x) ≡ true) × Fitting t b (λ k. rowsFrom machine name k x))
+    judged-iff x g =
+        let c = commandOf machine name x in
+        (λ z. (decided-right t b (isDone x) c (length (payload x)) (proper x) z, λ k. grown-within (grown t b c (payload x) k) z (g k)), λ h. decided-zero t b c (payload x) g (h .0) (h .1))
+
+    module _ (x : List ℕ) (w : Whole x) (g : Going t b) (z : judged x ≡ 0) where
+      reached : Reached t
+      unfolding Reached
+      reached k = g k .reached
+
+      -- then its rows stand behind those of before, and buffers keep their lengths
+      pub view-with : (k : Kind) → viewOf k (tablesWith x) (buffersWith x) ≡ viewOf k t b ++ rowsFrom machine name k x
+      view-with k = applied-view t b (payload x) reached (commandOf machine name x) z k
+
+      pub length-with : (k : Kind) → length (bufferOf k (buffersWith x)) ≡ length (bufferOf k b)
+      length-with k = grown-length (grown t b (commandOf machine name x) (payload x) k) z
+
+      pub going-with : Going (tablesWith x) (buffersWith x)
+      unfolding Reached
+      going-with k =
+          let c = commandOf machine name x in
+          grown-held (grown t b c (payload x) k) z (g k) (applied-reached t b c (payload x) (payload-stored name (lineIn x) (bodyIn x) (whole-line x w) machine) reached k) (view-with k)
+
+  -- a session in phase one with these tables
+  abbrev pub going : Bool → Tables → Session
+  going screen t = moved (openedSession machine name screen) One t
+
+  module _ (screen : Bool) (t : Tables) (b : Buffers) where
+    abbrev now : Session
+    now = going screen t
+
+    picked : (n : ℕ) (r : Received) → heardNumber (r .answer) ≡ 0 → heardNumber (pick (eqb n 0) r (refusedReceipt n now b) .answer) ≡ n
     picked n r q = cases (eqb n 0) (λ e. rw e (q ∙ sym (eqb-true n 0 e))) (λ e. rw e)
 
-    -- what it leaves, by whether it is accepted
+    -- what a text leaves, by whether it is accepted
     abbrev left : List ℕ → Bool → Received
     left x f = let c = commandOf machine name x in record {
       answer = heard (wordOf c) (length x);
-      session = moved (going t) (phaseAfter c) (pick f (applied t b c (payload x)) t);
-      buffers = pick f (filledBy t b c (payload x)) b;
+      session = moved now (phaseAfter c) (pick f (tablesWith t b x) t);
+      buffers = pick f (buffersWith t b x) b;
     }
 
     module _ (x : List ℕ) (w : Whole x) where
-      read-as : received (going t) x b ≡ receivedStanza (going t) b (lineIn x) (bodyIn x) (length x)
+      read-as : received now x b ≡ receivedStanza now b (lineIn x) (bodyIn x) (length x)
       unfolding received
-      read-as = subst (λ r. receivedAs r (going t) x b ≡ receivedStanza (going t) b (lineRead r x) (bodyRead r x) (length x)) (sym (w .read)) refl
+      read-as = subst (λ r. receivedAs r now x b ≡ receivedStanza now b (lineRead r x) (bodyRead r x) (length x)) (sym (w .read)) refl
 
-      -- its number is the decision
-      pub number-received : outcome (going t) b (receive x) .number ≡ judged x
+      -- the number of the call is the decision
+      pub number-received : outcome now b (receive x) .number ≡ judged t b x
       unfolding receivedStanza
       number-received =
-          let n = firstOf (judged x) 0 in
-          ap (λ r. heardNumber (r .answer)) read-as ∙ picked n (left x (eqb n 0)) refl ∙ first-same (judged x)
+          let n = firstOf (judged t b x) 0 in
+          ap (λ r. heardNumber (r .answer)) read-as ∙ picked n (left x (eqb n 0)) refl ∙ first-same (judged t b x)
 
-      accepted-leaves : judged x ≡ 0 → received (going t) x b ≡ left x true
-      unfolding receivedStanza
-      accepted-leaves z =
-          let n = firstOf (judged x) 0 in
-          read-as ∙ ap (λ f. pick f (left x f) (refusedReceipt n (going t) b)) (eq-eqb n 0 (first-same (judged x) ∙ z))
+      module _ (z : judged t b x ≡ 0) where
+        leaves : received now x b ≡ left x true
+        unfolding receivedStanza
+        leaves =
+            let n = firstOf (judged t b x) 0 in
+            read-as ∙ ap (λ f. pick f (left x f) (refusedReceipt n now b)) (eq-eqb n 0 (first-same (judged t b x) ∙ z))
 
-      -- where it is accepted: the tables and the buffers, still in phase one if it is not done
-      pub session-received : isDone x ≡ false → judged x ≡ 0 → outcome (going t) b (receive x) .session ≡ going (applied t b (commandOf machine name x) (payload x))
-      session-received d z =
-          let c = commandOf machine name x in
-          let p : Proper false c = subst (λ f. Proper f c) d (word-proper name (lineIn x) (length (bodyIn x)) machine (argumentOf (lineIn x) 0)) in
-          ap (λ r. r .session) (accepted-leaves z) ∙ ap (λ q. moved (going t) q (applied t b c (payload x))) (proper-phase c p)
+        pub tables-received : outcome now b (receive x) .session .tables ≡ tablesWith t b x
+        tables-received = ap (λ r. r .session .tables) leaves
 
-      pub tables-received : judged x ≡ 0 → outcome (going t) b (receive x) .session .tables ≡ applied t b (commandOf machine name x) (payload x)
-      tables-received z = ap (λ r. r .session .tables) (accepted-leaves z)
+        pub buffers-received : outcome now b (receive x) .buffers ≡ buffersWith t b x
+        buffers-received = ap (λ r. r .buffers) leaves
 
-      pub buffers-received : judged x ≡ 0 → outcome (going t) b (receive x) .buffers ≡ filledBy t b (commandOf machine name x) (payload x)
-      buffers-received z = ap (λ r. r .buffers) (accepted-leaves z)
-
-      -- it is accepted exactly if it is right and its rows are within the limits
-      pub received-iff : Going t b → (judged x ≡ 0) ↔ ((isRight (commandOf machine name x) ≡ true) × Fitting t b (λ k. rowsFrom machine name k x))
-      received-iff g =
-          let c = commandOf machine name x in
-          (λ z. (decided-right t b (isDone x) c (length (payload x)) (word-proper name (lineIn x) (length (bodyIn x)) machine (argumentOf (lineIn x) 0)) z,
-            λ k. grown-within (grown t b c (payload x) k) z (g k)),
-          λ h. decided-zero t b c (payload x) g (h .0) (h .1))
-
-      module _ (g : Going t b) (z : judged x ≡ 0) where
-        reached : Reached t
-        unfolding Reached
-        reached k = g k .reached
-
-        -- then its rows stand behind those of before
-        pub view-received : (k : Kind) → viewOf k (applied t b (commandOf machine name x) (payload x)) (filledBy t b (commandOf machine name x) (payload x)) ≡ viewOf k t b ++ rowsFrom machine name k x
-        view-received k = applied-view t b (payload x) reached (commandOf machine name x) z k
-
-        pub going-received : Going (applied t b (commandOf machine name x) (payload x)) (filledBy t b (commandOf machine name x) (payload x))
-        unfolding Reached
-        going-received k =
-            let c = commandOf machine name x in
-            grown-held (grown t b c (payload x) k) z (g k) (applied-reached t b c (payload x) (payload-stored name (lineIn x) (bodyIn x) (whole-line x w) machine) reached k) (view-received k)
+        -- it stays in phase one if it is not done
+        pub session-received : isDone x ≡ false → outcome now b (receive x) .session ≡ moved now One (tablesWith t b x)
+        session-received d =
+            let p : Proper false (commandOf machine name x) = subst (λ f. Proper f (commandOf machine name x)) d (proper x) in
+            ap (λ r. r .session) leaves ∙ ap (λ q. moved now q (tablesWith t b x)) (proper-phase (commandOf machine name x) p)

@@ -1,0 +1,116 @@
+-- Which phases are accepted, and the tables that an accepted one leaves.
+use Prim.Native.Nat.{ℕ}
+use mathlib.Core.Path.{_≡_, refl, sym, ap, ap₂, _∙_, subst}
+use mathlib.Core.Bool.{Bool, true, false}
+use mathlib.Core.Logic.{_↔_}
+use mathlib.Core.List.{List, [], _∷_, _++_, map, append-nil, append-assoc}
+use lib.ListN.{length}
+use native.Mathlib.Omega.{arith}
+use Rattle.tables.specs.Tables.{Table, Row}
+use Rattle.session.specs.declared.commands.Machine.{Machine}
+use Rattle.session.specs.Commands.{Command, recipient, identity, key, header, done, other, bad}
+use Rattle.session.specs.PhaseOne.{Tables, Buffers, openedTables, applied, filledBy}
+use Rattle.session.specs.Views.{Kind, recipients, identities, keys, headers, bufferOf, viewOf}
+use Rattle.session.proofs.Laws.Views.{Reached, opened-reached}
+use Rattle.conversation.specs.Session.{Session, openedSession}
+use Rattle.conversation.specs.Calls.{Call, receive, outcome, State, after, numbers, AllZero, Accepted}
+use Rattle.conversation.specs.Phases.{All, Whole, isDone, commandOf, rowsFrom, Phase, textsOf, IsPhase, callsOf, isRight, rowsIn, Rising, Allowed}
+use Rattle.conversation.proofs.Laws.Limits.{Ordered, Within, within-front}
+use Rattle.conversation.proofs.Laws.Steps.{Going, Fitting, payload, judged, tablesWith, buffersWith, judged-iff, view-with, length-with, going-with, going, number-received, tables-received, buffers-received, session-received}
+
+-- the tables of phase two
+abbrev lateOf : Tables → Table × Table × Table
+lateOf t = (t .errors, t .stanzas, t .returned)
+
+-- which phase one leaves as they were
+applied-late : (t : Tables) (b : Buffers) (c : Command) (p : List ℕ) → lateOf (applied t b c p) ≡ lateOf t
+applied-late t b (recipient m) p = refl
+applied-late t b (identity m) p = refl
+applied-late t b key p = refl
+applied-late t b (header i m) p = refl
+applied-late t b done p = refl
+applied-late t b other p = refl
+applied-late t b (bad n) p = refl
+
+-- what rows more leave
+record Left (t : Tables) (b : Buffers) (rows : Kind → List Row) (x : State) : Type 0 where
+  views : (k : Kind) → viewOf k (x .session .tables) (x .buffers) ≡ viewOf k t b ++ rows k
+  late : lateOf (x .session .tables) ≡ lateOf t
+
+within-same : {k : Kind} {m n : ℕ} {rs qs : List Row} → m ≡ n → rs ≡ qs → Within k m rs → Within k n qs
+within-same {k = k} {n = n} {rs = rs} e q w = subst (Within k n) q (subst (λ m. Within k m rs) e w)
+
+-- ---- from any tables that calls can reach
+
+module _ (machine : Machine) (name : List ℕ) where
+  abbrev Right : List (List ℕ) → Type 0
+  Right ts = All (λ x. isRight (commandOf machine name x) ≡ true) ts
+
+  abbrev rows : List (List ℕ) → Kind → List Row
+  rows ts k = rowsIn machine name k ts
+
+  -- the limits of more rows behind an accepted text
+  fitting-with : (t : Tables) (b : Buffers) (x : List ℕ) → Whole x → Going t b → judged machine name t b x ≡ 0 → (more : Kind → List Row) →
+      Fitting (tablesWith machine name t b x) (buffersWith machine name t b x) more ↔ Fitting t b (λ k. rowsFrom machine name k x ++ more k)
+  fitting-with t b x w g z more =
+      let l : (k : Kind) → length (bufferOf k (buffersWith machine name t b x)) ≡ length (bufferOf k b) = length-with machine name t b x w g z in
+      let v : (k : Kind) → viewOf k (tablesWith machine name t b x) (buffersWith machine name t b x) ++ more k ≡ viewOf k t b ++ (rowsFrom machine name k x ++ more k) =
+      λ k. ap (λ v. v ++ more k) (view-with machine name t b x w g z k) ∙ append-assoc (viewOf k t b) (rowsFrom machine name k x) (more k) in
+      (λ f k. within-same (l k) (v k) (f k), λ f k. within-same (sym (l k)) (sym (v k)) (f k))
+
+  -- and its own rows are the first of them
+  fitting-front : (t : Tables) (b : Buffers) (x : List ℕ) (more : Kind → List Row) → Fitting t b (λ k. rowsFrom machine name k x ++ more k) → Fitting t b (λ k. rowsFrom machine name k x)
+  fitting-front t b x more f k =
+      within-front k (length (bufferOf k b)) (viewOf k t b ++ rowsFrom machine name k x) (more k) (within-same refl (sym (append-assoc (viewOf k t b) (rowsFrom machine name k x) (more k))) (f k))
+
+  module _ (screen : Bool) where
+    abbrev session : Tables → Session
+    session t = going machine name screen t
+
+    -- the calls behind an accepted text that is not done
+    numbers-with : (t : Tables) (b : Buffers) (x : List ℕ) → Whole x → judged machine name t b x ≡ 0 → isDone x ≡ false → (cs : List Call) →
+        numbers (outcome (session t) b (receive x) .session) (outcome (session t) b (receive x) .buffers) cs ≡ numbers (session (tablesWith machine name t b x)) (buffersWith machine name t b x) cs
+    numbers-with t b x w z d cs = ap₂ (λ s b. numbers s b cs) (session-received machine name screen t b x w z d) (buffers-received machine name screen t b x w z)
+
+    from-iff : (xs : List (List ℕ)) (y : List ℕ) (t : Tables) (b : Buffers) → Going t b → All Whole (xs ++ (y ∷ [])) → All (λ x. isDone x ≡ false) xs →
+        Accepted (session t) b (map receive (xs ++ (y ∷ []))) ↔ (Right (xs ++ (y ∷ [])) × Fitting t b (rows (xs ++ (y ∷ []))))
+    unfolding All AllZero numbers rowsIn
+    from-iff [] y t b g w d =
+        let i = judged-iff machine name t b y g in
+        let n = number-received machine name screen t b y (w .0) in
+        (λ a. let h = i .0 (sym n ∙ a .0) in ((h .0, tt), λ k. within-same refl (ap (λ r. viewOf k t b ++ r) (sym (append-nil (rowsFrom machine name k y)))) (h .1 k)),
+        λ h. (n ∙ i .1 (h .0 .0, fitting-front t b y (λ k. []) (h .1)), tt))
+    from-iff (x ∷ xs) y t b g w d =
+        let i = judged-iff machine name t b x g in
+        let n = number-received machine name screen t b x (w .0) in
+        let cs = map receive (xs ++ (y ∷ [])) in
+        let rest = rows (xs ++ (y ∷ [])) in
+        let later : judged machine name t b x ≡ 0 → Accepted (session (tablesWith machine name t b x)) (buffersWith machine name t b x) cs ↔ (Right (xs ++ (y ∷ [])) × Fitting (tablesWith machine name t b x) (buffersWith machine name t b x) rest) =
+        λ z. from-iff xs y (tablesWith machine name t b x) (buffersWith machine name t b x) (going-with machine name t b x (w .0) g z) (w .1) (d .1) in
+        (λ a. let z = sym n ∙ a .0 in
+        let h = later z .0 (subst AllZero (numbers-with t b x (w .0) z (d .0) cs) (a .1)) in
+        ((i .0 z .0, h .0), fitting-with t b x (w .0) g z rest .0 (h .1)),
+        λ h. let z = i .1 (h .0 .0, fitting-front t b x rest (h .1)) in
+        (n ∙ z, subst AllZero (sym (numbers-with t b x (w .0) z (d .0) cs)) (later z .1 (h .0 .1, fitting-with t b x (w .0) g z rest .1 (h .1)))))
+
+    -- the tables and the buffers behind an accepted list
+    from-left : (xs : List (List ℕ)) (y : List ℕ) (t : Tables) (b : Buffers) → Going t b → All Whole (xs ++ (y ∷ [])) → All (λ x. isDone x ≡ false) xs →
+        Accepted (session t) b (map receive (xs ++ (y ∷ []))) → Left t b (rows (xs ++ (y ∷ []))) (after (session t) b (map receive (xs ++ (y ∷ []))))
+    unfolding All AllZero numbers rowsIn after
+    from-left [] y t b g w d a =
+        let z = sym (number-received machine name screen t b y (w .0)) ∙ a .0 in
+        let e = tables-received machine name screen t b y (w .0) z in
+        record {
+          views = λ k. ap₂ (viewOf k) e (buffers-received machine name screen t b y (w .0) z) ∙ view-with machine name t b y (w .0) g z k ∙ ap (λ r. viewOf k t b ++ r) (sym (append-nil (rowsFrom machine name k y)));
+          late = ap lateOf e ∙ applied-late t b (commandOf machine name y) (payload machine name y);
+        }
+    from-left (x ∷ xs) y t b g w d a =
+        let z = sym (number-received machine name screen t b x (w .0)) ∙ a .0 in
+        let cs = map receive (xs ++ (y ∷ [])) in
+        let h = from-left xs y (tablesWith machine name t b x) (buffersWith machine name t b x) (going-with machine name t b x (w .0) g z) (w .1) (d .1) (subst AllZero (numbers-with t b x (w .0) z (d .0) cs) (a .1)) in
+        let s : after (outcome (session t) b (receive x) .session) (outcome (session t) b (receive x) .buffers) cs ≡ after (session (tablesWith machine name t b x)) (buffersWith machine name t b x) cs =
+        ap₂ (λ s b. after s b cs) (session-received machine name screen t b x (w .0) z (d .0)) (buffers-received machine name screen t b x (w .0) z) in
+        subst (Left t b (rows (x ∷ (xs ++ (y ∷ []))))) (sym s) (record {
+          views = λ k. h .views k ∙ ap (λ v. v ++ rows (xs ++ (y ∷ [])) k) (view-with machine name t b x (w .0) g z k) ∙ append-assoc (viewOf k t b) (rowsFrom machine name k x) (rows (xs ++ (y ∷ [])) k);
+          late = h .late ∙ applied-late t b (commandOf machine name x) (payload machine name x);
+        })
