@@ -114,3 +114,53 @@ module _ (machine : Machine) (name : List ℕ) where
           views = λ k. h .views k ∙ ap (λ v. v ++ rows (xs ++ (y ∷ [])) k) (view-with machine name t b x (w .0) g z k) ∙ append-assoc (viewOf k t b) (rowsFrom machine name k x) (rows (xs ++ (y ∷ [])) k);
           late = h .late ∙ applied-late t b (commandOf machine name x) (payload machine name x);
         })
+
+-- ---- from an opening
+
+opened-going : (b : Buffers) → Going openedTables b
+unfolding Reached Rising
+opened-going b recipients = record { reached = opened-reached recipients; wide = refl; room = omega arith; ordered = tt }
+opened-going b identities = record { reached = opened-reached identities; wide = refl; room = omega arith; ordered = tt }
+opened-going b keys = record { reached = opened-reached keys; wide = refl; room = omega arith; ordered = tt }
+opened-going b headers = record { reached = opened-reached headers; wide = refl; room = omega arith; ordered = tt }
+
+opened-none : (b : Buffers) (k : Kind) (rs : List Row) → viewOf k openedTables b ++ rs ≡ rs
+opened-none b recipients rs = refl
+opened-none b identities rs = refl
+opened-none b keys rs = refl
+opened-none b headers rs = refl
+
+allowed-ordered : (rows : Kind → List Row) → Rising (rows headers) → (k : Kind) → Ordered k (rows k)
+allowed-ordered rows h recipients = tt
+allowed-ordered rows h identities = tt
+allowed-ordered rows h keys = tt
+allowed-ordered rows h headers = h
+
+-- a phase is accepted exactly if it is allowed
+pub accepted-iff : (machine : Machine) (name : List ℕ) (screen : Bool) (b : Buffers) (p : Phase) → IsPhase p →
+    Accepted (openedSession machine name screen) b (callsOf p) ↔ Allowed machine name b (textsOf p)
+accepted-iff machine name screen b p h =
+    let i = from-iff machine name screen (p .ahead) (p .last) openedTables b (opened-going b) (h .whole) (h .done-once) in
+    let e : (k : Kind) → viewOf k openedTables b ++ rowsIn machine name k (textsOf p) ≡ rowsIn machine name k (textsOf p) = λ k. opened-none b k (rowsIn machine name k (textsOf p)) in
+    (λ a. let f : (k : Kind) → Within k (length (bufferOf k b)) (rowsIn machine name k (textsOf p)) = λ k. within-same refl (e k) (i .0 a .1 k) in
+    record { right = i .0 a .0; slots = λ k. f k .slots; bytes = λ k. f k .bytes; rising = f headers .ordered },
+    λ a. i .1 (a .right, λ k. within-same refl (sym (e k)) (record { slots = a .slots k; bytes = a .bytes k; ordered = allowed-ordered (λ k. rowsIn machine name k (textsOf p)) (a .rising) k })))
+
+-- each kind's table is the rows of the phase's texts, in order, and phase two's tables are as they were opened
+pub record Holds (machine : Machine) (name : List ℕ) (p : Phase) (x : State) : Type 0 where
+  pub views : (k : Kind) → viewOf k (x .session .tables) (x .buffers) ≡ rowsIn machine name k (textsOf p)
+  pub errors : x .session .tables .errors ≡ openedTables .errors
+  pub stanzas : x .session .tables .stanzas ≡ openedTables .stanzas
+  pub returned : x .session .tables .returned ≡ openedTables .returned
+
+-- so are they behind an accepted phase
+pub accepted-tables : (machine : Machine) (name : List ℕ) (screen : Bool) (b : Buffers) (p : Phase) → IsPhase p →
+    Accepted (openedSession machine name screen) b (callsOf p) → Holds machine name p (after (openedSession machine name screen) b (callsOf p))
+accepted-tables machine name screen b p h a =
+    let l = from-left machine name screen (p .ahead) (p .last) openedTables b (opened-going b) (h .whole) (h .done-once) a in
+    record {
+      views = λ k. l .views k ∙ opened-none b k (rowsIn machine name k (textsOf p));
+      errors = ap (λ q. q .0) (l .late);
+      stanzas = ap (λ q. q .1) (l .late);
+      returned = ap (λ q. q .2) (l .late);
+    }
