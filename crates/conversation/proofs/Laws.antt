@@ -2,3 +2,4 @@
 pub mod Limits
 pub mod Steps
 pub mod Allowed
+pub mod Order

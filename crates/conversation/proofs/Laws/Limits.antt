@@ -4,7 +4,7 @@ use mathlib.Core.Path.{_≡_, refl, sym, ap, _∙_, subst}
 use mathlib.Core.Bool.{Bool, true, false, _&&_}
 use mathlib.Core.Logic.{_↔_}
 use mathlib.Core.List.{List, [], _∷_, _++_, map, map-append, append-nil}
-use lib.Dec.{ltb, leb}
+use lib.Dec.{ltb, leb, eqb}
 use lib.ListN.{length, take, drop, getD, length-append, length-take, length-drop}
 use lib.Seq.{take-suc}
 use native.Mathlib.Omega.{arith}
@@ -185,6 +185,11 @@ placed-length t p b f =
     simp (length-append, length-take, length-drop) (omega arith)
 
 module _ {k : Kind} {t : Table} {b : List ℕ} {d : ℕ} where
+  -- one row or none
+  pub grown-rows : {rs : List Row} {t′ : Table} {b′ : List ℕ} → Grown k t b d rs t′ b′ → rs ≡ pick (eqb (length rs) 1) (rs ++ []) []
+  grown-rows same = refl
+  grown-rows (more p i m f) = refl
+
   -- the rows so far and its own are within the limits
   pub grown-within : {rs : List Row} {t′ : Table} {b′ : List ℕ} → Grown k t b d rs t′ b′ → d ≡ 0 → Held k t b → Within k (length b) (view t b ++ rs)
   grown-within same z h = subst (Within k (length b)) (sym (append-nil (view t b))) (held-within h)
