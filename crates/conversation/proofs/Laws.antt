@@ -3,3 +3,4 @@ pub mod Limits
 pub mod Steps
 pub mod Allowed
 pub mod Order
+pub mod Examples

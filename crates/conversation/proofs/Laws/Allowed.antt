@@ -9,7 +9,7 @@ use native.Mathlib.Omega.{arith}
 use Rattle.tables.specs.Tables.{Table, Row}
 use Rattle.session.specs.declared.commands.Machine.{Machine}
 use Rattle.session.specs.Commands.{Command, recipient, identity, key, header, done, other, bad}
-use Rattle.session.specs.PhaseOne.{Tables, Buffers, openedTables, applied, filledBy}
+use Rattle.session.specs.PhaseOne.{Tables, Buffers, openedTables, applied}
 use Rattle.session.specs.Views.{Kind, recipients, identities, keys, headers, bufferOf, viewOf}
 use Rattle.session.proofs.Laws.Views.{Reached, opened-reached}
 use Rattle.conversation.specs.Session.{Session, openedSession}
@@ -77,21 +77,23 @@ module _ (machine : Machine) (name : List ℕ) where
     unfolding All AllZero numbers rowsIn
     from-iff [] y t b g w d =
         let i = judged-iff machine name t b y g in
-        let n = number-received machine name screen t b y (w .0) in
-        (λ a. let h = i .0 (sym n ∙ a .0) in ((h .0, tt), λ k. within-same refl (ap (λ r. viewOf k t b ++ r) (sym (append-nil (rowsFrom machine name k y)))) (h .1 k)),
-        λ h. (n ∙ i .1 (h .0 .0, fitting-front t b y (λ k. []) (h .1)), tt))
+        let n = number-received machine name screen t b y (w .0) in (
+          λ a. let h = i .0 (sym n ∙ a .0) in ((h .0, tt), λ k. within-same refl (ap (λ r. viewOf k t b ++ r) (sym (append-nil (rowsFrom machine name k y)))) (h .1 k)),
+          λ h. (n ∙ i .1 (h .0 .0, fitting-front t b y (λ k. []) (h .1)), tt),
+        )
     from-iff (x ∷ xs) y t b g w d =
         let i = judged-iff machine name t b x g in
         let n = number-received machine name screen t b x (w .0) in
         let cs = map receive (xs ++ (y ∷ [])) in
         let rest = rows (xs ++ (y ∷ [])) in
         let later : judged machine name t b x ≡ 0 → Accepted (session (tablesWith machine name t b x)) (buffersWith machine name t b x) cs ↔ (Right (xs ++ (y ∷ [])) × Fitting (tablesWith machine name t b x) (buffersWith machine name t b x) rest) =
-        λ z. from-iff xs y (tablesWith machine name t b x) (buffersWith machine name t b x) (going-with machine name t b x (w .0) g z) (w .1) (d .1) in
-        (λ a. let z = sym n ∙ a .0 in
-        let h = later z .0 (subst AllZero (numbers-with t b x (w .0) z (d .0) cs) (a .1)) in
-        ((i .0 z .0, h .0), fitting-with t b x (w .0) g z rest .0 (h .1)),
-        λ h. let z = i .1 (h .0 .0, fitting-front t b x rest (h .1)) in
-        (n ∙ z, subst AllZero (sym (numbers-with t b x (w .0) z (d .0) cs)) (later z .1 (h .0 .1, fitting-with t b x (w .0) g z rest .1 (h .1)))))
+        λ z. from-iff xs y (tablesWith machine name t b x) (buffersWith machine name t b x) (going-with machine name t b x (w .0) g z) (w .1) (d .1) in (
+          λ a. let z = sym n ∙ a .0 in
+              let h = later z .0 (subst AllZero (numbers-with t b x (w .0) z (d .0) cs) (a .1)) in
+              ((i .0 z .0, h .0), fitting-with t b x (w .0) g z rest .0 (h .1)),
+          λ h. let z = i .1 (h .0 .0, fitting-front t b x rest (h .1)) in
+              (n ∙ z, subst AllZero (sym (numbers-with t b x (w .0) z (d .0) cs)) (later z .1 (h .0 .1, fitting-with t b x (w .0) g z rest .1 (h .1)))),
+        )
 
     -- the tables and the buffers behind an accepted list
     from-left : (xs : List (List ℕ)) (y : List ℕ) (t : Tables) (b : Buffers) → Going t b → All Whole (xs ++ (y ∷ [])) → All (λ x. isDone x ≡ false) xs →
@@ -141,10 +143,11 @@ pub accepted-iff : (machine : Machine) (name : List ℕ) (screen : Bool) (b : Bu
     Accepted (openedSession machine name screen) b (callsOf p) ↔ Allowed machine name b (textsOf p)
 accepted-iff machine name screen b p h =
     let i = from-iff machine name screen (p .ahead) (p .last) openedTables b (opened-going b) (h .whole) (h .done-once) in
-    let e : (k : Kind) → viewOf k openedTables b ++ rowsIn machine name k (textsOf p) ≡ rowsIn machine name k (textsOf p) = λ k. opened-none b k (rowsIn machine name k (textsOf p)) in
-    (λ a. let f : (k : Kind) → Within k (length (bufferOf k b)) (rowsIn machine name k (textsOf p)) = λ k. within-same refl (e k) (i .0 a .1 k) in
-    record { right = i .0 a .0; slots = λ k. f k .slots; bytes = λ k. f k .bytes; rising = f headers .ordered },
-    λ a. i .1 (a .right, λ k. within-same refl (sym (e k)) (record { slots = a .slots k; bytes = a .bytes k; ordered = allowed-ordered (λ k. rowsIn machine name k (textsOf p)) (a .rising) k })))
+    let e : (k : Kind) → viewOf k openedTables b ++ rowsIn machine name k (textsOf p) ≡ rowsIn machine name k (textsOf p) = λ k. opened-none b k (rowsIn machine name k (textsOf p)) in (
+      λ a. let f : (k : Kind) → Within k (length (bufferOf k b)) (rowsIn machine name k (textsOf p)) = λ k. within-same refl (e k) (i .0 a .1 k) in
+          record { right = i .0 a .0; slots = λ k. f k .slots; bytes = λ k. f k .bytes; rising = f headers .ordered },
+      λ a. i .1 (a .right, λ k. within-same refl (sym (e k)) (record { slots = a .slots k; bytes = a .bytes k; ordered = allowed-ordered (λ k. rowsIn machine name k (textsOf p)) (a .rising) k })),
+    )
 
 -- each kind's table is the rows of the phase's texts, in order, and phase two's tables are as they were opened
 pub record Holds (machine : Machine) (name : List ℕ) (p : Phase) (x : State) : Type 0 where

@@ -1,7 +1,7 @@
 -- One kind's table and the limits of its rows: slots, payload bytes and, for header stanzas, indices that never fall.
 use Prim.Native.Nat.{ℕ, zero, suc, _+_, _-_, _<_, _≤_}
 use mathlib.Core.Path.{_≡_, refl, sym, ap, _∙_, subst}
-use mathlib.Core.Bool.{Bool, true, false, _&&_}
+use mathlib.Core.Bool.{true, false}
 use mathlib.Core.Logic.{_↔_}
 use mathlib.Core.List.{List, [], _∷_, _++_, map, map-append, append-nil}
 use lib.Dec.{ltb, leb, eqb}
@@ -12,7 +12,7 @@ use borrow.Author.Tests.{ltb-true, ltb-false, leb-true, lt-ltb, le-ltb, le-leb}
 use Rattle.refusal.specs.Pick.{pick}
 use Rattle.refusal.proofs.Laws.Booleans.{and-true, true-and, cases}
 use Rattle.tables.specs.declared.tables.Entry.{Entry}
-use Rattle.tables.specs.Tables.{Table, Row, empty, fits, appended, entered, rowOf, view, placed, kept}
+use Rattle.tables.specs.Tables.{Table, Row, empty, fits, entered, rowOf, view, placed, kept}
 use Rattle.tables.proofs.Laws.Tables.{Kept, Chained, view-count}
 use Rattle.session.specs.PhaseOne.{falls}
 use Rattle.session.proofs.Laws.PhaseOne.{falls-none, falls-is}
@@ -170,7 +170,7 @@ module _ (t : Table) (b : List ℕ) (r : Row) where
 pub data Grown (k : Kind) (t : Table) (b : List ℕ) (d : ℕ) : List Row → Table → List ℕ → Type 0 where
   same : Grown k t b d [] t b
   more : (p : List ℕ) (i m : ℕ) → (d ≡ 0 → (fits t (length p) (length b) ≡ true) × Passes k t i) →
-    Grown k t b d (record { payload = p; index = i; mark = m } ∷ []) (entered t (length p) i m (length b)) (kept t p b)
+      Grown k t b d (record { payload = p; index = i; mark = m } ∷ []) (entered t (length p) i m (length b)) (kept t p b)
 
 held-within : {k : Kind} {t : Table} {b : List ℕ} → Held k t b → Within k (length b) (view t b)
 held-within {t = t} {b = b} h = record {

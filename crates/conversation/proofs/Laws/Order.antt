@@ -1,13 +1,11 @@
 -- Order between strangers means nothing, in phase one: two rearrangements of a phase are both accepted, with equal tables, or both refused.
 use Prim.Native.Nat.{ℕ, _≤_}
 use mathlib.Core.Path.{_≡_, refl, sym, ap, ap₂, _∙_, subst}
-use mathlib.Core.Bool.{Bool, true, false, false≢true, true≢false}
+use mathlib.Core.Bool.{Bool, true, false, true≢false}
 use mathlib.Core.Logic.{_↔_}
-use mathlib.Core.List.{List, [], _∷_, _++_, append-nil, append-assoc, List·Permᴰ, List·Permᴰ·nil, List·Permᴰ·cons, List·Permᴰ·swap, List·Permᴰ·trans, Permᴰ·symm}
-use lib.Dec.{eqb}
+use mathlib.Core.List.{List, [], _∷_, _++_, append-assoc, List·Permᴰ, List·Permᴰ·nil, List·Permᴰ·cons, List·Permᴰ·swap, List·Permᴰ·trans, Permᴰ·symm}
 use lib.ListN.{length}
 use Rattle.refusal.specs.Pick.{pick}
-use Rattle.tables.specs.Tables.{Row}
 use Rattle.session.specs.declared.commands.Machine.{Machine}
 use Rattle.session.specs.Commands.{Word, add-recipient, add-identity, wrap-file-key, recipient-stanza, done-word, other-word, wordIn, rowCommand}
 use Rattle.session.specs.PhaseOne.{Buffers, openedTables}
@@ -126,13 +124,14 @@ pub order-one : (machine : Machine) (name : List ℕ) (b : Buffers) (p q : Phase
     let s = openedSession machine name false in
     (Accepted s b (callsOf p) ↔ Accepted s b (callsOf q)) × (Accepted s b (callsOf p) → SameTables (after s b (callsOf p)) (after s b (callsOf q)))
 order-one machine name b p q hp hq r =
-    let forth = same-accepted machine name b p q hp hq r in
-    ((forth, same-accepted machine name b q p hq hp (turned machine name b p q r)),
-    λ a. let x = accepted-tables machine name false b p hp a in
-    let y = accepted-tables machine name false b q hq (forth a) in
-    record {
-      views = λ k. x .views k ∙ same-rows machine name b p q r k ∙ sym (y .views k);
-      errors = x .errors ∙ sym (y .errors);
-      stanzas = x .stanzas ∙ sym (y .stanzas);
-      returned = x .returned ∙ sym (y .returned);
-    })
+    let forth = same-accepted machine name b p q hp hq r in (
+      (forth, same-accepted machine name b q p hq hp (turned machine name b p q r)),
+      λ a. let x = accepted-tables machine name false b p hp a in
+          let y = accepted-tables machine name false b q hq (forth a) in
+          record {
+            views = λ k. x .views k ∙ same-rows machine name b p q r k ∙ sym (y .views k);
+            errors = x .errors ∙ sym (y .errors);
+            stanzas = x .stanzas ∙ sym (y .stanzas);
+            returned = x .returned ∙ sym (y .returned);
+          },
+    )

@@ -3,7 +3,7 @@ use Prim.Native.Nat.{ℕ, _+_}
 use mathlib.Core.Path.{_≡_, refl, sym, ap, _∙_, subst}
 use mathlib.Core.Bool.{Bool, true, false, _&&_, false≢true}
 use mathlib.Core.Logic.{_↔_, ⊎-elim}
-use mathlib.Core.List.{List, [], _∷_, _++_}
+use mathlib.Core.List.{List, _++_}
 use lib.Dec.{eqb, leb}
 use lib.ListN.{length, take, drop}
 use native.Mathlib.Omega.{arith}
@@ -15,7 +15,6 @@ use Rattle.base64.specs.Lines.{bodyOf}
 use Rattle.stanza.specs.Arguments.{isLine, countOf, argumentOf}
 use Rattle.stanza.specs.Grammar.{stanzaText}
 use Rattle.stanza.specs.Index.{readIndex}
-use Rattle.stanza.specs.Reading.{readFirst}
 use Rattle.stanza.proofs.Laws.Index.{read-index}
 use Rattle.stanza.proofs.Laws.RoundTrip.{written-read}
 use Rattle.bech32.specs.Text.{parse}
@@ -25,17 +24,16 @@ use Rattle.bech32.specs.declared.charset.Kind.the-variants as the-kind
 use Rattle.tables.specs.Tables.{Row, fits}
 use Rattle.session.specs.declared.commands.Machine.{Machine}
 use Rattle.session.specs.declared.commands.Machine.the-variants.{RecipientV1, IdentityV1}
-use Rattle.session.specs.declared.phases.Phase.{Phase}
 use Rattle.session.specs.declared.phases.Phase.the-variants.{One}
 use Rattle.session.specs.Commands.{Word, add-recipient, add-identity, wrap-file-key, recipient-stanza, done-word, other-word, addRecipient, addIdentity, wrapFileKey, recipientStanza, doneWord, wordIn, Command, recipient, identity, key, header, done, other, bad, textOfKind, textCommand, headerMark, indexed, isBare, rowCommand, wordOf}
-use Rattle.session.specs.PhaseOne.{Tables, Buffers, falls, decided, applied, filledBy, firstOf, commandIn, payloadIn, numberOne}
+use Rattle.session.specs.PhaseOne.{Tables, Buffers, falls, decided, applied, filledBy, firstOf, payloadIn}
 use Rattle.session.specs.Views.{Kind, recipients, identities, keys, headers, tableOf, bufferOf, viewOf, rowsOf}
 use Rattle.session.proofs.Laws.Views.{Reached, applied-reached, applied-view, payload-stored, space, header-space}
 use Rattle.conversation.specs.Session.{Session, moved, phaseAfter, openedSession}
 use Rattle.conversation.specs.Receiving.{Received, heard, refusedReceipt, receivedStanza, receivedAs, received}
 use Rattle.conversation.specs.Calls.{receive, heardNumber, outcome, lineRead, bodyRead}
 use Rattle.conversation.specs.Phases.{Whole, lineIn, bodyIn, isDone, commandOf, rowsFrom, isRight}
-use Rattle.conversation.proofs.Laws.Limits.{Within, Held, Passes, Grown, same as unchanged, more, within-fits, grown-within, grown-length, grown-held}
+use Rattle.conversation.proofs.Laws.Limits.{Within, Held, Grown, same as unchanged, more, within-fits, grown-within, grown-length, grown-held}
 
 -- ---- a command that was read: only the word done makes done, and no fault has the number 0
 
