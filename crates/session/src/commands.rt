@@ -14,13 +14,9 @@ use stanza::Index;
 
 // The words of phase one, compared with a command's first argument and written where an end sends.
 const ADD_RECIPIENT: [u8; 13] = *b"add-recipient";
-
 const ADD_IDENTITY: [u8; 12] = *b"add-identity";
-
 const WRAP_FILE_KEY: [u8; 13] = *b"wrap-file-key";
-
 const RECIPIENT_STANZA: [u8; 16] = *b"recipient-stanza";
-
 const DONE: [u8; 4] = *b"done";
 
 pub enum Machine {

@@ -4,7 +4,6 @@ ghost use Rattle.session.specs.Opening.{machineNamed, namedSaid};
 use crate::commands::Machine;
 
 const RECIPIENT_V1: [u8; 12] = *b"recipient-v1";
-
 const IDENTITY_V1: [u8; 11] = *b"identity-v1";
 
 // The machine of a name, or none.

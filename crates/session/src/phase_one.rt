@@ -12,10 +12,10 @@ use crate::commands::Command;
 use crate::commands::Machine;
 use crate::commands::parse_one;
 use crate::commands::rest_of;
-use refusal::Refusal;
 use tables::Table64;
 use tables::Table256;
 use tables::Table384;
+use refusal::Refusal;
 
 // The tables of both phases.
 pub struct Tables {
