@@ -13,7 +13,7 @@ use Rattle.session.specs.PhaseOne.{Tables, Buffers, openedTables, applied}
 use Rattle.session.specs.Views.{Kind, recipients, identities, keys, headers, bufferOf, viewOf}
 use Rattle.session.proofs.Laws.Views.{Reached, opened-reached}
 use Rattle.conversation.specs.Session.{Session, openedSession}
-use Rattle.conversation.specs.Calls.{Call, receive, outcome, State, after, numbers, AllZero, Accepted}
+use Rattle.conversation.specs.Calls.{receive, outcome, State, after, numbers, AllZero, Accepted}
 use Rattle.conversation.specs.Phases.{All, Whole, isDone, commandOf, rowsFrom, Phase, textsOf, IsPhase, callsOf, isRight, rowsIn, Rising, Allowed}
 use Rattle.conversation.proofs.Laws.Limits.{Ordered, Within, within-front}
 use Rattle.conversation.proofs.Laws.Steps.{Going, Fitting, payload, judged, tablesWith, buffersWith, judged-iff, view-with, length-with, going-with, going, number-received, tables-received, buffers-received, session-received}
@@ -43,35 +43,50 @@ within-same {k = k} {n = n} {rs = rs} e q w = subst (Within k n) q (subst (λ m.
 -- ---- from any tables that calls can reach
 
 module _ (machine : Machine) (name : List ℕ) where
+  -- every command is right
   abbrev Right : List (List ℕ) → Type 0
   Right ts = All (λ x. isRight (commandOf machine name x) ≡ true) ts
 
   abbrev rows : List (List ℕ) → Kind → List Row
   rows ts k = rowsIn machine name k ts
 
-  -- the limits of more rows behind an accepted text
-  fitting-with : (t : Tables) (b : Buffers) (x : List ℕ) → Whole x → Going t b → judged machine name t b x ≡ 0 → (more : Kind → List Row) →
-      Fitting (tablesWith machine name t b x) (buffersWith machine name t b x) more ↔ Fitting t b (λ k. rowsFrom machine name k x ++ more k)
-  fitting-with t b x w g z more =
-      let l : (k : Kind) → length (bufferOf k (buffersWith machine name t b x)) ≡ length (bufferOf k b) = length-with machine name t b x w g z in
-      let v : (k : Kind) → viewOf k (tablesWith machine name t b x) (buffersWith machine name t b x) ++ more k ≡ viewOf k t b ++ (rowsFrom machine name k x ++ more k) =
-      λ k. ap (λ v. v ++ more k) (view-with machine name t b x w g z k) ∙ append-assoc (viewOf k t b) (rowsFrom machine name k x) (more k) in
-      (λ f k. within-same (l k) (v k) (f k), λ f k. within-same (sym (l k)) (sym (v k)) (f k))
+  -- a text is accepted; the tables and the buffers behind it
+  abbrev Zero : Tables → Buffers → List ℕ → Type 0
+  Zero t b x = judged machine name t b x ≡ 0
 
-  -- and its own rows are the first of them
-  fitting-front : (t : Tables) (b : Buffers) (x : List ℕ) (more : Kind → List Row) → Fitting t b (λ k. rowsFrom machine name k x ++ more k) → Fitting t b (λ k. rowsFrom machine name k x)
-  fitting-front t b x more f k =
-      within-front k (length (bufferOf k b)) (viewOf k t b ++ rowsFrom machine name k x) (more k) (within-same refl (sym (append-assoc (viewOf k t b) (rowsFrom machine name k x) (more k))) (f k))
+  abbrev tables : Tables → Buffers → List ℕ → Tables
+  tables t b x = tablesWith machine name t b x
+
+  abbrev buffers : Tables → Buffers → List ℕ → Buffers
+  buffers t b x = buffersWith machine name t b x
+
+  module _ (t : Tables) (b : Buffers) (x : List ℕ) (more : Kind → List Row) where
+    -- rows more behind its own
+    view-more : Whole x → Going t b → Zero t b x → (k : Kind) → viewOf k (tables t b x) (buffers t b x) ++ more k ≡ viewOf k t b ++ (rowsFrom machine name k x ++ more k)
+    view-more w g z k = ap (λ v. v ++ more k) (view-with machine name t b x w g z k) ∙ append-assoc (viewOf k t b) (rowsFrom machine name k x) (more k)
+
+    -- their limits are the same
+    fitting-more : Whole x → Going t b → Zero t b x → Fitting (tables t b x) (buffers t b x) more ↔ Fitting t b (λ k. rowsFrom machine name k x ++ more k)
+    fitting-more w g z =
+        let l = length-with machine name t b x w g z in
+        let v = view-more w g z in
+        (λ f k. within-same (l k) (v k) (f k), λ f k. within-same (sym (l k)) (sym (v k)) (f k))
+
+    -- and its own are the first of them
+    fitting-front : Fitting t b (λ k. rowsFrom machine name k x ++ more k) → Fitting t b (λ k. rowsFrom machine name k x)
+    fitting-front f k =
+        within-front k (length (bufferOf k b)) (viewOf k t b ++ rowsFrom machine name k x) (more k) (within-same refl (sym (append-assoc (viewOf k t b) (rowsFrom machine name k x) (more k))) (f k))
 
   module _ (screen : Bool) where
     abbrev session : Tables → Session
     session t = going machine name screen t
 
-    -- the calls behind an accepted text that is not done
-    numbers-with : (t : Tables) (b : Buffers) (x : List ℕ) → Whole x → judged machine name t b x ≡ 0 → isDone x ≡ false → (cs : List Call) →
-        numbers (outcome (session t) b (receive x) .session) (outcome (session t) b (receive x) .buffers) cs ≡ numbers (session (tablesWith machine name t b x)) (buffersWith machine name t b x) cs
-    numbers-with t b x w z d cs = ap₂ (λ s b. numbers s b cs) (session-received machine name screen t b x w z d) (buffers-received machine name screen t b x w z)
+    -- what follows an accepted text that is not done
+    follows : {X : Type 0} (f : Session → Buffers → X) (t : Tables) (b : Buffers) (x : List ℕ) → Whole x → Zero t b x → isDone x ≡ false →
+        f (outcome (session t) b (receive x) .session) (outcome (session t) b (receive x) .buffers) ≡ f (session (tables t b x)) (buffers t b x)
+    follows f t b x w z d = ap₂ f (session-received machine name screen t b x w z d) (buffers-received machine name screen t b x w z)
 
+    -- texts of which only the last may be done are accepted exactly if they are right and their rows are within the limits
     from-iff : (xs : List (List ℕ)) (y : List ℕ) (t : Tables) (b : Buffers) → Going t b → All Whole (xs ++ (y ∷ [])) → All (λ x. isDone x ≡ false) xs →
         Accepted (session t) b (map receive (xs ++ (y ∷ []))) ↔ (Right (xs ++ (y ∷ [])) × Fitting t b (rows (xs ++ (y ∷ []))))
     unfolding All AllZero numbers rowsIn
@@ -85,17 +100,18 @@ module _ (machine : Machine) (name : List ℕ) where
         let i = judged-iff machine name t b x g in
         let n = number-received machine name screen t b x (w .0) in
         let cs = map receive (xs ++ (y ∷ [])) in
-        let rest = rows (xs ++ (y ∷ [])) in
-        let later : judged machine name t b x ≡ 0 → Accepted (session (tablesWith machine name t b x)) (buffersWith machine name t b x) cs ↔ (Right (xs ++ (y ∷ [])) × Fitting (tablesWith machine name t b x) (buffersWith machine name t b x) rest) =
-        λ z. from-iff xs y (tablesWith machine name t b x) (buffersWith machine name t b x) (going-with machine name t b x (w .0) g z) (w .1) (d .1) in (
+        let more = rows (xs ++ (y ∷ [])) in
+        let later : Zero t b x → Accepted (session (tables t b x)) (buffers t b x) cs ↔ (Right (xs ++ (y ∷ [])) × Fitting (tables t b x) (buffers t b x) more) =
+        λ z. from-iff xs y (tables t b x) (buffers t b x) (going-with machine name t b x (w .0) g z) (w .1) (d .1) in
+        let calls : Zero t b x → _ ≡ numbers (session (tables t b x)) (buffers t b x) cs = λ z. follows (λ s b. numbers s b cs) t b x (w .0) z (d .0) in (
           λ a. let z = sym n ∙ a .0 in
-              let h = later z .0 (subst AllZero (numbers-with t b x (w .0) z (d .0) cs) (a .1)) in
-              ((i .0 z .0, h .0), fitting-with t b x (w .0) g z rest .0 (h .1)),
-          λ h. let z = i .1 (h .0 .0, fitting-front t b x rest (h .1)) in
-              (n ∙ z, subst AllZero (sym (numbers-with t b x (w .0) z (d .0) cs)) (later z .1 (h .0 .1, fitting-with t b x (w .0) g z rest .1 (h .1)))),
+              let h = later z .0 (subst AllZero (calls z) (a .1)) in
+              ((i .0 z .0, h .0), fitting-more t b x more (w .0) g z .0 (h .1)),
+          λ h. let z = i .1 (h .0 .0, fitting-front t b x more (h .1)) in
+              (n ∙ z, subst AllZero (sym (calls z)) (later z .1 (h .0 .1, fitting-more t b x more (w .0) g z .1 (h .1)))),
         )
 
-    -- the tables and the buffers behind an accepted list
+    -- and what they leave then
     from-left : (xs : List (List ℕ)) (y : List ℕ) (t : Tables) (b : Buffers) → Going t b → All Whole (xs ++ (y ∷ [])) → All (λ x. isDone x ≡ false) xs →
         Accepted (session t) b (map receive (xs ++ (y ∷ []))) → Left t b (rows (xs ++ (y ∷ []))) (after (session t) b (map receive (xs ++ (y ∷ []))))
     unfolding All AllZero numbers rowsIn after
@@ -109,11 +125,10 @@ module _ (machine : Machine) (name : List ℕ) where
     from-left (x ∷ xs) y t b g w d a =
         let z = sym (number-received machine name screen t b x (w .0)) ∙ a .0 in
         let cs = map receive (xs ++ (y ∷ [])) in
-        let h = from-left xs y (tablesWith machine name t b x) (buffersWith machine name t b x) (going-with machine name t b x (w .0) g z) (w .1) (d .1) (subst AllZero (numbers-with t b x (w .0) z (d .0) cs) (a .1)) in
-        let s : after (outcome (session t) b (receive x) .session) (outcome (session t) b (receive x) .buffers) cs ≡ after (session (tablesWith machine name t b x)) (buffersWith machine name t b x) cs =
-        ap₂ (λ s b. after s b cs) (session-received machine name screen t b x (w .0) z (d .0)) (buffers-received machine name screen t b x (w .0) z) in
-        subst (Left t b (rows (x ∷ (xs ++ (y ∷ []))))) (sym s) (record {
-          views = λ k. h .views k ∙ ap (λ v. v ++ rows (xs ++ (y ∷ [])) k) (view-with machine name t b x (w .0) g z k) ∙ append-assoc (viewOf k t b) (rowsFrom machine name k x) (rows (xs ++ (y ∷ [])) k);
+        let more = rows (xs ++ (y ∷ [])) in
+        let h = from-left xs y (tables t b x) (buffers t b x) (going-with machine name t b x (w .0) g z) (w .1) (d .1) (subst AllZero (follows (λ s b. numbers s b cs) t b x (w .0) z (d .0)) (a .1)) in
+        subst (Left t b (rows (x ∷ (xs ++ (y ∷ []))))) (sym (follows (λ s b. after s b cs) t b x (w .0) z (d .0))) (record {
+          views = λ k. h .views k ∙ view-more t b x more (w .0) g z k;
           late = h .late ∙ applied-late t b (commandOf machine name x) (payload machine name x);
         })
 

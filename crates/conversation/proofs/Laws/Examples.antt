@@ -52,6 +52,7 @@ end = stanzaText (lineSent done-word []) []
 abbrev pub plugin : List ℕ
 plugin = 120 ∷ []
 
+-- a phase, and the same commands in another order with an unknown one among them
 abbrev pub given : Phase
 given = record { ahead = recipientA ∷ fileKey ∷ recipientB ∷ identityC ∷ []; last = end }
 
@@ -64,6 +65,7 @@ given-whole : All Whole (textsOf given)
 unfolding All isCharacter valueOf characterOf encoded decoded endsWell wrapped unwrapped run isGraphic next verdict scan found
 given-whole = (record { line = 18; body = 0; read = refl }, (record { line = 16; body = 16; read = refl }, (record { line = 18; body = 0; read = refl }, (record { line = 17; body = 0; read = refl }, (record { line = 7; body = 0; read = refl }, tt)))))
 
+-- the first is a phase
 pub given-phase : IsPhase given
 unfolding All isCharacter valueOf characterOf encoded decoded endsWell wrapped unwrapped run isGraphic next verdict scan found isWordByte before words same
 given-phase = record { whole = given-whole; done-once = (refl, (refl, (refl, (refl, tt)))); done-last = refl }
@@ -72,12 +74,14 @@ unknown-whole : Whole unknown
 unfolding isCharacter valueOf characterOf encoded decoded endsWell wrapped unwrapped run isGraphic next verdict scan found
 unknown-whole = record { line = 4; body = 0; read = refl }
 
+-- the second is one
 pub turned-phase : IsPhase turned
 unfolding All isCharacter valueOf characterOf encoded decoded endsWell wrapped unwrapped run isGraphic next verdict scan found isWordByte before words same
 turned-phase =
     let w = given-whole in
     record { whole = (w .1 .1 .1 .0, (unknown-whole, (w .0, (w .1 .1 .0, (w .1 .0, (w .1 .1 .1 .1 .0, tt)))))); done-once = (refl, (refl, (refl, (refl, (refl, tt))))); done-last = refl }
 
+-- each kind's own order is kept
 pub rearranged : Rearranged RecipientV1 plugin given turned
 unfolding keep isCharacter valueOf characterOf encoded decoded endsWell wrapped unwrapped run isGraphic next verdict scan found isWordByte before words same
 rearranged = record {
@@ -113,15 +117,17 @@ allowed = record { right = (refl, (refl, (refl, (refl, (refl, tt))))); slots = s
     bytes keys = lit≤ tt
     bytes headers = lit≤ tt
 
+-- the plugin's session, just opened
 abbrev pub start : Session
 start = openedSession RecipientV1 plugin false
 
--- so both are accepted, and leave equal tables
+-- so both are accepted
 pub both-accepted : Accepted start lent (callsOf given) × Accepted start lent (callsOf turned)
 both-accepted =
     let a = accepted-iff RecipientV1 plugin false lent given given-phase .1 allowed in
     (a, order-one RecipientV1 plugin lent given turned given-phase turned-phase rearranged .0 .0 a)
 
+-- and leave equal tables
 pub same-tables : SameTables (after start lent (callsOf given)) (after start lent (callsOf turned))
 same-tables = order-one RecipientV1 plugin lent given turned given-phase turned-phase rearranged .1 (both-accepted .0)
 
@@ -130,10 +136,11 @@ pub two-recipients : map (λ r. r .payload) (viewOf recipients (after start lent
 unfolding rowsIn isCharacter valueOf characterOf encoded decoded endsWell wrapped unwrapped run isGraphic next verdict scan found isWordByte before words same
 two-recipients = ap (map (λ r. r .payload)) (accepted-tables RecipientV1 plugin false lent turned turned-phase (both-accepted .1) .views recipients)
 
--- with a recipients' buffer of 1 byte both are refused
+-- a recipients' buffer of 1 byte
 abbrev pub short : Buffers
 short = buffersOf (0 ∷ []) (0 ∷ []) (replicate 16 0) []
 
+-- with it both are refused
 pub both-refused : (Accepted start short (callsOf given) → ⊥) × (Accepted start short (callsOf turned) → ⊥)
 unfolding rowsIn bytesOf isCharacter valueOf characterOf encoded decoded endsWell wrapped unwrapped run isGraphic next verdict scan found isWordByte before words same
 both-refused =

@@ -118,8 +118,7 @@ module _ (machine : Machine) (name : List ℕ) (b : Buffers) where
   same-accepted : (p q : Phase) → IsPhase p → IsPhase q → Rearranged machine name p q → Accepted (openedSession machine name false) b (callsOf p) → Accepted (openedSession machine name false) b (callsOf q)
   same-accepted p q hp hq r a = accepted-iff machine name false b q hq .1 (same-allowed p q r (accepted-iff machine name false b p hp .0 a))
 
--- demand 3 for phase one: a session just opened receives a phase, or a rearrangement of it, with the same settings and buffers; all calls of the one are
--- accepted exactly if all calls of the other are, and then they leave equal tables
+-- demand 3 for phase one: received by a session just opened, a phase and a rearrangement of it are both accepted, with equal tables, or both refused
 pub order-one : (machine : Machine) (name : List ℕ) (b : Buffers) (p q : Phase) → IsPhase p → IsPhase q → Rearranged machine name p q →
     let s = openedSession machine name false in
     (Accepted s b (callsOf p) ↔ Accepted s b (callsOf q)) × (Accepted s b (callsOf p) → SameTables (after s b (callsOf p)) (after s b (callsOf q)))
