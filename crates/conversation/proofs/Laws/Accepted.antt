@@ -17,13 +17,13 @@ use Rattle.stanza.specs.Writing.{isWritable}
 use Rattle.stanza.proofs.Laws.RoundTrip.{written-read}
 use Rattle.session.specs.Commands.{Word, lineSent}
 use Rattle.session.specs.PhaseOne.{Buffers, commandIn, payloadIn, decided, applied, filledBy, numberOne, tablesOne, buffersOne}
-use Rattle.session.specs.Phases.{turnOne}
+use Rattle.session.specs.Phases.{turnOne, phaseAfter}
 use Rattle.session.specs.Views.{Kind, viewOf, rowsOf}
 use Rattle.session.specs.declared.phases.Phase.{Phase}
 use Rattle.session.specs.declared.phases.Phase.the-variants.{One, Two, Ended, Closed}
 use Rattle.session.proofs.Laws.PhaseOne.{accepted-one}
 use Rattle.session.proofs.Laws.Views.{Reached, applied-view, first-zero}
-use Rattle.conversation.specs.Session.{Session, moved, phaseAfter}
+use Rattle.conversation.specs.Session.{Session, moved}
 use Rattle.conversation.specs.Receiving.{Received, receivedStanza, receivedAs, received}
 use Rattle.conversation.specs.Sending.{Sent, shortness, sentStanza, sentLine, sent}
 use Rattle.conversation.specs.Calls.{Call, receive, send, heardNumber, sentNumber, outcome, lineIn, bodyIn, lineRead, bodyRead}

@@ -62,7 +62,7 @@ module _ (t : Tables) (b b′ : Buffers) (p : List ℕ) where
       let e = fits-again (t .keys) (length p) 0 0 (length (b .keys)) (length (b′ .keys)) (space (fits (t .keys) (length p) (length (b .keys))) h) (r keys) in
       (ap (λ x. pick x 0 8) e ∙ h, rw e)
   again (header i m) h r =
-      let e = fits-again (t .headers) (length p) i m (length (b .headers)) (length (b′ .headers)) (header-space (falls (t .headers) i) (fits (t .headers) (length p) (length (b .headers))) h) (r headers) in
+      let e = fits-again (t .headers) (length p) i m (length (b .headers)) (length (b′ .headers)) (header-space (falls (t .headers) i) (fits (t .headers) (length p) (length (b .headers))) h .0) (r headers) in
       (ap (λ x. pick (falls (t .headers) i) 7 (pick x 0 8)) e ∙ h, rw e)
   again done h r = (refl, refl)
   again other h r = (refl, refl)

@@ -1,6 +1,6 @@
 -- Sessions that an opening and calls can reach, refused calls included.
 use Prim.Native.Nat.{ℕ}
-use mathlib.Core.Path.{_≡_, refl, sym, subst}
+use mathlib.Core.Path.{_≡_, refl, sym, ap, subst, _∙_}
 use mathlib.Core.Bool.{Bool, true, false}
 use mathlib.Core.List.{List, [], _∷_}
 use lib.Dec.{eqb}
@@ -10,13 +10,13 @@ use Rattle.refusal.specs.Pick.{pick}
 use Rattle.refusal.proofs.Laws.Booleans.{cases}
 use Rattle.bech32.specs.Text.{isName}
 use Rattle.session.specs.Commands.{Command, recipient, identity, key, header, done, other, bad}
-use Rattle.session.specs.Opening.{Named, named, nameless, machineNamed}
+use Rattle.session.specs.Opening.{Named, named, nameless, machineNamed, Settings, refusedSettings, settingsOf, settings}
 use Rattle.session.specs.PhaseOne.{Tables, Buffers, openedTables, applied}
-use Rattle.session.specs.Phases.{closes}
+use Rattle.session.specs.Phases.{closes, phaseOpened}
 use Rattle.session.specs.declared.phases.Phase.the-variants.{One}
 use Rattle.session.specs.declared.commands.Machine.{Machine}
 use Rattle.session.proofs.Laws.Views.{Reached, opened-reached, applied-reached, payload-stored}
-use Rattle.conversation.specs.Session.{Session, closed, openedSession, refusedOpening, openedAs, opened}
+use Rattle.conversation.specs.Session.{Session, closed, openedSession, opened}
 use Rattle.conversation.specs.Calls.{Call, receive, send, outcome, sessionAfter, after, lineIn, bodyIn, commandOf, payloadOf}
 use Rattle.conversation.proofs.Laws.Accepted.{accepted}
 use Rattle.conversation.proofs.Laws.Refusals.{refusal}
@@ -42,19 +42,35 @@ opened-session machine name screen = empty-reached (openedSession machine name s
 
 -- any opening, a refused one too, hands back tables as opened
 pub opening-tables : (machine name : List ℕ) (screen : Bool) → opened machine name screen .session .tables ≡ openedTables
-opening-tables machine name screen = any (machineNamed machine)
-  where
-    any : (m : Named) → openedAs m name screen .session .tables ≡ openedTables
-    any nameless = refl
-    any (named m) = by (isName name)
-      where
-        by : (f : Bool) → pick f (record { number = 0; session = openedSession m name screen }) (refusedOpening 17) .session .tables ≡ openedTables
-        by true = refl
-        by false = refl
+opening-tables machine name screen = refl
 
 -- so what an opening hands back is one
 pub opening-reached : (machine name : List ℕ) (screen : Bool) → ReachedSession (opened machine name screen .session)
 opening-reached machine name screen = empty-reached (opened machine name screen .session) (opening-tables machine name screen)
+
+-- an accepted opening: the machine of that name, a plugin's name, and a session just opened by them
+pub record OpenedBy (machine name : List ℕ) (screen : Bool) : Type 0 where
+  pub of : Machine
+  pub machine-named : machineNamed machine ≡ named of
+  pub plugin-named : isName name ≡ true
+  pub session : opened machine name screen .session ≡ openedSession of name screen
+
+pub opening-accepted : (machine name : List ℕ) (screen : Bool) → opened machine name screen .number ≡ 0 → OpenedBy machine name screen
+opening-accepted machine name screen e = any (machineNamed machine) refl
+  where
+    any : (m : Named) → machineNamed machine ≡ m → OpenedBy machine name screen
+    any nameless q = let z : _≡_ {A = ℕ} 18 0 = ap (λ x. settingsOf x name .number) (sym q) ∙ e in absurd (omega arith)
+    any (named m) q =
+        cases (isName name)
+        (λ f.
+            let g : settings machine name ≡ record { number = 0; machine = m; name = name } = ap (λ x. settingsOf x name) q ∙ ap (λ x. pick x (record { number = 0; machine = m; name = name }) (refusedSettings 17)) f in
+            record {
+              of = m;
+              machine-named = q;
+              plugin-named = f;
+              session = ap (λ x. record { machine = x .machine; name = x .name; screen = screen; phase = phaseOpened (x .number); tables = openedTables }) g;
+            })
+        (λ f. let z : _≡_ {A = ℕ} 17 0 = sym (ap (λ x. settingsOf x name .number) q ∙ ap (λ x. pick x (record { number = 0; machine = m; name = name }) (refusedSettings 17) .number) f) ∙ e in absurd (omega arith))
 
 -- ---- calls
 

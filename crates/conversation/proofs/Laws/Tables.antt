@@ -15,7 +15,8 @@ use Rattle.session.specs.Commands.{Command, recipient, identity, key, header, d
 use Rattle.session.specs.PhaseOne.{Tables, Buffers, openedTables, applied, filledBy}
 use Rattle.session.specs.Views.{Kind, recipients, identities, keys, headers, tableOf, bufferOf, viewOf, rowsOf}
 use Rattle.session.proofs.Laws.Views.{Reached}
-use Rattle.conversation.specs.Session.{Session, moved, phaseAfter, opened}
+use Rattle.session.specs.Phases.{phaseAfter}
+use Rattle.conversation.specs.Session.{Session, moved, opened}
 use Rattle.conversation.specs.Calls.{Call, outcome, after, lineIn, bodyIn, commandOf, payloadOf, acceptedRows}
 use Rattle.conversation.proofs.Laws.Accepted.{applied-rows, accepted}
 use Rattle.conversation.proofs.Laws.Reached.{ReachedSession, empty-reached, opening-tables, call-reached, after-reached}

@@ -67,14 +67,14 @@ applied-reached t b done p h r k = r k
 applied-reached t b other p h r k = r k
 applied-reached t b (bad n) p h r k = r k
 
--- a command that needs space and is accepted fits
+-- a command that needs space and is accepted fits; the index of a header stanza does not fall
 pub space : (f : Bool) → _≡_ {A = ℕ} (pick f 0 8) 0 → f ≡ true
 space true h = refl
 space false h = absurd (omega arith)
 
-pub header-space : (g f : Bool) → _≡_ {A = ℕ} (pick g 7 (pick f 0 8)) 0 → f ≡ true
+pub header-space : (g f : Bool) → _≡_ {A = ℕ} (pick g 7 (pick f 0 8)) 0 → (f ≡ true) × (g ≡ false)
 header-space true f h = absurd (omega arith)
-header-space false f h = space f h
+header-space false f h = (space f h, refl)
 
 -- the row of an entry, where it fits
 own : (t : Table) (p b : List ℕ) (index mark : ℕ) → Kept t → fits t (length p) (length b) ≡ true →
@@ -105,7 +105,7 @@ module _ (t : Tables) (b : Buffers) (p : List ℕ) (r : Reached t) where
   applied-view (header i m) h recipients = none recipients
   applied-view (header i m) h identities = none identities
   applied-view (header i m) h keys = none keys
-  applied-view (header i m) h headers = own (t .headers) p (b .headers) i m (kept-of headers) (header-space (falls (t .headers) i) (fits (t .headers) (length p) (length (b .headers))) h)
+  applied-view (header i m) h headers = own (t .headers) p (b .headers) i m (kept-of headers) (header-space (falls (t .headers) i) (fits (t .headers) (length p) (length (b .headers))) h .0)
   applied-view done h k = none k
   applied-view other h k = none k
   applied-view (bad n) h k = none k

@@ -1,0 +1,148 @@
+-- The order theorem is not empty: a phase of four commands and a rearrangement of it with an unknown command more.
+use Prim.Native.Nat.{ℕ, _≤_}
+use mathlib.Core.Path.{_≡_, refl, ap}
+use mathlib.Core.Bool.{false}
+use mathlib.Core.List.{List, [], _∷_, map, Permᴰ·middle, List·Permᴰ·cons, List·Permᴰ·swap, List·Permᴰ·trans}
+use lib.Dec.{lit≤}
+use lib.ListN.{length, replicate}
+use native.Mathlib.Omega.{arith}
+use Rattle.base64.specs.Alphabet.{isCharacter, valueOf, characterOf}
+use Rattle.base64.specs.Code.{encoded, decoded, endsWell}
+use Rattle.base64.specs.Lines.{wrapped, unwrapped}
+use Rattle.refusal.specs.Run.{run}
+use Rattle.refusal.specs.Same.{same}
+use Rattle.stanza.specs.Arguments.{isGraphic, isWordByte, before, words}
+use Rattle.stanza.specs.Automaton.{next, verdict, scan}
+use Rattle.stanza.specs.Grammar.{stanzaText}
+use Rattle.stanza.specs.Reading.{found}
+use Rattle.session.specs.Commands.{add-recipient, add-identity, wrap-file-key, done-word, lineSent}
+use Rattle.session.specs.PhaseOne.{Buffers, buffersOf}
+use Rattle.session.specs.Views.{Kind, recipients, identities, keys, headers, bufferOf, viewOf}
+use Rattle.session.specs.declared.commands.Machine.the-variants.{RecipientV1}
+use Rattle.conversation.specs.Session.{Session, openedSession}
+use Rattle.conversation.specs.Calls.{after, Accepted}
+use Rattle.conversation.specs.Phases.{All, keep, Whole, isOf, Phase, textsOf, IsPhase, callsOf, rowsIn, slotsOf, bytesOf, Rising, Allowed, Rearranged, SameTables}
+use Rattle.conversation.proofs.Laws.Allowed.{accepted-iff, accepted-tables}
+use Rattle.conversation.proofs.Laws.Order.{order-one}
+
+-- "-> add-recipient a", and the same with b
+abbrev recipientA : List ℕ
+recipientA = stanzaText (lineSent add-recipient (97 ∷ [])) []
+
+abbrev recipientB : List ℕ
+recipientB = stanzaText (lineSent add-recipient (98 ∷ [])) []
+
+-- "-> add-identity c"
+abbrev identityC : List ℕ
+identityC = stanzaText (lineSent add-identity (99 ∷ [])) []
+
+-- "-> wrap-file-key" with 16 zero bytes
+abbrev fileKey : List ℕ
+fileKey = stanzaText (lineSent wrap-file-key []) (replicate 16 0)
+
+-- "-> x", which is no command of phase one
+abbrev unknown : List ℕ
+unknown = stanzaText (120 ∷ []) []
+
+-- "-> done"
+abbrev end : List ℕ
+end = stanzaText (lineSent done-word []) []
+
+-- the plugin's name, "x"
+abbrev pub plugin : List ℕ
+plugin = 120 ∷ []
+
+-- a phase, and the same commands in another order with an unknown one among them
+abbrev pub given : Phase
+given = record { ahead = recipientA ∷ fileKey ∷ recipientB ∷ identityC ∷ []; last = end }
+
+abbrev pub turned : Phase
+turned = record { ahead = identityC ∷ unknown ∷ recipientA ∷ recipientB ∷ fileKey ∷ []; last = end }
+
+-- ---- both are phases, and rearrangements of each other: by computation
+
+given-whole : All Whole (textsOf given)
+unfolding All isCharacter valueOf characterOf encoded decoded endsWell wrapped unwrapped run isGraphic next verdict scan found
+given-whole = (record { line = 18; body = 0; read = refl }, (record { line = 16; body = 16; read = refl }, (record { line = 18; body = 0; read = refl }, (record { line = 17; body = 0; read = refl }, (record { line = 7; body = 0; read = refl }, tt)))))
+
+-- the first is a phase
+pub given-phase : IsPhase given
+unfolding All isCharacter valueOf characterOf encoded decoded endsWell wrapped unwrapped run isGraphic next verdict scan found isWordByte before words same
+given-phase = record { whole = given-whole; done-once = (refl, (refl, (refl, (refl, tt)))); done-last = refl }
+
+unknown-whole : Whole unknown
+unfolding isCharacter valueOf characterOf encoded decoded endsWell wrapped unwrapped run isGraphic next verdict scan found
+unknown-whole = record { line = 4; body = 0; read = refl }
+
+-- the second is one
+pub turned-phase : IsPhase turned
+unfolding All isCharacter valueOf characterOf encoded decoded endsWell wrapped unwrapped run isGraphic next verdict scan found isWordByte before words same
+turned-phase =
+    let w = given-whole in
+    record { whole = (w .1 .1 .1 .0, (unknown-whole, (w .0, (w .1 .1 .0, (w .1 .0, (w .1 .1 .1 .1 .0, tt)))))); done-once = (refl, (refl, (refl, (refl, (refl, tt))))); done-last = refl }
+
+-- each kind's own order is kept
+pub rearranged : Rearranged RecipientV1 plugin given turned
+unfolding keep isCharacter valueOf characterOf encoded decoded endsWell wrapped unwrapped run isGraphic next verdict scan found isWordByte before words same
+rearranged = record {
+  same-last = refl;
+  permuted = List·Permᴰ·trans (Permᴰ·middle identityC (recipientA ∷ fileKey ∷ recipientB ∷ []) []) (List·Permᴰ·cons refl (List·Permᴰ·cons refl (List·Permᴰ·swap refl refl)));
+  same-order = same-order;
+}
+  where
+    same-order : (k : Kind) → keep (isOf RecipientV1 plugin k) (given .ahead) ≡ keep (isOf RecipientV1 plugin k) (turned .ahead)
+    same-order recipients = refl
+    same-order identities = refl
+    same-order keys = refl
+    same-order headers = refl
+
+-- ---- with buffers of 2, 1, 16 and 0 bytes they are allowed
+
+abbrev pub lent : Buffers
+lent = buffersOf (0 ∷ 0 ∷ []) (0 ∷ []) (replicate 16 0) []
+
+allowed : Allowed RecipientV1 plugin lent (textsOf given)
+unfolding All rowsIn bytesOf Rising isCharacter valueOf characterOf encoded decoded endsWell wrapped unwrapped run isGraphic next verdict scan found isWordByte before words same
+allowed = record { right = (refl, (refl, (refl, (refl, (refl, tt))))); slots = slots; bytes = bytes; rising = tt }
+  where
+    slots : (k : Kind) → length (rowsIn RecipientV1 plugin k (textsOf given)) ≤ slotsOf k
+    slots recipients = lit≤ tt
+    slots identities = lit≤ tt
+    slots keys = lit≤ tt
+    slots headers = lit≤ tt
+
+    bytes : (k : Kind) → bytesOf (rowsIn RecipientV1 plugin k (textsOf given)) ≤ length (bufferOf k lent)
+    bytes recipients = lit≤ tt
+    bytes identities = lit≤ tt
+    bytes keys = lit≤ tt
+    bytes headers = lit≤ tt
+
+-- the plugin's session, just opened
+abbrev pub start : Session
+start = openedSession RecipientV1 plugin false
+
+-- so both are accepted
+pub both-accepted : Accepted start lent (callsOf given) × Accepted start lent (callsOf turned)
+both-accepted =
+    let a = accepted-iff RecipientV1 plugin false lent given given-phase .1 allowed in
+    (a, order-one RecipientV1 plugin lent given turned given-phase turned-phase rearranged .0 .0 a)
+
+-- and leave equal tables
+pub same-tables : SameTables (after start lent (callsOf given)) (after start lent (callsOf turned))
+same-tables = order-one RecipientV1 plugin lent given turned given-phase turned-phase rearranged .1 (both-accepted .0)
+
+-- in which the recipients are a and b
+pub two-recipients : map (λ r. r .payload) (viewOf recipients (after start lent (callsOf turned) .session .tables) (after start lent (callsOf turned) .buffers)) ≡ (97 ∷ []) ∷ (98 ∷ []) ∷ []
+unfolding rowsIn isCharacter valueOf characterOf encoded decoded endsWell wrapped unwrapped run isGraphic next verdict scan found isWordByte before words same
+two-recipients = ap (map (λ r. r .payload)) (accepted-tables RecipientV1 plugin false lent turned turned-phase (both-accepted .1) .views recipients)
+
+-- a recipients' buffer of 1 byte
+abbrev pub short : Buffers
+short = buffersOf (0 ∷ []) (0 ∷ []) (replicate 16 0) []
+
+-- with it both are refused
+pub both-refused : (Accepted start short (callsOf given) → ⊥) × (Accepted start short (callsOf turned) → ⊥)
+unfolding rowsIn bytesOf isCharacter valueOf characterOf encoded decoded endsWell wrapped unwrapped run isGraphic next verdict scan found isWordByte before words same
+both-refused =
+    let no : Accepted start short (callsOf given) → ⊥ = λ a. omega (arith, accepted-iff RecipientV1 plugin false short given given-phase .0 a .bytes recipients) in
+    (no, λ a. no (order-one RecipientV1 plugin short given turned given-phase turned-phase rearranged .0 .1 a))
