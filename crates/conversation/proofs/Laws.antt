@@ -8,5 +8,6 @@ pub mod Order
 pub mod Reached
 pub mod Receiving
 pub mod Refusals
+pub mod Sending
 pub mod Steps
 pub mod Tables

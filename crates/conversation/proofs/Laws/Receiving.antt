@@ -67,7 +67,7 @@ module _ (m : Machine) (g : List ℕ) (x : Bool) (t : Tables) (b : Buffers) wher
 
 -- ---- whose turn it is
 
-turn-first : (p : Phase) → turnOne p ≡ 0 → p ≡ One
+pub turn-first : (p : Phase) → turnOne p ≡ 0 → p ≡ One
 turn-first One e = refl
 turn-first Two e = absurd (omega arith)
 turn-first Ended e = absurd (omega arith)
