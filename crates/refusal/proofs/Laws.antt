@@ -3,6 +3,7 @@ pub mod Below
 pub mod Booleans
 pub mod Lists
 pub mod Number
+pub mod Output
 pub mod Run
 pub mod Same
 pub mod Bytes

@@ -63,13 +63,13 @@ opening-accepted machine name screen e = any (machineNamed machine) refl
     any (named m) q =
         cases (isName name)
         (λ f.
-            let g : settings machine name ≡ record { number = 0; machine = m; name = name } = ap (λ x. settingsOf x name) q ∙ ap (λ x. pick x (record { number = 0; machine = m; name = name }) (refusedSettings 17)) f in
-            record {
-              of = m;
-              machine-named = q;
-              plugin-named = f;
-              session = ap (λ x. record { machine = x .machine; name = x .name; screen = screen; phase = phaseOpened (x .number); tables = openedTables }) g;
-            })
+        let g : settings machine name ≡ record { number = 0; machine = m; name = name } = ap (λ x. settingsOf x name) q ∙ ap (λ x. pick x (record { number = 0; machine = m; name = name }) (refusedSettings 17)) f in
+        record {
+          of = m;
+          machine-named = q;
+          plugin-named = f;
+          session = ap (λ x. record { machine = x .machine; name = x .name; screen = screen; phase = phaseOpened (x .number); tables = openedTables }) g;
+        })
         (λ f. let z : _≡_ {A = ℕ} 17 0 = sym (ap (λ x. settingsOf x name .number) q ∙ ap (λ x. pick x (record { number = 0; machine = m; name = name }) (refusedSettings 17) .number) f) ∙ e in absurd (omega arith))
 
 -- ---- calls

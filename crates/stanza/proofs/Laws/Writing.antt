@@ -5,15 +5,15 @@ use mathlib.Core.List.{List, [], _∷_, _++_}
 use lib.ListN.{length, take, drop, set, getD, length-append, length-drop, length-set}
 use lib.Seq.{sets-eq, getD-at}
 use native.Mathlib.Omega.{arith}
-use borrow.Author.Tests.{le-ltb, lt-ltb, eq-eqb, ne-eqb}
-use mathlib.Core.Bool.{Bool, true, false}
+use borrow.Author.Tests.{le-ltb, lt-ltb, lt-leb, eq-eqb, ne-eqb}
+use mathlib.Core.Bool.{Bool, true, false, _&&_}
 use lib.Dec.{eqb}
 use Rattle.refusal.specs.Pick.{pick}
 use Rattle.refusal.specs.Output.{bytes, refused, answered, filled}
-use Rattle.refusal.proofs.Laws.Booleans.{cases}
+use Rattle.refusal.proofs.Laws.Booleans.{cases, and-false-right}
 use Rattle.refusal.proofs.Laws.Lists.{part-rest, put-rest, overwrite-part, front-part, front-store, front-whole}
 use Rattle.base64.specs.Lines.{linesOf}
-use Rattle.stanza.specs.Arguments.{lineWith}
+use Rattle.stanza.specs.Arguments.{isLine, lineWith}
 use Rattle.stanza.specs.Grammar.{firstLine, stanzaText}
 use Rattle.stanza.specs.Writing.{isWritable, sized, written, bufferAfter}
 
@@ -63,9 +63,16 @@ refused-only : (w : Bool) (r m : ℕ) → refused r ≡ pick w (bytes m) (refuse
 refused-only true r m e = let z : _≡_ {A = ℕ} 0 1 = cc in absurd (omega arith)
 refused-only false r m e = (refl, cc)
 
+-- no line of more than 8,192 bytes
+pub line-over : (l b : List ℕ) → 8192 < length l → isWritable l b ≡ false
+line-over l b h = ap (λ f. isLine l && f) (lt-leb (length (stanzaText l b)) 8192 (omega (arith, text-length l b))) ∙ and-false-right (isLine l)
+
+pub size-none : (l b : List ℕ) (r : ℕ) → refused r ≡ sized l b → (isWritable l b ≡ false) × (r ≡ 17)
+size-none l b r e = refused-only (isWritable l b) r (length (stanzaText l b)) e
+
 module _ (l b o : List ℕ) where
   pub size-refused : (r : ℕ) → refused r ≡ sized l b → (refused r ≡ written l b o) × (o ≡ bufferAfter l b o)
-  size-refused r e = let f = refused-only (isWritable l b) r (length (stanzaText l b)) e in rw (f .0, f .1) (refl, refl)
+  size-refused r e = let f = size-none l b r e in rw (f .0, f .1) (refl, refl)
 
   pub size-bytes : (n : ℕ) → bytes n ≡ sized l b → (isWritable l b ≡ true) × (n ≡ length (stanzaText l b))
   size-bytes n e = bytes-only (isWritable l b) n (length (stanzaText l b)) e

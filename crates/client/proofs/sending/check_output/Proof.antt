@@ -1,0 +1,16 @@
+use borrow.Author.Tests.{lt-ltb, le-ltb}
+use Rattle.client.proofs.sending.check_output.Statement.{statement}
+use Rattle.client.proofs.sending.check_output.Tie as tie
+use Rattle.client.proofs.sending.check_output.Reads as reads
+use Rattle.client.proofs.sending.check_output.Lts as lts
+
+-- src/sending.rt:41:9
+returns : tie.Need-returns
+returns c = rw (lt-ltb _ _ (c .if1 .taken))
+
+-- src/sending.rt:37:1
+returns-2 : tie.Need-returns-2
+returns-2 c = rw (le-ltb _ _ (c .if1 .left))
+
+pub check-output-spec : {M : Type 1} → statement M
+check-output-spec = tie.close (tie.spec returns returns-2)

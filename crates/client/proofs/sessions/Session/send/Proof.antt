@@ -1,0 +1,83 @@
+use mathlib.Core.Path.{sym, ap, _∙_}
+use denote.Ref.{now}
+use Rattle.refusal.specs.Number.{numberOf}
+use Rattle.refusal.proofs.Laws.Number.{number-not-zero}
+use Rattle.session.specs.Commands.{wordSaid}
+use Rattle.session.specs.Opening.{nameOf}
+use Rattle.session.specs.PhaseOne.{tablesOf, buffersOf, verdictSaid}
+use Rattle.conversation.proofs.Laws.Sending.{sent-out-of-turn, sent-in-turn}
+use Rattle.client.specs.Session.{sessionOf}
+use borrow.Author.Needs.{needs}
+use Rattle.client.proofs.sessions.Session.send.Statement.{statement}
+use Rattle.client.proofs.sessions.Session.send.Tie as tie
+use Rattle.client.proofs.sessions.Session.send.Reads as reads
+use Rattle.client.proofs.sessions.Session.send.Lts as lts
+use Rattle.client.proofs.sending.send_command.Reads as send-command-reads
+use Rattle.session.proofs.turn_one.Reads as turn-one-reads
+
+-- src/sending.rt:177:13
+turn-one-requires : tie.Need-turn-one-requires
+turn-one-requires c κs = search needs
+
+-- src/sending.rt:179:30
+enum-known-turn : tie.Need-enum-known-turn
+enum-known-turn c = search needs
+
+-- src/sending.rt:184:21
+enum-told : tie.Need-enum-told
+enum-told c = search needs
+
+-- src/sending.rt:187:21
+send-command-requires : tie.Need-send-command-requires
+send-command-requires c κs = search needs
+
+-- src/sending.rt:163:5
+returns : tie.Need-returns
+returns c =
+    let a = c .before .before .before .before .before .before .before .before .before .before .before .args in
+    sent-out-of-turn (sessionOf (a .self)) (wordSaid (a .word)) (now (a .arguments)) (now (a .body)) (buffersOf (now (a .recipients)) (now (a .identities)) (now (a .keys)) (now (a .headers))) (now (a .out)) (numberOf (c .before .turn .given .0 .0))
+    (sym (ap verdictSaid (c .before .turn .given .1)) ∙ c .before .before .before .turn-one .ensures) (number-not-zero (c .before .turn .given .0 .0))
+
+-- src/sending.rt:163:5
+same-length : tie.Need-same-length
+same-length c = search needs
+
+-- src/sending.rt:163:5
+same-length-2 : tie.Need-same-length-2
+same-length-2 c = search needs
+
+-- src/sending.rt:163:5
+same-length-3 : tie.Need-same-length-3
+same-length-3 c = search needs
+
+-- src/sending.rt:163:5
+same-length-4 : tie.Need-same-length-4
+same-length-4 c = search needs
+
+-- src/sending.rt:163:5
+same-length-5 : tie.Need-same-length-5
+same-length-5 c = search needs
+
+-- src/sending.rt:163:5
+returns-2 : tie.Need-returns-2
+returns-2 c =
+    let a = c .before .before .before .before .before .before .before .before .before .before .before .before .before .before .before .before .before .before .before .before .before .before .before .before .before .before .before .before .args in
+    let s = a .self in
+    c .before .before .before .before .before .before .before .before .before .before .before .send-command .ensures (s .screen)
+    ∙ sent-in-turn (s .machine) (nameOf (s .name)) (s .screen) (s .phase) (tablesOf (s .tables)) (wordSaid (a .word)) (now (a .arguments)) (now (a .body)) (buffersOf (now (a .recipients)) (now (a .identities)) (now (a .keys)) (now (a .headers))) (now (a .out)) (sym (ap verdictSaid (c .before .before .before .before .before .before .before .before .before .before .before .before .before .before .before .before .before .before .enum-told .given .1)) ∙ c .before .before .before .before .before .before .before .before .before .before .before .before .before .before .before .before .before .before .before .before .turn-one .ensures)
+
+pub send-spec : {M : Type 1} → statement M
+send-spec =
+    tie.close
+    (tie.spec
+    turn-one-requires
+    enum-known-turn
+    enum-told
+    send-command-requires
+    returns
+    same-length
+    same-length-2
+    same-length-3
+    same-length-4
+    same-length-5
+    returns-2)

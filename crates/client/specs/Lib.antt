@@ -1,0 +1,3 @@
+-- What the client end's values stand for.
+pub mod Session
+pub mod Sending
