@@ -4,12 +4,16 @@ use Rattle.base64.specs.Alphabet.{isCharacter, valueOf, characterOf}
 use Rattle.base64.specs.Code.{encoded, decoded, endsWell}
 use Rattle.base64.specs.Lines.{wrapped, unwrapped}
 use Rattle.refusal.specs.Run.{run}
-use Rattle.stanza.specs.Arguments.{isGraphic}
+use Rattle.refusal.specs.Same.{same}
+use Rattle.stanza.specs.Arguments.{isGraphic, words, before}
 use Rattle.stanza.specs.Automaton.{next, verdict, scan}
-use Rattle.stanza.specs.Index.{digits, readIndex}
+use Rattle.stanza.specs.Index.{digits, readIndex, decimal, decimalWith}
 use Rattle.stanza.specs.Reading.{found}
+use Rattle.session.specs.Commands.{afterSpace}
+use Rattle.conversation.specs.Calls.{numbers}
+use Rattle.conversation.specs.Receiving.{received, receivedStanza}
 use Rattle.examples.specs.Examples.{AllHold, rows}
 
 pub worked : AllHold rows
-unfolding isCharacter valueOf characterOf encoded decoded endsWell wrapped unwrapped run isGraphic next verdict scan digits readIndex found
-worked = (refl, (refl, (refl, (refl, (refl, (refl, (refl, (refl, (refl, (refl, tt))))))))))
+unfolding isCharacter valueOf characterOf encoded decoded endsWell wrapped unwrapped run isGraphic next verdict scan digits readIndex found same words before decimal decimalWith afterSpace numbers received receivedStanza
+worked = (refl, (refl, (refl, (refl, (refl, (refl, (refl, (refl, (refl, (refl, (refl, (refl, tt))))))))))))

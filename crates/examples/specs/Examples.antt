@@ -2,22 +2,36 @@
 -- Texts are lists of bytes: 45 62 32 is "-> ", 10 is LF, 48 to 57 are the digits.
 use Prim.Native.Nat.{ℕ}
 use mathlib.Core.Path.{_≡_}
-use mathlib.Core.Bool.{true}
-use mathlib.Core.List.{List, [], _∷_, _++_}
+use mathlib.Core.Bool.{false}
+use mathlib.Core.List.{List, [], _∷_, _++_, map}
 use lib.ListN.{length, replicate}
 use Rattle.base64.specs.Code.{encoded}
 use Rattle.base64.specs.Lines.{linesOf}
 use Rattle.stanza.specs.Grammar.{stanzaText}
 use Rattle.stanza.specs.Index as index
 use Rattle.stanza.specs.Reading.{Reading, stanza, refused, readFirst}
+use Rattle.session.specs.Commands.{recipientStanza}
+use Rattle.session.specs.PhaseOne.{Buffers, buffersOf}
+use Rattle.session.specs.declared.commands.Machine.the-variants.{IdentityV1}
+use Rattle.conversation.specs.Calls.{Call, receive, numbers}
+use Rattle.conversation.specs.Session.{openedSession}
 
 -- an example: a text is read so; arguments and a body make so many bytes; so many body bytes make a line of so many characters and then these
--- bytes; a text is read as an index so
+-- bytes; a text is read as an index so; header stanzas of these files, received one behind the other, give these numbers
 pub data Row : Type 0 where
   reads : List ℕ → Reading → Row
   writes : List ℕ → List ℕ → ℕ → Row
   makes : ℕ → ℕ → List ℕ → Row
   counts : List ℕ → index.Reading → Row
+  files : List ℕ → List ℕ → Row
+
+-- a header stanza of a file: "recipient-stanza", the index, the tag "x"
+abbrev pub headerOf : ℕ → Call
+headerOf file = receive (stanzaText (recipientStanza ++ 32 ∷ index.decimal file ++ 32 ∷ 120 ∷ []) [])
+
+-- space for header stanzas alone
+abbrev pub lent : Buffers
+lent = buffersOf [] [] [] (replicate 16 0)
 
 -- what the definitions say of it
 abbrev pub Holds : Row → Type 0
@@ -25,6 +39,7 @@ Holds (reads text r) = readFirst text ≡ r
 Holds (writes line body n) = length (stanzaText line body) ≡ n
 Holds (makes n k ending) = linesOf (replicate n 0) ≡ replicate k 65 ++ ending
 Holds (counts text r) = index.readIndex text ≡ r
+Holds (files indices ns) = numbers (openedSession IdentityV1 (120 ∷ []) false) lent (map headerOf indices) ≡ ns
 
 abbrev pub AllHold : List Row → Type 0
 AllHold [] = Unit {0}
@@ -56,4 +71,7 @@ rows =
     counts (48 ∷ 49 ∷ []) (index.refused 5) ∷
     counts (52 ∷ 50 ∷ 57 ∷ 52 ∷ 57 ∷ 54 ∷ 55 ∷ 50 ∷ 57 ∷ 53 ∷ []) (index.number 4294967295) ∷
     counts (52 ∷ 50 ∷ 57 ∷ 52 ∷ 57 ∷ 54 ∷ 55 ∷ 50 ∷ 57 ∷ 54 ∷ []) (index.refused 5) ∷
+    -- file indices 3, 3, 7 pass; 3, 2 gives 7
+    files (3 ∷ 3 ∷ 7 ∷ []) (0 ∷ 0 ∷ 0 ∷ []) ∷
+    files (3 ∷ 2 ∷ []) (0 ∷ 7 ∷ []) ∷
     []
