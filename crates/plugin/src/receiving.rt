@@ -123,7 +123,7 @@ fn receive_text(
         ),
         First::Refused(r) => Taken {
             answer: Heard::Refused(r),
-            phase: session::phase_received(Verdict::Refused(r), Command::Other),
+            phase: session::phase_refused(r),
             tables: tables,
         },
     }

@@ -28,10 +28,15 @@ phaseAfter done = Two
 phaseAfter other = One
 phaseAfter (bad n) = One
 
--- behind a command of phase one with the number n: received, where a refusal may close the session; sent, where none does
-abbrev pub phaseReceived : ℕ → Command → Phase
-phaseReceived n c = pick (eqb n 0) (phaseAfter c) (pick (closes n) Closed One)
+-- behind a refusal n of what was received in phase one
+abbrev pub phaseRefused : ℕ → Phase
+phaseRefused n = pick (closes n) Closed One
 
+-- behind a command of phase one with the number n that was received, where a refusal may close the session
+abbrev pub phaseReceived : ℕ → Command → Phase
+phaseReceived n c = pick (eqb n 0) (phaseAfter c) (phaseRefused n)
+
+-- the same of one that was sent, where none does
 abbrev pub phaseSent : ℕ → Command → Phase
 phaseSent n c = pick (eqb n 0) (phaseAfter c) One
 

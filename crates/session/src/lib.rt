@@ -31,5 +31,6 @@ pub use phases::Phase;
 pub use phases::is_closing;
 pub use phases::phase_opened;
 pub use phases::phase_received;
+pub use phases::phase_refused;
 pub use phases::phase_sent;
 pub use phases::turn_one;

@@ -3,7 +3,7 @@ ghost use mathlib.Core.Path.{_≡_};
 ghost use Rattle.refusal.specs.Number.{numberOf};
 ghost use Rattle.session.specs.Commands.{commandSaid};
 ghost use Rattle.session.specs.PhaseOne.{verdictSaid};
-ghost use Rattle.session.specs.Phases.{turnOne, closes, phaseAfter, phaseReceived, phaseSent, phaseOpened};
+ghost use Rattle.session.specs.Phases.{turnOne, closes, phaseAfter, phaseRefused, phaseReceived, phaseSent, phaseOpened};
 use crate::commands::Command;
 use crate::phase_one::Verdict;
 use refusal::Refusal;
@@ -54,18 +54,23 @@ fn phase_after(command: Command) -> Phase
     }
 }
 
-// The phase behind a command of phase one that was received: a refusal may close the session.
+// The phase behind a refusal of what was received in phase one: it may close the session.
+pub fn phase_refused(refusal: Refusal) -> Phase
+    ensures { λ r. ⌜ r ≡ phaseRefused (numberOf refusal) ⌝ }
+{
+    if is_closing(refusal) {
+        return Phase::Closed;
+    }
+    Phase::One
+}
+
+// The phase behind a command of phase one that was received.
 pub fn phase_received(verdict: Verdict, command: Command) -> Phase
     ensures { λ r. ⌜ r ≡ phaseReceived (verdictSaid verdict) (commandSaid command) ⌝ }
 {
     match verdict {
         Verdict::Accepted => phase_after(command),
-        Verdict::Refused(r) => {
-            if is_closing(r) {
-                return Phase::Closed;
-            }
-            Phase::One
-        }
+        Verdict::Refused(r) => phase_refused(r),
     }
 }
 

@@ -9,7 +9,7 @@ use Rattle.refusal.specs.Pick.{pick}
 use Rattle.stanza.specs.Reading.{readFirst}
 use Rattle.session.specs.Commands.{Command, wordOf}
 use Rattle.session.specs.PhaseOne.{Tables, Buffers, buffersOf, applied, filledBy, commandIn, payloadIn, numberOne, tablesOne, buffersOne}
-use Rattle.session.specs.Phases.{turnOne, closes, phaseAfter, phaseReceived}
+use Rattle.session.specs.Phases.{turnOne, closes, phaseAfter, phaseRefused, phaseReceived}
 use Rattle.session.specs.declared.commands.Machine.{Machine}
 use Rattle.session.specs.declared.phases.Phase.{Phase}
 use Rattle.session.specs.declared.phases.Phase.the-variants.{One, Two, Ended, Closed}
@@ -24,8 +24,8 @@ receipt a s b = record { answer = a; session = s; buffers = b }
 
 module _ (m : Machine) (g : List ℕ) (x : Bool) (t : Tables) (b : Buffers) where
   -- a refusal in phase one
-  pub refusal-is : (n : ℕ) (c : Command) → eqb n 0 ≡ false → receipt (declined n) (sessionIn m g x (phaseReceived n c) t) b ≡ refusedReceipt n (sessionIn m g x One t) b
-  refusal-is n c e = rw e (go (closes n))
+  pub refusal-is : (n : ℕ) → receipt (declined n) (sessionIn m g x (phaseRefused n) t) b ≡ refusedReceipt n (sessionIn m g x One t) b
+  refusal-is n = go (closes n)
     where
       go : (f : Bool) → receipt (declined n) (sessionIn m g x (pick f Closed One) t) b ≡ receipt (declined n) (pick f (sessionIn m g x Closed t) (sessionIn m g x One t)) b
       go true = refl

@@ -2,9 +2,7 @@ use mathlib.Core.Path.{sym, ap, _∙_}
 use mathlib.Core.Bool.{false}
 use denote.Ref.{now}
 use Rattle.refusal.specs.Number.{numberOf}
-use Rattle.refusal.proofs.Laws.Number.{number-not-zero}
 use Rattle.stanza.specs.Reading.{readSaid}
-use Rattle.session.specs.Commands.{other}
 use Rattle.session.specs.Opening.{nameOf}
 use Rattle.session.specs.PhaseOne.{tablesOf, buffersOf}
 use Rattle.conversation.proofs.Laws.Receiving.{refusal-is}
@@ -14,7 +12,7 @@ use Rattle.plugin.proofs.receiving.receive_text.Tie as tie
 use Rattle.plugin.proofs.receiving.receive_text.Reads as reads
 use Rattle.plugin.proofs.receiving.receive_text.Lts as lts
 use Rattle.plugin.proofs.receiving.receive_stanza.Reads as receive-stanza-reads
-use Rattle.session.proofs.phase_received.Reads as phase-received-reads
+use Rattle.session.proofs.phase_refused.Reads as phase-refused-reads
 use Rattle.stanza.proofs.read.Reads as read-reads
 
 -- src/receiving.rt:111:9
@@ -34,8 +32,8 @@ enum-known-first-2 : tie.Need-enum-known-first-2
 enum-known-first-2 c = search needs
 
 -- src/receiving.rt:118:20
-phase-received-requires : tie.Need-phase-received-requires
-phase-received-requires c κs = search needs
+phase-refused-requires : tie.Need-phase-refused-requires
+phase-refused-requires c κs = search needs
 
 -- src/receiving.rt:99:1
 same-length : tie.Need-same-length
@@ -60,8 +58,8 @@ returns c = rw (sym (c .before .before .before .before .before .before .before .
 -- src/receiving.rt:99:1
 returns-2 : tie.Need-returns-2
 returns-2 c =
-    rw (sym (c .before .before .before .before .read .ensures), c .before .before .first2 .given .1, c .phase-received .ensures)
-    (refusal-is (c .before .before .before .before .before .before .before .before .before .before .args .machine) (nameOf (c .before .before .before .before .before .before .before .before .before .before .args .name)) false (tablesOf (c .before .before .before .before .before .before .before .before .before .before .args .tables)) (buffersOf (now (c .before .before .before .before .before .before .before .before .before .before .args .recipients)) (now (c .before .before .before .before .before .before .before .before .before .before .args .identities)) (now (c .before .before .before .before .before .before .before .before .before .before .args .keys)) (now (c .before .before .before .before .before .before .before .before .before .before .args .headers))) (numberOf (c .before .before .first2 .given .0 .0)) other (number-not-zero (c .before .before .first2 .given .0 .0)))
+    rw (sym (c .before .before .before .before .read .ensures), c .before .before .first2 .given .1, c .phase-refused .ensures)
+    (refusal-is (c .before .before .before .before .before .before .before .before .before .before .args .machine) (nameOf (c .before .before .before .before .before .before .before .before .before .before .args .name)) false (tablesOf (c .before .before .before .before .before .before .before .before .before .before .args .tables)) (buffersOf (now (c .before .before .before .before .before .before .before .before .before .before .args .recipients)) (now (c .before .before .before .before .before .before .before .before .before .before .args .identities)) (now (c .before .before .before .before .before .before .before .before .before .before .args .keys)) (now (c .before .before .before .before .before .before .before .before .before .before .args .headers))) (numberOf (c .before .before .first2 .given .0 .0)))
 
 pub receive-text-spec : {M : Type 1} → statement M
 receive-text-spec =
@@ -71,7 +69,7 @@ receive-text-spec =
     enum-known-first
     receive-stanza-requires
     enum-known-first-2
-    phase-received-requires
+    phase-refused-requires
     same-length
     same-length-2
     same-length-3
