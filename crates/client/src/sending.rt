@@ -219,15 +219,16 @@ impl Session {
                 let answer = done.answer;
                 let after = done.phase;
                 let tables = done.tables;
+                let session = Session {
+                    machine: machine,
+                    phase: after,
+                    screen: screen,
+                    name: name,
+                    tables: tables,
+                };
                 Sent {
                     answer: answer,
-                    session: Session {
-                        machine: machine,
-                        phase: after,
-                        screen: screen,
-                        name: name,
-                        tables: tables,
-                    },
+                    session: session,
                 }
             }
         }

@@ -30,11 +30,12 @@ pub record Outcome : Type 0 where
   pub session : Session
   pub buffers : Buffers
 
--- the numbers of the two kinds of answer
+-- the number of an answer, 0 where nothing is refused: of a receiving
 abbrev pub heardNumber : Heard → ℕ
 heardNumber (heard w k) = 0
 heardNumber (declined n) = n
 
+-- .. of a sending
 abbrev pub sentNumber : Answer → ℕ
 sentNumber (bytes n) = 0
 sentNumber (refused n) = n
@@ -46,11 +47,12 @@ outcome s b (receive text) =
 outcome s b (send word arguments body out) =
     let r = sent s word arguments body b out in record { number = sentNumber (r .answer); session = r .session; buffers = r .buffers }
 
--- the output buffer that a call lends, and the same afterwards; a call that receives lends none
+-- the output buffer that a call lends; a call that receives lends none
 abbrev pub outputIn : Call → List ℕ
 outputIn (receive text) = []
 outputIn (send word arguments body out) = out
 
+-- the same afterwards
 abbrev pub outputAfter : Session → Buffers → Call → List ℕ
 outputAfter s b (receive text) = []
 outputAfter s b (send word arguments body out) = sent s word arguments body b out .output
@@ -63,46 +65,52 @@ sessionAfter (send word arguments body out) n s = s
 
 -- ---- lists of calls
 
--- the session and the buffers behind a list of calls, and the number of each call
+-- what a call hands on to the next
 pub record State : Type 0 where
   pub session : Session
   pub buffers : Buffers
 
+-- the two together
 abbrev pub stateOf : Session → Buffers → State
 stateOf s b = record { session = s; buffers = b }
 
+-- the session and the buffers behind a list of calls
 unfoldable pub after : Session → Buffers → List Call → State
 after s b [] = stateOf s b
 after s b (c ∷ cs) = let o = outcome s b c in after (o .session) (o .buffers) cs
 
+-- the number of each call
 unfoldable pub numbers : Session → Buffers → List Call → List ℕ
 numbers s b [] = []
 numbers s b (c ∷ cs) = let o = outcome s b c in o .number ∷ numbers (o .session) (o .buffers) cs
 
 -- ---- what a call says
 
--- the arguments' text and the body of a text that begins with a stanza
+-- the arguments' text of a text that begins with a stanza
 abbrev pub lineRead : Reading → List ℕ → List ℕ
 lineRead (reading.stanza e n k) text = drop 3 (take e text)
 lineRead (reading.refused n) text = []
 
+-- its body
 abbrev pub bodyRead : Reading → List ℕ → List ℕ
 bodyRead (reading.stanza e n k) text = bodyOf (drop (e + 1) (take k text))
 bodyRead (reading.refused n) text = []
 
--- the arguments' text and the body that a call brings
+-- the arguments' text that a call brings
 abbrev pub lineIn : Call → List ℕ
 lineIn (receive text) = lineRead (readFirst text) text
 lineIn (send word arguments body out) = lineSent word arguments
 
+-- the body that it brings
 abbrev pub bodyIn : Call → List ℕ
 bodyIn (receive text) = bodyRead (readFirst text) text
 bodyIn (send word arguments body out) = body
 
--- the command that a call brings, and its payload
+-- the command that it brings
 abbrev pub commandOf : Session → Call → Command
 commandOf s c = commandIn (s .machine) (s .name) (lineIn c) (bodyIn c)
 
+-- the payload of that command
 abbrev pub payloadOf : Session → Call → List ℕ
 payloadOf s c = payloadIn (s .machine) (s .name) (lineIn c) (bodyIn c)
 
@@ -118,5 +126,6 @@ unfoldable pub AllZero : List ℕ → Type 0
 AllZero [] = Unit
 AllZero (n ∷ ns) = (n ≡ 0) × AllZero ns
 
+-- of a list of calls from a session and buffers on
 abbrev pub Accepted : Session → Buffers → List Call → Type 0
 Accepted s b cs = AllZero (numbers s b cs)

@@ -36,13 +36,15 @@ pub record Whole (t : List ℕ) : Type 0 where
   pub body : ℕ
   pub read : readFirst t ≡ stanza line body (length t)
 
--- its arguments' text, its body, its command word
+-- its arguments' text
 abbrev pub lineIn : List ℕ → List ℕ
 lineIn t = lineRead (readFirst t) t
 
+-- its body
 abbrev pub bodyIn : List ℕ → List ℕ
 bodyIn t = bodyRead (readFirst t) t
 
+-- its command word
 abbrev pub wordOf : List ℕ → List ℕ
 wordOf t = argumentOf (lineIn t) 0
 
@@ -59,13 +61,15 @@ isNamed recipient-stanza = true
 isNamed done-word = true
 isNamed other-word = false
 
+-- the same of a text
 abbrev pub isKnown : Machine → List ℕ → Bool
 isKnown machine t = isNamed (wordIn machine (wordOf t))
 
--- the command and the rows that it makes in a kind's table, by the machine and the plugin's name
+-- its command, by the machine and the plugin's name
 abbrev pub commandOf : Machine → List ℕ → List ℕ → Command
 commandOf machine name t = commandIn machine name (lineIn t) (bodyIn t)
 
+-- the rows that it makes in a kind's table
 abbrev pub rowsFrom : Machine → List ℕ → Kind → List ℕ → List Row
 rowsFrom machine name k t = rowsOf (commandOf machine name t) k (payloadIn machine name (lineIn t) (bodyIn t))
 
@@ -73,15 +77,18 @@ rowsFrom machine name k t = rowsOf (commandOf machine name t) k (payloadIn machi
 abbrev pub isOf : Machine → List ℕ → Kind → List ℕ → Bool
 isOf machine name k t = eqb (length (rowsFrom machine name k t)) 1
 
--- ---- a phase: whole well-formed stanzas, done once and last
+-- ---- a phase
 
+-- the texts ahead of the last, and the last
 pub record Phase : Type 0 where
   pub ahead : List (List ℕ)
   pub last : List ℕ
 
+-- all of them
 abbrev pub textsOf : Phase → List (List ℕ)
 textsOf p = p .ahead ++ (p .last ∷ [])
 
+-- whole well-formed stanzas, done once and last
 pub record IsPhase (p : Phase) : Type 0 where
   pub whole : All Whole (textsOf p)
   pub done-once : All (λ t. isDone t ≡ false) (p .ahead)
@@ -126,14 +133,16 @@ Rising [] = Unit
 Rising (r ∷ []) = Unit
 Rising (r ∷ q ∷ rs) = (r .index ≤ q .index) × Rising (q ∷ rs)
 
+-- each command is right, and each kind has its slots, its bytes and, for header stanzas, its order
 pub record Allowed (machine : Machine) (name : List ℕ) (b : Buffers) (ts : List (List ℕ)) : Type 0 where
   pub right : All (λ t. isRight (commandOf machine name t) ≡ true) ts
   pub slots : (k : Kind) → length (rowsIn machine name k ts) ≤ slotsOf k
   pub bytes : (k : Kind) → bytesOf (rowsIn machine name k ts) ≤ length (bufferOf k b)
   pub rising : Rising (rowsIn machine name headers ts)
 
--- ---- two phases: these commands in any order ahead of done, each kind's own order kept; unknown commands may be added or dropped
+-- ---- two phases
 
+-- these commands in any order ahead of done, each kind's own order kept; unknown commands may be added or dropped
 pub record Rearranged (machine : Machine) (name : List ℕ) (p q : Phase) : Type 0 where
   pub same-last : p .last ≡ q .last
   pub permuted : List·Permᴰ (keep (isKnown machine) (p .ahead)) (keep (isKnown machine) (q .ahead))

@@ -30,8 +30,8 @@ abbrev pub headerOf : ℕ → Call
 headerOf file = receive (stanzaText (recipientStanza ++ 32 ∷ index.decimal file ++ 32 ∷ 120 ∷ []) [])
 
 -- space for header stanzas alone
-abbrev pub lent : Buffers
-lent = buffersOf [] [] [] (replicate 16 0)
+abbrev pub buffers : Buffers
+buffers = buffersOf [] [] [] (replicate 16 0)
 
 -- what the definitions say of it
 abbrev pub Holds : Row → Type 0
@@ -39,7 +39,7 @@ Holds (reads text r) = readFirst text ≡ r
 Holds (writes line body n) = length (stanzaText line body) ≡ n
 Holds (makes n k ending) = linesOf (replicate n 0) ≡ replicate k 65 ++ ending
 Holds (counts text r) = index.readIndex text ≡ r
-Holds (files indices ns) = numbers (openedSession IdentityV1 (120 ∷ []) false) lent (map headerOf indices) ≡ ns
+Holds (files indices ns) = numbers (openedSession IdentityV1 (120 ∷ []) false) buffers (map headerOf indices) ≡ ns
 
 abbrev pub AllHold : List Row → Type 0
 AllHold [] = Unit {0}

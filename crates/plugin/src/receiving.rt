@@ -165,14 +165,15 @@ impl Session {
                 let answer = taken.answer;
                 let after = taken.phase;
                 let tables = taken.tables;
+                let session = Session {
+                    machine: machine,
+                    phase: after,
+                    name: name,
+                    tables: tables,
+                };
                 Received {
                     answer: answer,
-                    session: Session {
-                        machine: machine,
-                        phase: after,
-                        name: name,
-                        tables: tables,
-                    },
+                    session: session,
                 }
             }
         }
