@@ -1,0 +1,4 @@
+-- What is shown of judging.
+pub mod Reading
+pub mod Turns
+
