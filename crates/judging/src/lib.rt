@@ -1,18 +1,21 @@
 // Judging a recorded phase one of recipient-v1: stanza after stanza up to done or a refusal, window by window of the input. How the input is cut does not show.
 ghost use mathlib.Core.Path.{_≡_};
-ghost use mathlib.Core.Bool.{_||_};
 ghost use mathlib.Core.List.{[]};
-ghost use lib.Dec.{leb};
+ghost use Prim.Native.Nat.{_≤_};
+ghost use lib.ListN.{length, drop};
 ghost use Rattle.session.specs.Commands.{wordSaid};
 ghost use Rattle.session.specs.PhaseOne.{tablesOf, buffersOf};
 ghost use Rattle.plugin.specs.Session.{sessionOf};
-ghost use Rattle.judging.specs.Judging.{counted, going, stopped, isDone, turned, start, judgedText, numbersOf};
+ghost use Rattle.judging.specs.Judging.{counted, going, stopped, isDone, turned, behind, start, judgedText, numbersOf};
 ghost use Rattle.judging.specs.Windows.{windowed, Cut};
-ghost use Rattle.judging.specs.Said.{judgedSaid, standingOf, turnSaid};
+ghost use Rattle.judging.specs.Said.{judgedSaid, isDue, standingOf, turnSaid};
 use plugin::Heard;
 use plugin::Session;
 use session::Tables;
 use session::Word;
+
+// How long a stanza is at most.
+const LONGEST: usize = 8192;
 
 // What the judging program writes: how many entries each kind has, and the answer, 0 behind done, else the number of the refusal.
 pub struct Judged {
@@ -63,39 +66,107 @@ fn is_done(word: Word) -> bool
     }
 }
 
-// The first stanza of a text.
+// Whether another stanza of a window is looked at: judging goes on, and the longest stanza could be left or the window is the last.
+fn is_due(progress: Progress, left: usize, last: bool) -> bool
+    ensures { λ r. ⌜ r ≡ isDue progress left last ⌝ }
+{
+    match progress {
+        Progress::Stopped(_) => false,
+        Progress::GoesOn => {
+            if last {
+                return true;
+            }
+            LONGEST <= left
+        }
+    }
+}
+
+// The stanza that stands at a place of a window.
 fn advance(
     session: Session,
-    text: &[u8],
+    window: &[u8],
+    at: usize,
     recipients: &mut [u8],
     identities: &mut [u8],
     keys: &mut [u8],
     headers: &mut [u8],
 ) -> Judging
-    ensures { λ r. ⌜ turnSaid r (now (recipients .exit)) (now (identities .exit)) (now (keys .exit)) (now (headers .exit)) ≡ turned (sessionOf session) (buffersOf (now (recipients .entry)) (now (identities .entry)) (now (keys .entry)) (now (headers .entry))) (now (text .entry)) ⌝ }
+    requires { ⌜ at ≤ length (now window) ⌝ }
+    ensures { λ r. ⌜ turnSaid r (now (recipients .exit)) (now (identities .exit)) (now (keys .exit)) (now (headers .exit)) ≡ behind at (turned (sessionOf session) (buffersOf (now (recipients .entry)) (now (identities .entry)) (now (keys .entry)) (now (headers .entry))) (drop at (now (window .entry)))) ⌝ }
 {
-    let received = session.receive(text, recipients, identities, keys, headers);
+    let received = session.receive(&window[at..], recipients, identities, keys, headers);
     let answer = received.answer;
     let after = received.session;
     match answer {
         Heard::Refused(r) => Judging {
             session: after,
             progress: Progress::Stopped(count(session.tables, refusal::number(r))),
-            taken: 0,
+            taken: at,
         },
         Heard::Command(word, taken) => {
             if is_done(word) {
                 return Judging {
                     session: after,
                     progress: Progress::Stopped(count(after.tables, 0)),
-                    taken: taken,
+                    taken: at + taken,
                 };
             }
             Judging {
                 session: after,
                 progress: Progress::GoesOn,
-                taken: taken,
+                taken: at + taken,
             }
+        }
+    }
+}
+
+impl Judging {
+    // Nothing judged yet: a session of recipient-v1 just opened. The plugin's name does not show in the numbers.
+    pub fn open() -> Judging
+        ensures { λ r. ⌜ (standingOf r ≡ going start) × (r .taken ≡ 0) ⌝ }
+    {
+        let opening = Session::open(b"recipient-v1", b"judge");
+        let session = opening.session;
+        Judging {
+            session: session,
+            progress: Progress::GoesOn,
+            taken: 0,
+        }
+    }
+
+    // A window of the input, which ends behind it where it is the last. What is not taken stands at the front of the next window.
+    pub fn judge_window(
+        self,
+        window: &[u8],
+        last: bool,
+        recipients: &mut [u8],
+        identities: &mut [u8],
+        keys: &mut [u8],
+        headers: &mut [u8],
+    ) -> Judging
+        ensures exact { λ r. ⌜ turnSaid r (now (recipients .exit)) (now (identities .exit)) (now (keys .exit)) (now (headers .exit)) ≡ windowed last (standingOf self) (buffersOf (now (recipients .entry)) (now (identities .entry)) (now (keys .entry)) (now (headers .entry))) (now (window .entry)) ⌝ }
+        ensures any_cut { λ r. ⌜ Cut last (standingOf self) (buffersOf (now (recipients .entry)) (now (identities .entry)) (now (keys .entry)) (now (headers .entry))) (now (window .entry)) (turnSaid r (now (recipients .exit)) (now (identities .exit)) (now (keys .exit)) (now (headers .exit))) ⌝ }
+    {
+        let mut j = self;
+        j.taken = 0;
+        loop {
+            let progress = j.progress;
+            let at = j.taken;
+            if !is_due(progress, window.len() - at, last) {
+                return j;
+            }
+            j = advance(j.session, window, at, recipients, identities, keys, headers);
+        }
+    }
+
+    // The five numbers. Where judging goes on the input has ended before done: 2.
+    pub fn numbers(self) -> Judged
+        ensures { λ r. ⌜ judgedSaid r ≡ numbersOf (standingOf self) ⌝ }
+    {
+        let progress = self.progress;
+        match progress {
+            Progress::Stopped(x) => x,
+            Progress::GoesOn => count(self.session.tables, 2),
         }
     }
 }

@@ -1,4 +1,4 @@
--- One stanza judged, by what the call came to; and judging stanza after stanza, without the fuel.
+-- Judging stanza after stanza, without the fuel.
 use Prim.Native.Nat.{ℕ, zero, suc, _+_, _<_, _≤_}
 use mathlib.Core.Path.{_≡_, refl, sym, ap, ap₂, _∙_}
 use mathlib.Core.Bool.{Bool, true, false}
@@ -13,28 +13,10 @@ use Rattle.session.specs.PhaseOne.{Buffers}
 use Rattle.session.specs.Commands.{Word}
 use Rattle.conversation.specs.Session.{Session}
 use Rattle.conversation.specs.Receiving.{Heard, heard, declined, Received, received}
-use Rattle.judging.specs.Judging.{Judged, counted, Standing, going, stopped, Turn, turnOf, isDone, standingAfter, turnBy, turned, behind, judgedWith, judgedFrom}
+use Rattle.judging.specs.Judging.{Judged, Standing, going, stopped, Turn, turnOf, turnBy, turned, behind, judgedWith, judgedFrom}
 use Rattle.judging.proofs.Laws.Reading.{received-takes}
 
 -- ---- one stanza
-
-module _ (s after : Session) (b b′ : Buffers) (text : List ℕ) (a : Heard)
-    (e : _≡_ {A = Received} (record { answer = a; session = after; buffers = b′ }) (received s text b)) where
-  by-answer : (a′ : Heard) → a ≡ a′ → turnBy s (record { answer = a′; session = after; buffers = b′ }) ≡ turned s b text
-  by-answer a′ q = ap (λ x. turnBy s (record { answer = x; session = after; buffers = b′ })) (sym q) ∙ ap (turnBy s) e
-
-  -- a refusal stops it, with the counts before
-  pub turn-refused : (n m : ℕ) (x : Judged) → a ≡ declined n → m ≡ n → x ≡ counted (s .tables) m → turnOf (stopped x) b′ 0 ≡ turned s b text
-  turn-refused n m x q p r = ap (λ y. turnOf (stopped y) b′ 0) (r ∙ ap (counted (s .tables)) p) ∙ by-answer (declined n) q
-
-  -- done stops it
-  pub turn-done : (w : Word) (k : ℕ) (x : Judged) → a ≡ heard w k → isDone w ≡ true → x ≡ counted (after .tables) 0 → turnOf (stopped x) b′ k ≡ turned s b text
-  turn-done w k x q d r =
-      ap (λ y. turnOf (stopped y) b′ k) r ∙ ap (λ f. turnOf (pick f (stopped (counted (after .tables) 0)) (going after)) b′ k) (sym d) ∙ by-answer (heard w k) q
-
-  -- any other command lets it go on
-  pub turn-on : (w : Word) (k : ℕ) → a ≡ heard w k → isDone w ≡ false → turnOf (going after) b′ k ≡ turned s b text
-  turn-on w k q d = ap (λ f. turnOf (pick f (stopped (counted (after .tables) 0)) (going after)) b′ k) (sym d) ∙ by-answer (heard w k) q
 
 -- it takes no more than the text, and where judging goes on a byte or more
 pub record Taking (n : ℕ) (t : Turn) : Type 0 where

@@ -1,3 +1,13 @@
+use native.Mathlib.Omega.{arith}
+use mathlib.Core.Path.{ap}
+use denote.Ref.{now}
+use Rattle.refusal.specs.Number.{numberOf}
+use Rattle.session.specs.Commands.{wordSaid}
+use Rattle.session.specs.PhaseOne.{buffersOf}
+use Rattle.plugin.specs.Session.{sessionOf}
+use Rattle.plugin.specs.Receiving.{heardSaid}
+use Rattle.judging.specs.Said.{judgedSaid}
+use Rattle.judging.proofs.Laws.Steps.{turn-refused, turn-done, turn-on, turn-within}
 use borrow.Author.Needs.{needs}
 use Rattle.judging.proofs.advance.Statement.{statement}
 use Rattle.judging.proofs.advance.Tie as tie
@@ -8,98 +18,143 @@ use Rattle.judging.proofs.is_done.Reads as is-done-reads
 use Rattle.plugin.proofs.sessions.Session.receive.Reads as receive-reads
 use Rattle.refusal.proofs.number.Reads as number-reads
 
--- src/lib.rt:77:9
+-- src/lib.rt:97:36
+sub-receive : tie.Need-sub-receive
+sub-receive c = search needs
+
+-- src/lib.rt:97:36
+part-receive-start : tie.Need-part-receive-start
+part-receive-start c = search needs
+
+-- src/lib.rt:97:36
+part-receive-end : tie.Need-part-receive-end
+part-receive-end c = search needs
+
+-- src/lib.rt:97:9
 receive-requires : tie.Need-receive-requires
 receive-requires c κs = search needs
 
--- src/lib.rt:81:24
+-- src/lib.rt:101:24
 enum-known-answer : tie.Need-enum-known-answer
 enum-known-answer c = search needs
 
--- src/lib.rt:83:63
+-- src/lib.rt:103:63
 number-requires : tie.Need-number-requires
 number-requires c κs = search needs
 
--- src/lib.rt:83:41
+-- src/lib.rt:103:41
 count-requires : tie.Need-count-requires
 count-requires c κs = search needs
 
--- src/lib.rt:86:24
+-- src/lib.rt:106:24
 enum-known-answer-2 : tie.Need-enum-known-answer-2
 enum-known-answer-2 c = search needs
 
--- src/lib.rt:87:16
+-- src/lib.rt:107:16
 is-done-requires : tie.Need-is-done-requires
 is-done-requires c κs = search needs
 
--- src/lib.rt:90:49
+-- src/lib.rt:110:49
 count-requires-2 : tie.Need-count-requires-2
 count-requires-2 c κs = search needs
 
--- src/lib.rt:88:17
+-- src/lib.rt:111:28
+add-t33 : tie.Need-add-t33
+add-t33 c =
+    let a = c .before .before .before .before .before .before .before .before .before .before .before .before .before .before .before .before .before .before .before .before .before .before .before .before .before .before .args in
+    let r = c .before .before .before .before .before .before .before .before .before .before .before .before .before .before .before .receive in
+    let h = turn-within (sessionOf (a .session)) (sessionOf (r .result .session)) (buffersOf (now (a .recipients)) (now (a .identities)) (now (a .keys)) (now (a .headers))) (buffersOf (r .last .1 .1 .0) (r .last .1 .1 .1 .0) (r .last .1 .1 .1 .1 .0) (r .last .1 .1 .1 .1 .1 .0)) (now (a .window)) (a .at) (heardSaid (r .result .answer)) (r .ensures)
+    (wordSaid (c .before .before .before .before .answer2 .given .0 .0)) (c .before .before .before .before .answer2 .given .0 .1 .0) (ap heardSaid (c .before .before .before .before .answer2 .given .1)) (c .before .before .before .before .before .before .before .before .before .before .before .before .before .before .before .before .before .before .before .before .before .before .before .before .before .before .pre) in
+    omega (arith, h, c .before .before .before .before .before .before .before .before .before .before .before .before .before .before .before .before .before .before .before .before .before .before .before .before .before .before .good)
+
+-- src/lib.rt:108:17
 same-length : tie.Need-same-length
 same-length c = search needs
 
--- src/lib.rt:88:17
+-- src/lib.rt:108:17
 same-length-2 : tie.Need-same-length-2
 same-length-2 c = search needs
 
--- src/lib.rt:88:17
+-- src/lib.rt:108:17
 same-length-3 : tie.Need-same-length-3
 same-length-3 c = search needs
 
--- src/lib.rt:88:17
+-- src/lib.rt:108:17
 same-length-4 : tie.Need-same-length-4
 same-length-4 c = search needs
 
--- src/lib.rt:88:17
+-- src/lib.rt:108:17
 returns : tie.Need-returns
-returns c = ?
+returns c =
+    let a = c .before .before .before .before .before .before .before .before .before .before .before .before .before .before .before .before .before .before .before .before .before .before .before .before .before .before .args in
+    let r = c .before .before .before .before .before .before .before .before .before .before .before .before .before .before .before .receive in
+    turn-done (sessionOf (a .session)) (sessionOf (r .result .session)) (buffersOf (now (a .recipients)) (now (a .identities)) (now (a .keys)) (now (a .headers))) (buffersOf (r .last .1 .1 .0) (r .last .1 .1 .1 .0) (r .last .1 .1 .1 .1 .0) (r .last .1 .1 .1 .1 .1 .0)) (now (a .window)) (a .at) (heardSaid (r .result .answer)) (r .ensures)
+    (wordSaid (c .before .before .before .before .answer2 .given .0 .0)) (c .before .before .before .before .answer2 .given .0 .1 .0) (c .before .before .is-done .result) (judgedSaid (c .count2 .result)) (ap heardSaid (c .before .before .before .before .answer2 .given .1)) (c .before .before .is-done .ensures) (c .before .if1 .taken) (c .count2 .ensures)
 
--- src/lib.rt:67:1
+-- src/lib.rt:117:24
+add-t35 : tie.Need-add-t35
+add-t35 c =
+    let a = c .before .before .before .before .before .before .before .before .before .before .before .before .before .before .before .before .before .before .before .before .before .before .before .before .before .args in
+    let r = c .before .before .before .before .before .before .before .before .before .before .before .before .before .before .receive in
+    let h = turn-within (sessionOf (a .session)) (sessionOf (r .result .session)) (buffersOf (now (a .recipients)) (now (a .identities)) (now (a .keys)) (now (a .headers))) (buffersOf (r .last .1 .1 .0) (r .last .1 .1 .1 .0) (r .last .1 .1 .1 .1 .0) (r .last .1 .1 .1 .1 .1 .0)) (now (a .window)) (a .at) (heardSaid (r .result .answer)) (r .ensures)
+    (wordSaid (c .before .before .before .answer2 .given .0 .0)) (c .before .before .before .answer2 .given .0 .1 .0) (ap heardSaid (c .before .before .before .answer2 .given .1)) (c .before .before .before .before .before .before .before .before .before .before .before .before .before .before .before .before .before .before .before .before .before .before .before .before .before .pre) in
+    omega (arith, h, c .before .before .before .before .before .before .before .before .before .before .before .before .before .before .before .before .before .before .before .before .before .before .before .before .before .good)
+
+-- src/lib.rt:85:1
 same-length-5 : tie.Need-same-length-5
 same-length-5 c = search needs
 
--- src/lib.rt:67:1
+-- src/lib.rt:85:1
 same-length-6 : tie.Need-same-length-6
 same-length-6 c = search needs
 
--- src/lib.rt:67:1
+-- src/lib.rt:85:1
 same-length-7 : tie.Need-same-length-7
 same-length-7 c = search needs
 
--- src/lib.rt:67:1
+-- src/lib.rt:85:1
 same-length-8 : tie.Need-same-length-8
 same-length-8 c = search needs
 
--- src/lib.rt:67:1
+-- src/lib.rt:85:1
 returns-2 : tie.Need-returns-2
-returns-2 c = ?
+returns-2 c =
+    let a = c .before .before .before .before .before .before .before .before .before .before .before .before .before .before .before .before .before .before .before .before .before .before .before .before .before .args in
+    let r = c .before .before .before .before .before .before .before .before .before .before .before .before .before .before .receive in
+    turn-refused (sessionOf (a .session)) (sessionOf (r .result .session)) (buffersOf (now (a .recipients)) (now (a .identities)) (now (a .keys)) (now (a .headers))) (buffersOf (r .last .1 .1 .0) (r .last .1 .1 .1 .0) (r .last .1 .1 .1 .1 .0) (r .last .1 .1 .1 .1 .1 .0)) (now (a .window)) (a .at) (heardSaid (r .result .answer)) (r .ensures)
+    (numberOf (c .before .before .before .answer .given .0 .0)) (c .before .number .result) (judgedSaid (c .count .result)) (ap heardSaid (c .before .before .before .answer .given .1)) (c .before .number .ensures) (c .count .ensures)
 
--- src/lib.rt:67:1
+-- src/lib.rt:85:1
 same-length-9 : tie.Need-same-length-9
 same-length-9 c = search needs
 
--- src/lib.rt:67:1
+-- src/lib.rt:85:1
 same-length-10 : tie.Need-same-length-10
 same-length-10 c = search needs
 
--- src/lib.rt:67:1
+-- src/lib.rt:85:1
 same-length-11 : tie.Need-same-length-11
 same-length-11 c = search needs
 
--- src/lib.rt:67:1
+-- src/lib.rt:85:1
 same-length-12 : tie.Need-same-length-12
 same-length-12 c = search needs
 
--- src/lib.rt:67:1
+-- src/lib.rt:85:1
 returns-3 : tie.Need-returns-3
-returns-3 c = ?
+returns-3 c =
+    let a = c .before .before .before .before .before .before .before .before .before .before .before .before .before .before .before .before .before .before .before .before .before .before .before .before .before .args in
+    let r = c .before .before .before .before .before .before .before .before .before .before .before .before .before .before .receive in
+    turn-on (sessionOf (a .session)) (sessionOf (r .result .session)) (buffersOf (now (a .recipients)) (now (a .identities)) (now (a .keys)) (now (a .headers))) (buffersOf (r .last .1 .1 .0) (r .last .1 .1 .1 .0) (r .last .1 .1 .1 .1 .0) (r .last .1 .1 .1 .1 .1 .0)) (now (a .window)) (a .at) (heardSaid (r .result .answer)) (r .ensures)
+    (wordSaid (c .before .before .before .answer2 .given .0 .0)) (c .before .before .before .answer2 .given .0 .1 .0) (c .before .is-done .result) (ap heardSaid (c .before .before .before .answer2 .given .1)) (c .before .is-done .ensures) (c .if1 .left)
 
 pub advance-spec : {M : Type 1} → statement M
 advance-spec =
     tie.close
     (tie.spec
+    sub-receive
+    part-receive-start
+    part-receive-end
     receive-requires
     enum-known-answer
     number-requires
@@ -107,11 +162,13 @@ advance-spec =
     enum-known-answer-2
     is-done-requires
     count-requires-2
+    add-t33
     same-length
     same-length-2
     same-length-3
     same-length-4
     returns
+    add-t35
     same-length-5
     same-length-6
     same-length-7
