@@ -9,18 +9,29 @@ use lib.Seq.{drop-drop}
 use native.Mathlib.Omega.{arith}
 use borrow.Author.Tests.{leb-true}
 use Rattle.refusal.specs.Pick.{pick}
+use Rattle.refusal.specs.Run.{all}
+use Rattle.refusal.specs.Same.{same}
 use Rattle.refusal.proofs.Laws.Lists.{part-rest}
+use Rattle.bech32.specs.Charset.{isLower}
+use Rattle.bech32.specs.Text.{isName, isNameByte}
 use Rattle.session.specs.Commands.{Word}
 use Rattle.session.specs.PhaseOne.{Buffers}
-use Rattle.conversation.specs.Session.{Session}
+use Rattle.session.specs.Opening.{recipientV1}
+use Rattle.conversation.specs.Session.{Session, opened}
 use Rattle.conversation.specs.Receiving.{Heard, heard, declined, Received, received}
-use Rattle.judging.specs.Judging.{Judged, counted, Standing, going, stopped, Turn, turnOf, isDone, turnBy, turned, behind, judgedWith}
+use Rattle.judging.specs.Judging.{Judged, counted, Standing, going, stopped, Turn, turnOf, isDone, turnBy, turned, behind, judgedWith, judgeName, start}
 use Rattle.judging.specs.Windows.{leastOf, windowed}
 use Rattle.judging.specs.Said.{judgedSaid, standingIn, isDue}
 use Rattle.judging.specs.declared.Progress.{Progress}
 use Rattle.judging.specs.declared.Progress.the-variants as the
 use Rattle.judging.proofs.Laws.Reading.{received-takes}
 use Rattle.judging.proofs.Laws.Turns.{turned-takes, behind-stays, behind-behind, ended, unrolled-on, unrolled-off}
+
+-- ---- the opening
+
+pub opened-start : opened recipientV1 judgeName false .session ≡ start
+unfolding same all isName isNameByte isLower
+opened-start = refl
 
 -- ---- one stanza: the code calls with the part of the window from `at` to its end
 

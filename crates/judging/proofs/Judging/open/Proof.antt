@@ -1,3 +1,6 @@
+use mathlib.Core.Path.{refl, ap, _∙_}
+use Rattle.judging.specs.Judging.{going}
+use Rattle.judging.proofs.Laws.Steps.{opened-start}
 use borrow.Author.Needs.{needs}
 use Rattle.judging.proofs.Judging.open.Statement.{statement}
 use Rattle.judging.proofs.Judging.open.Tie as tie
@@ -19,7 +22,7 @@ open-requires c κs = search needs
 
 -- src/lib.rt:125:5
 returns : tie.Need-returns
-returns c = ?
+returns c = (ap going (ap (λ o. o .session) (c .before .«open» .ensures) ∙ opened-start), refl)
 
 pub open-spec : {M : Type 1} → statement M
 open-spec = tie.close (tie.spec slice-aggregate-open slice-aggregate-open-2 open-requires returns)
