@@ -170,3 +170,19 @@ impl Judging {
         }
     }
 }
+
+// A whole text: the five numbers. The judging program lends 16,384, 16,384 and 1,024 bytes of zeros. Header stanzas need no buffer: recipient-v1 has none.
+pub fn judge(
+    text: &[u8],
+    recipients: &mut [u8],
+    identities: &mut [u8],
+    keys: &mut [u8],
+) -> Judged
+    ensures numbers { λ r. ⌜ judgedSaid r ≡ numbersOf (judgedText (buffersOf (now (recipients .entry)) (now (identities .entry)) (now (keys .entry)) []) (now (text .entry)) .standing) ⌝ }
+    ensures buffers { λ _. ⌜ buffersOf (now (recipients .exit)) (now (identities .exit)) (now (keys .exit)) [] ≡ judgedText (buffersOf (now (recipients .entry)) (now (identities .entry)) (now (keys .entry)) []) (now (text .entry)) .buffers ⌝ }
+{
+    let mut headers = [0u8; 0];
+    let begun = Judging::open();
+    let judging = begun.judge_window(text, true, recipients, identities, keys, &mut headers);
+    judging.numbers()
+}

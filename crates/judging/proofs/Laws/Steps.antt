@@ -2,7 +2,7 @@
 use Prim.Native.Nat.{ℕ, suc, _+_, _-_, _<_, _≤_}
 use mathlib.Core.Path.{_≡_, refl, sym, ap, _∙_, subst}
 use mathlib.Core.Bool.{Bool, true, false, false≢true, true≢false}
-use mathlib.Core.List.{List}
+use mathlib.Core.List.{List, [], _∷_}
 use lib.Dec.{leb}
 use lib.ListN.{length, take, drop, length-drop}
 use lib.Seq.{drop-drop}
@@ -32,6 +32,11 @@ use Rattle.judging.proofs.Laws.Turns.{turned-takes, behind-stays, behin
 pub opened-start : opened recipientV1 judgeName false .session ≡ start
 unfolding same all isName isNameByte isLower
 opened-start = refl
+
+-- a buffer of no bytes
+pub empty-list : (l : List ℕ) → length l ≡ 0 → l ≡ []
+empty-list [] h = refl
+empty-list (x ∷ l) h = absurd (omega arith)
 
 -- ---- one stanza: the code calls with the part of the window from `at` to its end
 

@@ -1,0 +1,70 @@
+use Prim.Native.Nat.{ℕ}
+use mathlib.Core.Path.{_≡_, refl, sym, ap, _∙_}
+use mathlib.Core.Bool.{true}
+use mathlib.Core.List.{List, []}
+use lib.ListN.{length}
+use denote.Ref.{now}
+use Rattle.session.specs.PhaseOne.{Buffers, buffersOf}
+use Rattle.judging.specs.Judging.{numbersOf, Turn}
+use Rattle.judging.specs.Windows.{windowed}
+use Rattle.judging.proofs.Laws.Steps.{empty-list}
+use borrow.Author.Needs.{needs}
+use Rattle.judging.proofs.judge.Statement.{statement}
+use Rattle.judging.proofs.judge.Tie as tie
+use Rattle.judging.proofs.judge.Reads as reads
+use Rattle.judging.proofs.judge.Lts as lts
+use Rattle.judging.proofs.Judging.judge_window.Reads as judge-window-reads
+use Rattle.judging.proofs.Judging.numbers.Reads as numbers-reads
+use Rattle.judging.proofs.Judging.open.Reads as open-reads
+
+-- src/lib.rt:185:9
+open-requires : tie.Need-open-requires
+open-requires c κs = search needs
+
+-- src/lib.rt:186:80
+slice-aggregate-judge-window : tie.Need-slice-aggregate-judge-window
+slice-aggregate-judge-window c = search needs
+
+-- src/lib.rt:186:9
+judge-window-requires : tie.Need-judge-window-requires
+judge-window-requires c κs = search needs
+
+-- src/lib.rt:187:5
+numbers-requires : tie.Need-numbers-requires
+numbers-requires c κs = search needs
+
+-- src/lib.rt:175:1
+same-length : tie.Need-same-length
+same-length c = search needs
+
+-- src/lib.rt:175:1
+same-length-2 : tie.Need-same-length-2
+same-length-2 c = search needs
+
+-- src/lib.rt:175:1
+same-length-3 : tie.Need-same-length-3
+same-length-3 c = search needs
+
+-- src/lib.rt:175:1
+returns : tie.Need-returns
+returns c =
+    let a = c .before .before .before .before .before .before .before .before .before .before .before .before .before .before .before .before .before .before .args in
+    let j = c .before .before .before .before .before .before .before .before .judge-window in
+    let r = j .last .1 .1 .1 .0 in
+    let i = j .last .1 .1 .1 .1 .0 in
+    let k = j .last .1 .1 .1 .1 .1 .0 in
+    let e = j .ensures .0 ∙ ap (λ d. windowed true d (buffersOf (now (a .recipients)) (now (a .identities)) (now (a .keys)) []) (now (a .text))) (c .before .before .before .before .before .before .before .before .before .before .before .before .before .«open» .ensures .0) in
+    (c .numbers .ensures ∙ ap (λ t. numbersOf (t .standing)) e, ap (buffersOf r i k) (sym (empty-list (j .last .1 .1 .1 .1 .1 .1 .0) (j .kept .1 .1 .1 .1 .1 .1 .0))) ∙ ap (λ t. t .buffers) e)
+
+pub judge-spec : {M : Type 1} → statement M
+judge-spec =
+    tie.close
+    (tie.spec
+    open-requires
+    slice-aggregate-judge-window
+    judge-window-requires
+    numbers-requires
+    same-length
+    same-length-2
+    same-length-3
+    returns)
