@@ -1,4 +1,5 @@
 -- What is shown of judging.
+pub mod Examples
 pub mod Reading
 pub mod Steps
 pub mod Turns
