@@ -1,14 +1,13 @@
 // Judging a recorded phase one of recipient-v1: stanza after stanza up to done or a refusal, window by window of the input. How the input is cut does not show.
 ghost use mathlib.Core.Path.{_≡_};
-ghost use mathlib.Core.List.{[]};
 ghost use Prim.Native.Nat.{_≤_};
 ghost use lib.ListN.{length, drop};
 ghost use Rattle.session.specs.Commands.{wordSaid};
-ghost use Rattle.session.specs.PhaseOne.{tablesOf, buffersOf};
+ghost use Rattle.session.specs.PhaseOne.{tablesOf};
 ghost use Rattle.plugin.specs.Session.{sessionOf};
 ghost use Rattle.judging.specs.Judging.{counted, going, stopped, isDone, turned, behind, start, judgedText, numbersOf};
 ghost use Rattle.judging.specs.Windows.{windowed, Cut};
-ghost use Rattle.judging.specs.Said.{judgedSaid, isDue, standingOf, turnSaid};
+ghost use Rattle.judging.specs.Said.{judgedSaid, isDue, lentOf, standingOf, turnSaid};
 use plugin::Heard;
 use plugin::Session;
 use session::Tables;
@@ -89,12 +88,18 @@ fn advance(
     recipients: &mut [u8],
     identities: &mut [u8],
     keys: &mut [u8],
-    headers: &mut [u8],
 ) -> Judging
     requires { ⌜ at ≤ length (now window) ⌝ }
-    ensures { λ r. ⌜ turnSaid r (now (recipients .exit)) (now (identities .exit)) (now (keys .exit)) (now (headers .exit)) ≡ behind at (turned (sessionOf session) (buffersOf (now (recipients .entry)) (now (identities .entry)) (now (keys .entry)) (now (headers .entry))) (drop at (now (window .entry)))) ⌝ }
+    ensures { λ r. ⌜ turnSaid r (now (recipients .exit)) (now (identities .exit)) (now (keys .exit)) ≡ behind at (turned (sessionOf session) (lentOf (now (recipients .entry)) (now (identities .entry)) (now (keys .entry))) (drop at (now (window .entry)))) ⌝ }
 {
-    let received = session.receive(&window[at..], recipients, identities, keys, headers);
+    let mut headers = [0u8; 0];
+    let received = session.receive(
+        &window[at..],
+        recipients,
+        identities,
+        keys,
+        &mut headers,
+    );
     let answer = received.answer;
     let after = received.session;
     match answer {
@@ -142,10 +147,9 @@ impl Judging {
         recipients: &mut [u8],
         identities: &mut [u8],
         keys: &mut [u8],
-        headers: &mut [u8],
-    ) -> Judging
-        ensures exact { λ r. ⌜ turnSaid r (now (recipients .exit)) (now (identities .exit)) (now (keys .exit)) (now (headers .exit)) ≡ windowed last (standingOf self) (buffersOf (now (recipients .entry)) (now (identities .entry)) (now (keys .entry)) (now (headers .entry))) (now (window .entry)) ⌝ }
-        ensures any_cut { λ r. ⌜ Cut last (standingOf self) (buffersOf (now (recipients .entry)) (now (identities .entry)) (now (keys .entry)) (now (headers .entry))) (now (window .entry)) (turnSaid r (now (recipients .exit)) (now (identities .exit)) (now (keys .exit)) (now (headers .exit))) ⌝ }
+        ) -> Judging
+        ensures exact { λ r. ⌜ turnSaid r (now (recipients .exit)) (now (identities .exit)) (now (keys .exit)) ≡ windowed last (standingOf self) (lentOf (now (recipients .entry)) (now (identities .entry)) (now (keys .entry))) (now (window .entry)) ⌝ }
+        ensures any_cut { λ r. ⌜ Cut last (standingOf self) (lentOf (now (recipients .entry)) (now (identities .entry)) (now (keys .entry))) (now (window .entry)) (turnSaid r (now (recipients .exit)) (now (identities .exit)) (now (keys .exit))) ⌝ }
     {
         let mut j = self;
         j.taken = 0;
@@ -155,7 +159,7 @@ impl Judging {
             if !is_due(progress, window.len() - at, last) {
                 return j;
             }
-            j = advance(j.session, window, at, recipients, identities, keys, headers);
+            j = advance(j.session, window, at, recipients, identities, keys);
         }
     }
 
@@ -178,11 +182,10 @@ pub fn judge(
     identities: &mut [u8],
     keys: &mut [u8],
 ) -> Judged
-    ensures numbers { λ r. ⌜ judgedSaid r ≡ numbersOf (judgedText (buffersOf (now (recipients .entry)) (now (identities .entry)) (now (keys .entry)) []) (now (text .entry)) .standing) ⌝ }
-    ensures buffers { λ _. ⌜ buffersOf (now (recipients .exit)) (now (identities .exit)) (now (keys .exit)) [] ≡ judgedText (buffersOf (now (recipients .entry)) (now (identities .entry)) (now (keys .entry)) []) (now (text .entry)) .buffers ⌝ }
+    ensures numbers { λ r. ⌜ judgedSaid r ≡ numbersOf (judgedText (lentOf (now (recipients .entry)) (now (identities .entry)) (now (keys .entry))) (now (text .entry)) .standing) ⌝ }
+    ensures buffers { λ _. ⌜ lentOf (now (recipients .exit)) (now (identities .exit)) (now (keys .exit)) ≡ judgedText (lentOf (now (recipients .entry)) (now (identities .entry)) (now (keys .entry))) (now (text .entry)) .buffers ⌝ }
 {
-    let mut headers = [0u8; 0];
     let begun = Judging::open();
-    let judging = begun.judge_window(text, true, recipients, identities, keys, &mut headers);
+    let judging = begun.judge_window(text, true, recipients, identities, keys);
     judging.numbers()
 }

@@ -15,13 +15,13 @@ use Rattle.refusal.proofs.Laws.Lists.{part-rest}
 use Rattle.bech32.specs.Charset.{isLower}
 use Rattle.bech32.specs.Text.{isName, isNameByte}
 use Rattle.session.specs.Commands.{Word}
-use Rattle.session.specs.PhaseOne.{Buffers}
+use Rattle.session.specs.PhaseOne.{Buffers, buffersOf}
 use Rattle.session.specs.Opening.{recipientV1}
 use Rattle.conversation.specs.Session.{Session, opened}
 use Rattle.conversation.specs.Receiving.{Heard, heard, declined, Received, received}
-use Rattle.judging.specs.Judging.{Judged, counted, Standing, going, stopped, Turn, turnOf, isDone, turnBy, turned, behind, judgedWith, judgeName, start}
+use Rattle.judging.specs.Judging.{Judged, counted, Standing, going, stopped, Turn, turnOf, isDone, turnBy, turned, behind, judgedWith, judgeName, start, judgedText}
 use Rattle.judging.specs.Windows.{leastOf, windowed}
-use Rattle.judging.specs.Said.{judgedSaid, standingIn, isDue}
+use Rattle.judging.specs.Said.{judgedSaid, standingIn, lentOf, isDue}
 use Rattle.judging.specs.declared.Progress.{Progress}
 use Rattle.judging.specs.declared.Progress.the-variants as the
 use Rattle.judging.proofs.Laws.Reading.{received-takes}
@@ -40,31 +40,38 @@ empty-list (x ∷ l) h = absurd (omega arith)
 
 -- ---- one stanza: the code calls with the part of the window from `at` to its end
 
-module _ (s after : Session) (b b′ : Buffers) (window : List ℕ) (at : ℕ) (a : Heard)
-    (e : _≡_ {A = Received} (record { answer = a; session = after; buffers = b′ }) (received s (take (length window - at) (drop at window)) b)) where
-  by-answer : (a′ : Heard) → a ≡ a′ → behind at (turnBy s (record { answer = a′; session = after; buffers = b′ })) ≡ behind at (turned s b (drop at window))
+module _ (s after : Session) (b : Buffers) (r i k h : List ℕ) (window : List ℕ) (at : ℕ) (a : Heard) (none : length h ≡ 0)
+    (e : _≡_ {A = Received} (record { answer = a; session = after; buffers = buffersOf r i k h }) (received s (take (length window - at) (drop at window)) b)) where
+  by-answer : (a′ : Heard) → a ≡ a′ → behind at (turnBy s (record { answer = a′; session = after; buffers = lentOf r i k })) ≡ behind at (turned s b (drop at window))
   by-answer a′ q =
       ap (behind at)
-      (ap (λ x. turnBy s (record { answer = x; session = after; buffers = b′ })) (sym q) ∙ ap (turnBy s) e ∙ ap (turned s b) (part-rest at window))
+      (ap (λ x. turnBy s (record { answer = x; session = after; buffers = lentOf r i k })) (sym q)
+      ∙ ap (λ x. turnBy s (record { answer = a; session = after; buffers = buffersOf r i k x })) (sym (empty-list h none))
+      ∙ ap (turnBy s) e
+      ∙ ap (turned s b) (part-rest at window))
 
   -- a refusal stops it, with the counts before
-  pub turn-refused : (n m : ℕ) (x : Judged) → a ≡ declined n → m ≡ n → x ≡ counted (s .tables) m → turnOf (stopped x) b′ at ≡ behind at (turned s b (drop at window))
-  turn-refused n m x q p r = ap (λ y. turnOf (stopped y) b′ at) (r ∙ ap (counted (s .tables)) p) ∙ sym (behind-stays (stopped (counted (s .tables) n)) b′ at) ∙ by-answer (declined n) q
+  pub turn-refused : (n m : ℕ) (x : Judged) → a ≡ declined n → m ≡ n → x ≡ counted (s .tables) m → turnOf (stopped x) (lentOf r i k) at ≡ behind at (turned s b (drop at window))
+  turn-refused n m x q p c =
+      ap (λ y. turnOf (stopped y) (lentOf r i k) at) (c ∙ ap (counted (s .tables)) p) ∙ sym (behind-stays (stopped (counted (s .tables) n)) (lentOf r i k) at) ∙ by-answer (declined n) q
+
+  abbrev stands : Bool → Standing
+  stands f = pick f (stopped (counted (after .tables) 0)) (going after)
 
   -- done stops it
-  pub turn-done : (w : Word) (k : ℕ) (f : Bool) (x : Judged) → a ≡ heard w k → f ≡ isDone w → f ≡ true → x ≡ counted (after .tables) 0 →
-      turnOf (stopped x) b′ (at + k) ≡ behind at (turned s b (drop at window))
-  turn-done w k f x q d t r =
-      ap (λ y. turnOf (stopped y) b′ (at + k)) r ∙ ap (λ g. turnOf (pick g (stopped (counted (after .tables) 0)) (going after)) b′ (at + k)) (sym t ∙ d) ∙ by-answer (heard w k) q
+  pub turn-done : (w : Word) (n : ℕ) (f : Bool) (x : Judged) → a ≡ heard w n → f ≡ isDone w → f ≡ true → x ≡ counted (after .tables) 0 →
+      turnOf (stopped x) (lentOf r i k) (at + n) ≡ behind at (turned s b (drop at window))
+  turn-done w n f x q d t c =
+      ap (λ y. turnOf (stopped y) (lentOf r i k) (at + n)) c ∙ ap (λ g. turnOf (stands g) (lentOf r i k) (at + n)) (sym t ∙ d) ∙ by-answer (heard w n) q
 
   -- any other command lets it go on
-  pub turn-on : (w : Word) (k : ℕ) (f : Bool) → a ≡ heard w k → f ≡ isDone w → f ≡ false → turnOf (going after) b′ (at + k) ≡ behind at (turned s b (drop at window))
-  turn-on w k f q d t = ap (λ g. turnOf (pick g (stopped (counted (after .tables) 0)) (going after)) b′ (at + k)) (sym t ∙ d) ∙ by-answer (heard w k) q
+  pub turn-on : (w : Word) (n : ℕ) (f : Bool) → a ≡ heard w n → f ≡ isDone w → f ≡ false → turnOf (going after) (lentOf r i k) (at + n) ≡ behind at (turned s b (drop at window))
+  turn-on w n f q d t = ap (λ g. turnOf (stands g) (lentOf r i k) (at + n)) (sym t ∙ d) ∙ by-answer (heard w n) q
 
   -- what was taken lies within the window
-  pub turn-within : (w : Word) (k : ℕ) → a ≡ heard w k → at ≤ length window → at + k ≤ length window
-  turn-within w k q h =
-      let l = received-takes s b (take (length window - at) (drop at window)) w k (ap (λ r. r .answer) (sym e) ∙ q) .1 in
+  pub turn-within : (w : Word) (n : ℕ) → a ≡ heard w n → at ≤ length window → at + n ≤ length window
+  turn-within w n q f =
+      let l = received-takes s b (take (length window - at) (drop at window)) w n (ap (λ x. x .answer) (sym e) ∙ q) .1 in
       omega (arith, ap length (part-rest at window), length-drop at window)
 
 -- ---- one turn of the loop
@@ -113,3 +120,8 @@ module _ (last : Bool) (window : List ℕ) (at : ℕ) (s : Session) (b : Buffers
           let k = turned-takes s b (drop at window) in
           let m = k .moves s′ (sym (ap (λ y. y .standing) e) ∙ h) in
           omega (arith, ap (λ y. y .taken) e, k .within, length-drop at window)
+
+-- ---- a whole text
+
+pub whole : (u : Turn) (d : Standing) (b : Buffers) (text : List ℕ) → u ≡ windowed true d b text → d ≡ going start → u ≡ judgedText b text
+whole u d b text e q = e ∙ ap (λ x. windowed true x b text) q

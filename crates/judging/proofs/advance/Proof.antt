@@ -3,10 +3,9 @@ use mathlib.Core.Path.{ap}
 use denote.Ref.{now}
 use Rattle.refusal.specs.Number.{numberOf}
 use Rattle.session.specs.Commands.{wordSaid}
-use Rattle.session.specs.PhaseOne.{buffersOf}
 use Rattle.plugin.specs.Session.{sessionOf}
 use Rattle.plugin.specs.Receiving.{heardSaid}
-use Rattle.judging.specs.Said.{judgedSaid}
+use Rattle.judging.specs.Said.{judgedSaid, lentOf}
 use Rattle.judging.proofs.Laws.Steps.{turn-refused, turn-done, turn-on, turn-within}
 use borrow.Author.Needs.{needs}
 use Rattle.judging.proofs.advance.Statement.{statement}
@@ -29,6 +28,10 @@ part-receive-start c = search needs
 -- src/lib.rt:97:36
 part-receive-end : tie.Need-part-receive-end
 part-receive-end c = search needs
+
+-- src/lib.rt:101:9
+slice-aggregate-receive : tie.Need-slice-aggregate-receive
+slice-aggregate-receive c = search needs
 
 -- src/lib.rt:97:9
 receive-requires : tie.Need-receive-requires
@@ -61,11 +64,11 @@ count-requires-2 c κs = search needs
 -- src/lib.rt:111:28
 add-t33 : tie.Need-add-t33
 add-t33 c =
-    let a = c .before .before .before .before .before .before .before .before .before .before .before .before .before .before .before .before .before .before .before .before .before .before .before .before .before .before .args in
-    let r = c .before .before .before .before .before .before .before .before .before .before .before .before .before .before .before .receive in
-    let h = turn-within (sessionOf (a .session)) (sessionOf (r .result .session)) (buffersOf (now (a .recipients)) (now (a .identities)) (now (a .keys)) (now (a .headers))) (buffersOf (r .last .1 .1 .0) (r .last .1 .1 .1 .0) (r .last .1 .1 .1 .1 .0) (r .last .1 .1 .1 .1 .1 .0)) (now (a .window)) (a .at) (heardSaid (r .result .answer)) (r .ensures)
-    (wordSaid (c .before .before .before .before .answer2 .given .0 .0)) (c .before .before .before .before .answer2 .given .0 .1 .0) (ap heardSaid (c .before .before .before .before .answer2 .given .1)) (c .before .before .before .before .before .before .before .before .before .before .before .before .before .before .before .before .before .before .before .before .before .before .before .before .before .before .pre) in
-    omega (arith, h, c .before .before .before .before .before .before .before .before .before .before .before .before .before .before .before .before .before .before .before .before .before .before .before .before .before .before .good)
+    let a = c .before .before .before .before .before .before .before .before .before .before .before .before .before .before .before .before .before .before .before .before .before .before .before .before .args in
+    let r = c .before .before .before .before .before .before .before .before .before .before .before .before .before .before .receive in
+    let h = turn-within (sessionOf (a .session)) (sessionOf (r .result .session)) (lentOf (now (a .recipients)) (now (a .identities)) (now (a .keys))) (r .last .1 .1 .0) (r .last .1 .1 .1 .0) (r .last .1 .1 .1 .1 .0) (r .last .1 .1 .1 .1 .1 .0) (now (a .window)) (a .at) (heardSaid (r .result .answer)) (r .kept .1 .1 .1 .1 .1 .0) (r .ensures)
+    (wordSaid (c .before .before .before .before .answer2 .given .0 .0)) (c .before .before .before .before .answer2 .given .0 .1 .0) (ap heardSaid (c .before .before .before .before .answer2 .given .1)) (c .before .before .before .before .before .before .before .before .before .before .before .before .before .before .before .before .before .before .before .before .before .before .before .before .pre) in
+    omega (arith, h, c .before .before .before .before .before .before .before .before .before .before .before .before .before .before .before .before .before .before .before .before .before .before .before .before .good)
 
 -- src/lib.rt:108:17
 same-length : tie.Need-same-length
@@ -80,25 +83,25 @@ same-length-3 : tie.Need-same-length-3
 same-length-3 c = search needs
 
 -- src/lib.rt:108:17
-same-length-4 : tie.Need-same-length-4
-same-length-4 c = search needs
-
--- src/lib.rt:108:17
 returns : tie.Need-returns
 returns c =
-    let a = c .before .before .before .before .before .before .before .before .before .before .before .before .before .before .before .before .before .before .before .before .before .before .before .before .before .before .args in
-    let r = c .before .before .before .before .before .before .before .before .before .before .before .before .before .before .before .receive in
-    turn-done (sessionOf (a .session)) (sessionOf (r .result .session)) (buffersOf (now (a .recipients)) (now (a .identities)) (now (a .keys)) (now (a .headers))) (buffersOf (r .last .1 .1 .0) (r .last .1 .1 .1 .0) (r .last .1 .1 .1 .1 .0) (r .last .1 .1 .1 .1 .1 .0)) (now (a .window)) (a .at) (heardSaid (r .result .answer)) (r .ensures)
+    let a = c .before .before .before .before .before .before .before .before .before .before .before .before .before .before .before .before .before .before .before .before .before .before .before .before .args in
+    let r = c .before .before .before .before .before .before .before .before .before .before .before .before .before .before .receive in
+    turn-done (sessionOf (a .session)) (sessionOf (r .result .session)) (lentOf (now (a .recipients)) (now (a .identities)) (now (a .keys))) (r .last .1 .1 .0) (r .last .1 .1 .1 .0) (r .last .1 .1 .1 .1 .0) (r .last .1 .1 .1 .1 .1 .0) (now (a .window)) (a .at) (heardSaid (r .result .answer)) (r .kept .1 .1 .1 .1 .1 .0) (r .ensures)
     (wordSaid (c .before .before .before .before .answer2 .given .0 .0)) (c .before .before .before .before .answer2 .given .0 .1 .0) (c .before .before .is-done .result) (judgedSaid (c .count2 .result)) (ap heardSaid (c .before .before .before .before .answer2 .given .1)) (c .before .before .is-done .ensures) (c .before .if1 .taken) (c .count2 .ensures)
 
 -- src/lib.rt:117:24
 add-t35 : tie.Need-add-t35
 add-t35 c =
-    let a = c .before .before .before .before .before .before .before .before .before .before .before .before .before .before .before .before .before .before .before .before .before .before .before .before .before .args in
-    let r = c .before .before .before .before .before .before .before .before .before .before .before .before .before .before .receive in
-    let h = turn-within (sessionOf (a .session)) (sessionOf (r .result .session)) (buffersOf (now (a .recipients)) (now (a .identities)) (now (a .keys)) (now (a .headers))) (buffersOf (r .last .1 .1 .0) (r .last .1 .1 .1 .0) (r .last .1 .1 .1 .1 .0) (r .last .1 .1 .1 .1 .1 .0)) (now (a .window)) (a .at) (heardSaid (r .result .answer)) (r .ensures)
-    (wordSaid (c .before .before .before .answer2 .given .0 .0)) (c .before .before .before .answer2 .given .0 .1 .0) (ap heardSaid (c .before .before .before .answer2 .given .1)) (c .before .before .before .before .before .before .before .before .before .before .before .before .before .before .before .before .before .before .before .before .before .before .before .before .before .pre) in
-    omega (arith, h, c .before .before .before .before .before .before .before .before .before .before .before .before .before .before .before .before .before .before .before .before .before .before .before .before .before .good)
+    let a = c .before .before .before .before .before .before .before .before .before .before .before .before .before .before .before .before .before .before .before .before .before .before .before .args in
+    let r = c .before .before .before .before .before .before .before .before .before .before .before .before .before .receive in
+    let h = turn-within (sessionOf (a .session)) (sessionOf (r .result .session)) (lentOf (now (a .recipients)) (now (a .identities)) (now (a .keys))) (r .last .1 .1 .0) (r .last .1 .1 .1 .0) (r .last .1 .1 .1 .1 .0) (r .last .1 .1 .1 .1 .1 .0) (now (a .window)) (a .at) (heardSaid (r .result .answer)) (r .kept .1 .1 .1 .1 .1 .0) (r .ensures)
+    (wordSaid (c .before .before .before .answer2 .given .0 .0)) (c .before .before .before .answer2 .given .0 .1 .0) (ap heardSaid (c .before .before .before .answer2 .given .1)) (c .before .before .before .before .before .before .before .before .before .before .before .before .before .before .before .before .before .before .before .before .before .before .before .pre) in
+    omega (arith, h, c .before .before .before .before .before .before .before .before .before .before .before .before .before .before .before .before .before .before .before .before .before .before .before .good)
+
+-- src/lib.rt:108:17
+same-length-4 : tie.Need-same-length-4
+same-length-4 c = search needs
 
 -- src/lib.rt:85:1
 same-length-5 : tie.Need-same-length-5
@@ -109,6 +112,14 @@ same-length-6 : tie.Need-same-length-6
 same-length-6 c = search needs
 
 -- src/lib.rt:85:1
+returns-2 : tie.Need-returns-2
+returns-2 c =
+    let a = c .before .before .before .before .before .before .before .before .before .before .before .before .before .before .before .before .before .before .before .before .before .before .before .args in
+    let r = c .before .before .before .before .before .before .before .before .before .before .before .before .before .receive in
+    turn-refused (sessionOf (a .session)) (sessionOf (r .result .session)) (lentOf (now (a .recipients)) (now (a .identities)) (now (a .keys))) (r .last .1 .1 .0) (r .last .1 .1 .1 .0) (r .last .1 .1 .1 .1 .0) (r .last .1 .1 .1 .1 .1 .0) (now (a .window)) (a .at) (heardSaid (r .result .answer)) (r .kept .1 .1 .1 .1 .1 .0) (r .ensures)
+    (numberOf (c .before .before .before .answer .given .0 .0)) (c .before .number .result) (judgedSaid (c .count .result)) (ap heardSaid (c .before .before .before .answer .given .1)) (c .before .number .ensures) (c .count .ensures)
+
+-- src/lib.rt:85:1
 same-length-7 : tie.Need-same-length-7
 same-length-7 c = search needs
 
@@ -117,35 +128,15 @@ same-length-8 : tie.Need-same-length-8
 same-length-8 c = search needs
 
 -- src/lib.rt:85:1
-returns-2 : tie.Need-returns-2
-returns-2 c =
-    let a = c .before .before .before .before .before .before .before .before .before .before .before .before .before .before .before .before .before .before .before .before .before .before .before .before .before .args in
-    let r = c .before .before .before .before .before .before .before .before .before .before .before .before .before .before .receive in
-    turn-refused (sessionOf (a .session)) (sessionOf (r .result .session)) (buffersOf (now (a .recipients)) (now (a .identities)) (now (a .keys)) (now (a .headers))) (buffersOf (r .last .1 .1 .0) (r .last .1 .1 .1 .0) (r .last .1 .1 .1 .1 .0) (r .last .1 .1 .1 .1 .1 .0)) (now (a .window)) (a .at) (heardSaid (r .result .answer)) (r .ensures)
-    (numberOf (c .before .before .before .answer .given .0 .0)) (c .before .number .result) (judgedSaid (c .count .result)) (ap heardSaid (c .before .before .before .answer .given .1)) (c .before .number .ensures) (c .count .ensures)
-
--- src/lib.rt:85:1
 same-length-9 : tie.Need-same-length-9
 same-length-9 c = search needs
 
 -- src/lib.rt:85:1
-same-length-10 : tie.Need-same-length-10
-same-length-10 c = search needs
-
--- src/lib.rt:85:1
-same-length-11 : tie.Need-same-length-11
-same-length-11 c = search needs
-
--- src/lib.rt:85:1
-same-length-12 : tie.Need-same-length-12
-same-length-12 c = search needs
-
--- src/lib.rt:85:1
 returns-3 : tie.Need-returns-3
 returns-3 c =
-    let a = c .before .before .before .before .before .before .before .before .before .before .before .before .before .before .before .before .before .before .before .before .before .before .before .before .before .args in
-    let r = c .before .before .before .before .before .before .before .before .before .before .before .before .before .before .receive in
-    turn-on (sessionOf (a .session)) (sessionOf (r .result .session)) (buffersOf (now (a .recipients)) (now (a .identities)) (now (a .keys)) (now (a .headers))) (buffersOf (r .last .1 .1 .0) (r .last .1 .1 .1 .0) (r .last .1 .1 .1 .1 .0) (r .last .1 .1 .1 .1 .1 .0)) (now (a .window)) (a .at) (heardSaid (r .result .answer)) (r .ensures)
+    let a = c .before .before .before .before .before .before .before .before .before .before .before .before .before .before .before .before .before .before .before .before .before .before .before .args in
+    let r = c .before .before .before .before .before .before .before .before .before .before .before .before .before .receive in
+    turn-on (sessionOf (a .session)) (sessionOf (r .result .session)) (lentOf (now (a .recipients)) (now (a .identities)) (now (a .keys))) (r .last .1 .1 .0) (r .last .1 .1 .1 .0) (r .last .1 .1 .1 .1 .0) (r .last .1 .1 .1 .1 .1 .0) (now (a .window)) (a .at) (heardSaid (r .result .answer)) (r .kept .1 .1 .1 .1 .1 .0) (r .ensures)
     (wordSaid (c .before .before .before .answer2 .given .0 .0)) (c .before .before .before .answer2 .given .0 .1 .0) (c .before .is-done .result) (ap heardSaid (c .before .before .before .answer2 .given .1)) (c .before .is-done .ensures) (c .if1 .left)
 
 pub advance-spec : {M : Type 1} → statement M
@@ -155,6 +146,7 @@ advance-spec =
     sub-receive
     part-receive-start
     part-receive-end
+    slice-aggregate-receive
     receive-requires
     enum-known-answer
     number-requires
@@ -166,16 +158,13 @@ advance-spec =
     same-length
     same-length-2
     same-length-3
-    same-length-4
     returns
     add-t35
+    same-length-4
     same-length-5
     same-length-6
+    returns-2
     same-length-7
     same-length-8
-    returns-2
     same-length-9
-    same-length-10
-    same-length-11
-    same-length-12
     returns-3)

@@ -1,13 +1,8 @@
-use Prim.Native.Nat.{ℕ}
-use mathlib.Core.Path.{_≡_, refl, sym, ap, _∙_}
-use mathlib.Core.Bool.{true}
-use mathlib.Core.List.{List, []}
-use lib.ListN.{length}
+use mathlib.Core.Path.{ap, _∙_}
 use denote.Ref.{now}
-use Rattle.session.specs.PhaseOne.{Buffers, buffersOf}
-use Rattle.judging.specs.Judging.{numbersOf, Turn}
-use Rattle.judging.specs.Windows.{windowed}
-use Rattle.judging.proofs.Laws.Steps.{empty-list}
+use Rattle.judging.specs.Judging.{numbersOf}
+use Rattle.judging.specs.Said.{standingOf, lentOf, turnSaid}
+use Rattle.judging.proofs.Laws.Steps.{whole}
 use borrow.Author.Needs.{needs}
 use Rattle.judging.proofs.judge.Statement.{statement}
 use Rattle.judging.proofs.judge.Tie as tie
@@ -20,10 +15,6 @@ use Rattle.judging.proofs.Judging.open.Reads as open-reads
 -- src/lib.rt:185:9
 open-requires : tie.Need-open-requires
 open-requires c κs = search needs
-
--- src/lib.rt:186:80
-slice-aggregate-judge-window : tie.Need-slice-aggregate-judge-window
-slice-aggregate-judge-window c = search needs
 
 -- src/lib.rt:186:9
 judge-window-requires : tie.Need-judge-window-requires
@@ -48,20 +39,16 @@ same-length-3 c = search needs
 -- src/lib.rt:175:1
 returns : tie.Need-returns
 returns c =
-    let a = c .before .before .before .before .before .before .before .before .before .before .before .before .before .before .before .before .before .before .args in
-    let j = c .before .before .before .before .before .before .before .before .judge-window in
-    let r = j .last .1 .1 .1 .0 in
-    let i = j .last .1 .1 .1 .1 .0 in
-    let k = j .last .1 .1 .1 .1 .1 .0 in
-    let e = j .ensures .0 ∙ ap (λ d. windowed true d (buffersOf (now (a .recipients)) (now (a .identities)) (now (a .keys)) []) (now (a .text))) (c .before .before .before .before .before .before .before .before .before .before .before .before .before .«open» .ensures .0) in
-    (c .numbers .ensures ∙ ap (λ t. numbersOf (t .standing)) e, ap (buffersOf r i k) (sym (empty-list (j .last .1 .1 .1 .1 .1 .1 .0) (j .kept .1 .1 .1 .1 .1 .1 .0))) ∙ ap (λ t. t .buffers) e)
+    let a = c .before .before .before .before .before .before .before .before .before .before .before .before .before .before .before .before .args in
+    let j = c .before .before .before .before .before .before .before .judge-window in
+    let e = whole (turnSaid (j .result) (j .last .1 .1 .1 .0) (j .last .1 .1 .1 .1 .0) (j .last .1 .1 .1 .1 .1 .0)) (standingOf (c .before .before .before .before .before .before .before .before .before .before .before .«open» .result)) (lentOf (now (a .recipients)) (now (a .identities)) (now (a .keys))) (now (a .text)) (j .ensures .0) (c .before .before .before .before .before .before .before .before .before .before .before .«open» .ensures .0) in
+    (c .numbers .ensures ∙ ap (λ t. numbersOf (t .standing)) e, ap (λ t. t .buffers) e)
 
 pub judge-spec : {M : Type 1} → statement M
 judge-spec =
     tie.close
     (tie.spec
     open-requires
-    slice-aggregate-judge-window
     judge-window-requires
     numbers-requires
     same-length
