@@ -37,12 +37,7 @@ fn main() {
 
 // Reads up to done, a refusal or the end of the input. A proved loop has to end, and nothing says that the input does, so the turns are counted down from a
 // number that no run uses up.
-fn run(
-    window: &mut [u8],
-    recipients: &mut [u8],
-    identities: &mut [u8],
-    keys: &mut [u8],
-) -> Judged
+fn run(window: &mut [u8], recipients: &mut [u8], identities: &mut [u8], keys: &mut [u8]) -> Judged
     requires { ⌜ 8192 ≤ length (now window) ⌝ }
 {
     let mut s = State {

@@ -31,7 +31,7 @@ pub enum Progress {
     Stopped(Judged),
 }
 
-// Where judging stands, and how many bytes of the last window it took.
+// Where judging stands, and how many bytes of the last window it took. Where it has stopped the session is left open: nothing goes by it any more.
 pub struct Judging {
     pub session: Session,
     pub progress: Progress,
@@ -93,13 +93,7 @@ fn advance(
     ensures { λ r. ⌜ turnSaid r (now (recipients .exit)) (now (identities .exit)) (now (keys .exit)) ≡ behind at (turned (sessionOf session) (lentOf (now (recipients .entry)) (now (identities .entry)) (now (keys .entry))) (drop at (now (window .entry)))) ⌝ }
 {
     let mut headers = [0u8; 0];
-    let received = session.receive(
-        &window[at..],
-        recipients,
-        identities,
-        keys,
-        &mut headers,
-    );
+    let received = session.receive(&window[at..], recipients, identities, keys, &mut headers);
     let answer = received.answer;
     let after = received.session;
     match answer {
@@ -139,7 +133,8 @@ impl Judging {
         }
     }
 
-    // A window of the input, which ends behind it where it is the last. What is not taken stands at the front of the next window.
+    // A window of the input, which ends behind it where it is the last. The next window begins with what is not taken. However the input is cut, it is judged
+    // alike.
     pub fn judge_window(
         self,
         window: &[u8],
@@ -147,7 +142,7 @@ impl Judging {
         recipients: &mut [u8],
         identities: &mut [u8],
         keys: &mut [u8],
-        ) -> Judging
+    ) -> Judging
         ensures exact { λ r. ⌜ turnSaid r (now (recipients .exit)) (now (identities .exit)) (now (keys .exit)) ≡ windowed last (standingOf self) (lentOf (now (recipients .entry)) (now (identities .entry)) (now (keys .entry))) (now (window .entry)) ⌝ }
         ensures any_cut { λ r. ⌜ Cut last (standingOf self) (lentOf (now (recipients .entry)) (now (identities .entry)) (now (keys .entry))) (now (window .entry)) (turnSaid r (now (recipients .exit)) (now (identities .exit)) (now (keys .exit))) ⌝ }
     {
@@ -176,12 +171,7 @@ impl Judging {
 }
 
 // A whole text: the five numbers. The judging program lends 16,384, 16,384 and 1,024 bytes of zeros. Header stanzas need no buffer: recipient-v1 has none.
-pub fn judge(
-    text: &[u8],
-    recipients: &mut [u8],
-    identities: &mut [u8],
-    keys: &mut [u8],
-) -> Judged
+pub fn judge(text: &[u8], recipients: &mut [u8], identities: &mut [u8], keys: &mut [u8]) -> Judged
     ensures numbers { λ r. ⌜ judgedSaid r ≡ numbersOf (judgedText (lentOf (now (recipients .entry)) (now (identities .entry)) (now (keys .entry))) (now (text .entry)) .standing) ⌝ }
     ensures buffers { λ _. ⌜ lentOf (now (recipients .exit)) (now (identities .exit)) (now (keys .exit)) ≡ judgedText (lentOf (now (recipients .entry)) (now (identities .entry)) (now (keys .entry))) (now (text .entry)) .buffers ⌝ }
 {

@@ -1,3 +1,4 @@
+-- `advance` meets its contract: what `receive` ensures of the part of the window from `at` on, by the answer it gave.
 use native.Mathlib.Omega.{arith}
 use mathlib.Core.Path.{ap}
 use denote.Ref.{now}
@@ -10,58 +11,40 @@ use Rattle.judging.proofs.Laws.Steps.{turn-refused, turn-done, turn-on,
 use borrow.Author.Needs.{needs}
 use Rattle.judging.proofs.advance.Statement.{statement}
 use Rattle.judging.proofs.advance.Tie as tie
-use Rattle.judging.proofs.advance.Reads as reads
-use Rattle.judging.proofs.advance.Lts as lts
-use Rattle.judging.proofs.count.Reads as count-reads
-use Rattle.judging.proofs.is_done.Reads as is-done-reads
-use Rattle.plugin.proofs.sessions.Session.receive.Reads as receive-reads
-use Rattle.refusal.proofs.number.Reads as number-reads
 
--- src/lib.rt:97:36
 sub-receive : tie.Need-sub-receive
 sub-receive c = search needs
 
--- src/lib.rt:97:36
 part-receive-start : tie.Need-part-receive-start
 part-receive-start c = search needs
 
--- src/lib.rt:97:36
 part-receive-end : tie.Need-part-receive-end
 part-receive-end c = search needs
 
--- src/lib.rt:101:9
 slice-aggregate-receive : tie.Need-slice-aggregate-receive
 slice-aggregate-receive c = search needs
 
--- src/lib.rt:97:9
 receive-requires : tie.Need-receive-requires
 receive-requires c κs = search needs
 
--- src/lib.rt:101:24
 enum-known-answer : tie.Need-enum-known-answer
 enum-known-answer c = search needs
 
--- src/lib.rt:103:63
 number-requires : tie.Need-number-requires
 number-requires c κs = search needs
 
--- src/lib.rt:103:41
 count-requires : tie.Need-count-requires
 count-requires c κs = search needs
 
--- src/lib.rt:106:24
 enum-known-answer-2 : tie.Need-enum-known-answer-2
 enum-known-answer-2 c = search needs
 
--- src/lib.rt:107:16
 is-done-requires : tie.Need-is-done-requires
 is-done-requires c κs = search needs
 
--- src/lib.rt:110:49
 count-requires-2 : tie.Need-count-requires-2
 count-requires-2 c κs = search needs
 
--- src/lib.rt:111:28
 add-t33 : tie.Need-add-t33
 add-t33 c =
     let a = c .before .before .before .before .before .before .before .before .before .before .before .before .before .before .before .before .before .before .before .before .before .before .before .before .args in
@@ -70,19 +53,15 @@ add-t33 c =
     (wordSaid (c .before .before .before .before .answer2 .given .0 .0)) (c .before .before .before .before .answer2 .given .0 .1 .0) (ap heardSaid (c .before .before .before .before .answer2 .given .1)) (c .before .before .before .before .before .before .before .before .before .before .before .before .before .before .before .before .before .before .before .before .before .before .before .before .pre) in
     omega (arith, h, c .before .before .before .before .before .before .before .before .before .before .before .before .before .before .before .before .before .before .before .before .before .before .before .before .good)
 
--- src/lib.rt:108:17
 same-length : tie.Need-same-length
 same-length c = search needs
 
--- src/lib.rt:108:17
 same-length-2 : tie.Need-same-length-2
 same-length-2 c = search needs
 
--- src/lib.rt:108:17
 same-length-3 : tie.Need-same-length-3
 same-length-3 c = search needs
 
--- src/lib.rt:108:17
 returns : tie.Need-returns
 returns c =
     let a = c .before .before .before .before .before .before .before .before .before .before .before .before .before .before .before .before .before .before .before .before .before .before .before .before .args in
@@ -90,7 +69,6 @@ returns c =
     turn-done (sessionOf (a .session)) (sessionOf (r .result .session)) (lentOf (now (a .recipients)) (now (a .identities)) (now (a .keys))) (r .last .1 .1 .0) (r .last .1 .1 .1 .0) (r .last .1 .1 .1 .1 .0) (r .last .1 .1 .1 .1 .1 .0) (now (a .window)) (a .at) (heardSaid (r .result .answer)) (r .kept .1 .1 .1 .1 .1 .0) (r .ensures)
     (wordSaid (c .before .before .before .before .answer2 .given .0 .0)) (c .before .before .before .before .answer2 .given .0 .1 .0) (c .before .before .is-done .result) (judgedSaid (c .count2 .result)) (ap heardSaid (c .before .before .before .before .answer2 .given .1)) (c .before .before .is-done .ensures) (c .before .if1 .taken) (c .count2 .ensures)
 
--- src/lib.rt:117:24
 add-t35 : tie.Need-add-t35
 add-t35 c =
     let a = c .before .before .before .before .before .before .before .before .before .before .before .before .before .before .before .before .before .before .before .before .before .before .before .args in
@@ -99,19 +77,15 @@ add-t35 c =
     (wordSaid (c .before .before .before .answer2 .given .0 .0)) (c .before .before .before .answer2 .given .0 .1 .0) (ap heardSaid (c .before .before .before .answer2 .given .1)) (c .before .before .before .before .before .before .before .before .before .before .before .before .before .before .before .before .before .before .before .before .before .before .before .pre) in
     omega (arith, h, c .before .before .before .before .before .before .before .before .before .before .before .before .before .before .before .before .before .before .before .before .before .before .before .good)
 
--- src/lib.rt:108:17
 same-length-4 : tie.Need-same-length-4
 same-length-4 c = search needs
 
--- src/lib.rt:85:1
 same-length-5 : tie.Need-same-length-5
 same-length-5 c = search needs
 
--- src/lib.rt:85:1
 same-length-6 : tie.Need-same-length-6
 same-length-6 c = search needs
 
--- src/lib.rt:85:1
 returns-2 : tie.Need-returns-2
 returns-2 c =
     let a = c .before .before .before .before .before .before .before .before .before .before .before .before .before .before .before .before .before .before .before .before .before .before .before .args in
@@ -119,19 +93,15 @@ returns-2 c =
     turn-refused (sessionOf (a .session)) (sessionOf (r .result .session)) (lentOf (now (a .recipients)) (now (a .identities)) (now (a .keys))) (r .last .1 .1 .0) (r .last .1 .1 .1 .0) (r .last .1 .1 .1 .1 .0) (r .last .1 .1 .1 .1 .1 .0) (now (a .window)) (a .at) (heardSaid (r .result .answer)) (r .kept .1 .1 .1 .1 .1 .0) (r .ensures)
     (numberOf (c .before .before .before .answer .given .0 .0)) (c .before .number .result) (judgedSaid (c .count .result)) (ap heardSaid (c .before .before .before .answer .given .1)) (c .before .number .ensures) (c .count .ensures)
 
--- src/lib.rt:85:1
 same-length-7 : tie.Need-same-length-7
 same-length-7 c = search needs
 
--- src/lib.rt:85:1
 same-length-8 : tie.Need-same-length-8
 same-length-8 c = search needs
 
--- src/lib.rt:85:1
 same-length-9 : tie.Need-same-length-9
 same-length-9 c = search needs
 
--- src/lib.rt:85:1
 returns-3 : tie.Need-returns-3
 returns-3 c =
     let a = c .before .before .before .before .before .before .before .before .before .before .before .before .before .before .before .before .before .before .before .before .before .before .before .args in

@@ -1,3 +1,4 @@
+-- `judge` meets its contract: the text is one window, and the last.
 use mathlib.Core.Path.{ap, _∙_}
 use denote.Ref.{now}
 use Rattle.judging.specs.Judging.{numbersOf}
@@ -6,37 +7,25 @@ use Rattle.judging.proofs.Laws.Steps.{whole}
 use borrow.Author.Needs.{needs}
 use Rattle.judging.proofs.judge.Statement.{statement}
 use Rattle.judging.proofs.judge.Tie as tie
-use Rattle.judging.proofs.judge.Reads as reads
-use Rattle.judging.proofs.judge.Lts as lts
-use Rattle.judging.proofs.Judging.judge_window.Reads as judge-window-reads
-use Rattle.judging.proofs.Judging.numbers.Reads as numbers-reads
-use Rattle.judging.proofs.Judging.open.Reads as open-reads
 
--- src/lib.rt:185:9
 open-requires : tie.Need-open-requires
 open-requires c κs = search needs
 
--- src/lib.rt:186:9
 judge-window-requires : tie.Need-judge-window-requires
 judge-window-requires c κs = search needs
 
--- src/lib.rt:187:5
 numbers-requires : tie.Need-numbers-requires
 numbers-requires c κs = search needs
 
--- src/lib.rt:175:1
 same-length : tie.Need-same-length
 same-length c = search needs
 
--- src/lib.rt:175:1
 same-length-2 : tie.Need-same-length-2
 same-length-2 c = search needs
 
--- src/lib.rt:175:1
 same-length-3 : tie.Need-same-length-3
 same-length-3 c = search needs
 
--- src/lib.rt:175:1
 returns : tie.Need-returns
 returns c =
     let a = c .before .before .before .before .before .before .before .before .before .before .before .before .before .before .before .before .args in

@@ -1,3 +1,4 @@
+-- `keep_rest` meets its contract. The invariant: i bytes are moved, and those from `from + i` on are as they were.
 use Prim.Native.Nat.{_+_, _-_, _<_, _≤_}
 use mathlib.Core.Path.{_≡_, refl}
 use lib.ListN.{length, take, drop, length-set}
@@ -7,8 +8,6 @@ use Rattle.judge.proofs.Laws.{move-front, move-back, moved}
 use borrow.Author.Needs.{needs}
 use Rattle.judge.proofs.input.keep_rest.Statement.{statement}
 use Rattle.judge.proofs.input.keep_rest.Tie as tie
-use Rattle.judge.proofs.input.keep_rest.Reads as reads
-use Rattle.judge.proofs.input.keep_rest.Lts as lts
 
 abbrev Inv-loop : tie.InvT-loop
 Inv-loop window₀ from end n i₀ window i = (i ≤ n) × (length window ≡ length window₀) × (take i window ≡ take i (drop from window₀)) × (drop (from + i) window ≡ drop (from + i) window₀)
@@ -16,35 +15,27 @@ Inv-loop window₀ from end n i₀ window i = (i ≤ n) × (length window ≡ le
 abbrev μ-loop : tie.MeasureT-loop
 μ-loop window₀ from end n i₀ window i = n - i
 
--- src/input.rt:34:13
 sub-n : tie.Need-sub-n Inv-loop μ-loop
 sub-n c = omega arith
 
--- src/input.rt:36:5
 loop-holds : tie.Need-loop-holds Inv-loop μ-loop
 loop-holds c = (omega arith, refl, refl, refl)
 
--- src/input.rt:37:28
 add-window : tie.Need-add-window Inv-loop μ-loop
 add-window c = omega arith
 
--- src/input.rt:37:21
 slice-read-window : tie.Need-slice-read-window Inv-loop μ-loop
 slice-read-window c = omega arith
 
--- src/input.rt:37:9
 slice-write-window : tie.Need-slice-write-window Inv-loop μ-loop
 slice-write-window c = omega arith
 
--- src/input.rt:38:9
 add-i : tie.Need-add-i Inv-loop μ-loop
 add-i c = omega arith
 
--- src/input.rt:36:5
 loop-less : tie.Need-loop-less Inv-loop μ-loop
 loop-less c = omega arith
 
--- src/input.rt:36:5
 loop-again : tie.Need-loop-again Inv-loop μ-loop
 loop-again c =
     let a = c .before .before .before .args in
@@ -52,11 +43,9 @@ loop-again c =
     let h : a .from + l .i < length (l .window) = omega arith in
     (omega arith, simp length-set (l .inv .1), move-front (now (a .window)) (l .window) (a .from) (l .i) h (l .inv .1) (l .inv .3) (l .inv .2), move-back (now (a .window)) (l .window) (a .from) (l .i) h (l .inv .1) (l .inv .3))
 
--- src/input.rt:29:1
 same-length : tie.Need-same-length Inv-loop μ-loop
 same-length c = c .before .loop .inv .1
 
--- src/input.rt:29:1
 returns : tie.Need-returns Inv-loop μ-loop
 returns c =
     let a = c .before .before .args in

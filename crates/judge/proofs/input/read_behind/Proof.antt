@@ -1,3 +1,4 @@
+-- `read_behind` meets its contract: what is read stands behind the first `left` bytes.
 use native.Mathlib.Omega.{arith}
 use lib.ListN.{length-take, length-drop}
 use lib.Seq.{take-at, length-take-le}
@@ -5,35 +6,25 @@ use denote.Ref.{now}
 use borrow.Author.Needs.{needs}
 use Rattle.judge.proofs.input.read_behind.Statement.{statement}
 use Rattle.judge.proofs.input.read_behind.Tie as tie
-use Rattle.judge.proofs.input.read_behind.Reads as reads
-use Rattle.judge.proofs.input.read_behind.Lts as lts
-use Rattle.judge.proofs.input.read_some.Reads as read-some-reads
 
--- src/input.rt:14:22
 sub-read-some : tie.Need-sub-read-some
 sub-read-some c = search needs
 
--- src/input.rt:14:22
 part-read-some-start : tie.Need-part-read-some-start
 part-read-some-start c = search needs
 
--- src/input.rt:14:22
 part-read-some-end : tie.Need-part-read-some-end
 part-read-some-end c = search needs
 
--- src/input.rt:14:12
 read-some-requires : tie.Need-read-some-requires
 read-some-requires c κs = search needs
 
--- src/input.rt:14:5
 add-result : tie.Need-add-result
 add-result c = search needs
 
--- src/input.rt:9:1
 same-length : tie.Need-same-length
 same-length c = search needs
 
--- src/input.rt:9:1
 returns : tie.Need-returns
 returns c =
     let a = c .before .before .before .before .before .args in

@@ -1,3 +1,5 @@
+-- `judge_window` meets its contract. The invariant: what the whole window comes to is what its rest comes to from where judging now stands, behind the bytes
+-- taken. The measure is what is left of the window, and one turn more while judging goes on.
 use Prim.Native.Nat.{_≤_, _-_}
 use mathlib.Core.Path.{_≡_, refl, sym, ap, _∙_, subst}
 use borrow.Author.Tests.{not-true, not-false}
@@ -14,10 +16,6 @@ use Rattle.judging.proofs.Laws.Windows.{windowed-cut}
 use borrow.Author.Needs.{needs}
 use Rattle.judging.proofs.Judging.judge_window.Statement.{statement}
 use Rattle.judging.proofs.Judging.judge_window.Tie as tie
-use Rattle.judging.proofs.Judging.judge_window.Reads as reads
-use Rattle.judging.proofs.Judging.judge_window.Lts as lts
-use Rattle.judging.proofs.advance.Reads as advance-reads
-use Rattle.judging.proofs.is_due.Reads as is-due-reads
 
 abbrev Inv-loop : tie.InvT-loop
 Inv-loop window last recipients₀ identities₀ keys₀ j₀ recipients identities keys j =
@@ -27,33 +25,26 @@ abbrev μ-loop : tie.MeasureT-loop
 μ-loop window last recipients₀ identities₀ keys₀ j₀ recipients identities keys j =
     ahead (standingOf j) (length window - j .taken)
 
--- src/lib.rt:151:9
 loop-holds : tie.Need-loop-holds Inv-loop μ-loop
 loop-holds c =
     let a = c .before .before .before .before .args in
     (omega arith, sym (behind-zero (windowed (a .last) (standingOf (a .self)) (lentOf (now (a .recipients)) (now (a .identities)) (now (a .keys))) (now (a .window)))), refl, refl, refl)
 
--- src/lib.rt:154:34
 sub-is-due : tie.Need-sub-is-due Inv-loop μ-loop
 sub-is-due c = c .loop .inv .0
 
--- src/lib.rt:154:17
 is-due-requires : tie.Need-is-due-requires Inv-loop μ-loop
 is-due-requires c κs = tt
 
--- src/lib.rt:155:17
 same-length : tie.Need-same-length Inv-loop μ-loop
 same-length c = search needs
 
--- src/lib.rt:155:17
 same-length-2 : tie.Need-same-length-2 Inv-loop μ-loop
 same-length-2 c = search needs
 
--- src/lib.rt:155:17
 same-length-3 : tie.Need-same-length-3 Inv-loop μ-loop
 same-length-3 c = search needs
 
--- src/lib.rt:155:17
 returns : tie.Need-returns Inv-loop μ-loop
 returns c =
     let a = c .before .before .before .before .before .before .before .args in
@@ -62,11 +53,9 @@ returns c =
     let e = l .inv .1 ∙ not-due (l .j .progress) (sessionOf (l .j .session)) (lentOf (l .recipients) (l .identities) (l .keys)) (now (a .window)) (l .j .taken) (a .last) (sym (c .before .is-due .ensures) ∙ not-true (c .before .is-due .result) (c .if1 .taken)) in
     (sym e, subst (Cut (a .last) (standingOf (a .self)) b (now (a .window))) e (windowed-cut (a .last) (standingOf (a .self)) b (now (a .window))))
 
--- src/lib.rt:157:13
 advance-requires : tie.Need-advance-requires Inv-loop μ-loop
 advance-requires c κs = c .before .before .before .before .before .loop .inv .0
 
--- src/lib.rt:151:9
 loop-less : tie.Need-loop-less Inv-loop μ-loop
 loop-less c =
     let a = c .before .before .before .before .before .before .before .before .before .before .before .before .before .before .before .before .before .args in
@@ -77,7 +66,6 @@ loop-less c =
     let d = due (l .j .progress) (sessionOf (l .j .session)) (length (now (a .window)) - l .j .taken) (a .last) (sym (c .before .before .before .before .before .before .before .before .before .before .before .is-due .ensures) ∙ not-false (c .before .before .before .before .before .before .before .before .before .before .before .is-due .result) (c .before .before .before .before .before .before .before .before .before .before .if1 .left)) in
     step-less (a .last) (now (a .window)) (l .j .taken) (sessionOf (l .j .session)) b (l .inv .0) (d .1) u (n .ensures) (standingOf (l .j)) (d .0)
 
--- src/lib.rt:151:9
 loop-again : tie.Need-loop-again Inv-loop μ-loop
 loop-again c =
     let a = c .before .before .before .before .before .before .before .before .before .before .before .before .before .before .before .before .before .args in

@@ -1,28 +1,21 @@
+-- `numbers` meets its contract, by where judging stands.
 use mathlib.Core.Path.{refl}
 use borrow.Author.Needs.{needs}
 use Rattle.judging.proofs.Judging.numbers.Statement.{statement}
 use Rattle.judging.proofs.Judging.numbers.Tie as tie
-use Rattle.judging.proofs.Judging.numbers.Reads as reads
-use Rattle.judging.proofs.Judging.numbers.Lts as lts
-use Rattle.judging.proofs.count.Reads as count-reads
 
--- src/lib.rt:167:31
 enum-known-progress : tie.Need-enum-known-progress
 enum-known-progress c = search needs
 
--- src/lib.rt:168:33
 enum-told : tie.Need-enum-told
 enum-told c = search needs
 
--- src/lib.rt:168:33
 count-requires : tie.Need-count-requires
 count-requires c κs = search needs
 
--- src/lib.rt:162:5
 returns : tie.Need-returns
 returns c = rw (c .before .progress .given .1)
 
--- src/lib.rt:162:5
 returns-2 : tie.Need-returns-2
 returns-2 c = rw (c .before .enum-told .given .1) (c .count .ensures)
 
