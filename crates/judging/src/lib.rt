@@ -103,17 +103,18 @@ fn advance(
             taken: at,
         },
         Heard::Command(word, taken) => {
+            let next = at + taken;
             if is_done(word) {
                 return Judging {
                     session: after,
                     progress: Progress::Stopped(count(after.tables, 0)),
-                    taken: at + taken,
+                    taken: next,
                 };
             }
             Judging {
                 session: after,
                 progress: Progress::GoesOn,
-                taken: at + taken,
+                taken: next,
             }
         }
     }

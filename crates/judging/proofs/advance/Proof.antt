@@ -39,19 +39,19 @@ count-requires c κs = search needs
 enum-known-answer-2 : tie.Need-enum-known-answer-2
 enum-known-answer-2 c = search needs
 
+add-next : tie.Need-add-next
+add-next c =
+    let a = c .before .before .before .before .before .before .before .before .before .before .before .before .before .before .before .before .before .before .before .before .before .args in
+    let r = c .before .before .before .before .before .before .before .before .before .before .before .receive in
+    let h = turn-within (sessionOf (a .session)) (sessionOf (r .result .session)) (lentOf (now (a .recipients)) (now (a .identities)) (now (a .keys))) (r .last .1 .1 .0) (r .last .1 .1 .1 .0) (r .last .1 .1 .1 .1 .0) (r .last .1 .1 .1 .1 .1 .0) (now (a .window)) (a .at) (heardSaid (r .result .answer)) (r .kept .1 .1 .1 .1 .1 .0) (r .ensures)
+    (wordSaid (c .before .answer2 .given .0 .0)) (c .before .answer2 .given .0 .1 .0) (ap heardSaid (c .before .answer2 .given .1)) (c .before .before .before .before .before .before .before .before .before .before .before .before .before .before .before .before .before .before .before .before .before .pre) in
+    omega (arith, h, c .before .before .before .before .before .before .before .before .before .before .before .before .before .before .before .before .before .before .before .before .before .good)
+
 is-done-requires : tie.Need-is-done-requires
 is-done-requires c κs = search needs
 
 count-requires-2 : tie.Need-count-requires-2
 count-requires-2 c κs = search needs
-
-add-t33 : tie.Need-add-t33
-add-t33 c =
-    let a = c .before .before .before .before .before .before .before .before .before .before .before .before .before .before .before .before .before .before .before .before .before .before .before .before .args in
-    let r = c .before .before .before .before .before .before .before .before .before .before .before .before .before .before .receive in
-    let h = turn-within (sessionOf (a .session)) (sessionOf (r .result .session)) (lentOf (now (a .recipients)) (now (a .identities)) (now (a .keys))) (r .last .1 .1 .0) (r .last .1 .1 .1 .0) (r .last .1 .1 .1 .1 .0) (r .last .1 .1 .1 .1 .1 .0) (now (a .window)) (a .at) (heardSaid (r .result .answer)) (r .kept .1 .1 .1 .1 .1 .0) (r .ensures)
-    (wordSaid (c .before .before .before .before .answer2 .given .0 .0)) (c .before .before .before .before .answer2 .given .0 .1 .0) (ap heardSaid (c .before .before .before .before .answer2 .given .1)) (c .before .before .before .before .before .before .before .before .before .before .before .before .before .before .before .before .before .before .before .before .before .before .before .before .pre) in
-    omega (arith, h, c .before .before .before .before .before .before .before .before .before .before .before .before .before .before .before .before .before .before .before .before .before .before .before .before .good)
 
 same-length : tie.Need-same-length
 same-length c = search needs
@@ -68,14 +68,6 @@ returns c =
     let r = c .before .before .before .before .before .before .before .before .before .before .before .before .before .before .receive in
     turn-done (sessionOf (a .session)) (sessionOf (r .result .session)) (lentOf (now (a .recipients)) (now (a .identities)) (now (a .keys))) (r .last .1 .1 .0) (r .last .1 .1 .1 .0) (r .last .1 .1 .1 .1 .0) (r .last .1 .1 .1 .1 .1 .0) (now (a .window)) (a .at) (heardSaid (r .result .answer)) (r .kept .1 .1 .1 .1 .1 .0) (r .ensures)
     (wordSaid (c .before .before .before .before .answer2 .given .0 .0)) (c .before .before .before .before .answer2 .given .0 .1 .0) (c .before .before .is-done .result) (judgedSaid (c .count2 .result)) (ap heardSaid (c .before .before .before .before .answer2 .given .1)) (c .before .before .is-done .ensures) (c .before .if1 .taken) (c .count2 .ensures)
-
-add-t35 : tie.Need-add-t35
-add-t35 c =
-    let a = c .before .before .before .before .before .before .before .before .before .before .before .before .before .before .before .before .before .before .before .before .before .before .before .args in
-    let r = c .before .before .before .before .before .before .before .before .before .before .before .before .before .receive in
-    let h = turn-within (sessionOf (a .session)) (sessionOf (r .result .session)) (lentOf (now (a .recipients)) (now (a .identities)) (now (a .keys))) (r .last .1 .1 .0) (r .last .1 .1 .1 .0) (r .last .1 .1 .1 .1 .0) (r .last .1 .1 .1 .1 .1 .0) (now (a .window)) (a .at) (heardSaid (r .result .answer)) (r .kept .1 .1 .1 .1 .1 .0) (r .ensures)
-    (wordSaid (c .before .before .before .answer2 .given .0 .0)) (c .before .before .before .answer2 .given .0 .1 .0) (ap heardSaid (c .before .before .before .answer2 .given .1)) (c .before .before .before .before .before .before .before .before .before .before .before .before .before .before .before .before .before .before .before .before .before .before .before .pre) in
-    omega (arith, h, c .before .before .before .before .before .before .before .before .before .before .before .before .before .before .before .before .before .before .before .before .before .before .before .good)
 
 same-length-4 : tie.Need-same-length-4
 same-length-4 c = search needs
@@ -122,14 +114,13 @@ advance-spec =
     number-requires
     count-requires
     enum-known-answer-2
+    add-next
     is-done-requires
     count-requires-2
-    add-t33
     same-length
     same-length-2
     same-length-3
     returns
-    add-t35
     same-length-4
     same-length-5
     same-length-6
