@@ -34,11 +34,13 @@ pub record Turn : Type 0 where
   pub buffers : Buffers
   pub taken : ℕ
 
+-- the three together
 abbrev pub turnOf : Standing → Buffers → ℕ → Turn
 turnOf d b k = record { standing = d; buffers = b; taken = k }
 
 -- ---- one stanza
 
+-- the command is done
 abbrev pub isDone : Word → Bool
 isDone done-word = true
 isDone add-recipient = false
@@ -71,7 +73,8 @@ turned s b text = turnBy s (received s text b)
 abbrev pub behind : ℕ → Turn → Turn
 behind k t = turnOf (t .standing) (t .buffers) (k + t .taken)
 
--- one stanza after the other, as long as `least` bytes are left. Each takes a byte or more, so fuel that is more than the text's length is never used up
+-- one stanza after the other up to done or a refusal, as long as `least` bytes are left: 0 for a whole text, more where the input may go on behind it
+-- (specs/Windows). Each stanza takes a byte or more, so fuel that is more than the text's length is never used up
 unfoldable pub judgedWith : ℕ → ℕ → Standing → Buffers → List ℕ → Turn
 judgedWith zero least d b text = turnOf d b 0
 judgedWith (suc fuel) least (stopped x) b text = turnOf (stopped x) b 0
@@ -79,6 +82,7 @@ judgedWith (suc fuel) least (going s) b text =
     let t = turned s b text in
     pick (leb least (length text)) (behind (t .taken) (judgedWith fuel least (t .standing) (t .buffers) (drop (t .taken) text))) (turnOf (going s) b 0)
 
+-- the same with fuel enough
 abbrev pub judgedFrom : ℕ → Standing → Buffers → List ℕ → Turn
 judgedFrom least d b text = judgedWith (suc (length text)) least d b text
 

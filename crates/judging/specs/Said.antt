@@ -17,11 +17,12 @@ use Rattle.judging.specs.declared.Judging.{Judging}
 abbrev pub judgedSaid : CodeJudged → Judged
 judgedSaid x = record { recipients = x .recipients; identities = x .identities; keys = x .keys; headers = x .headers; answer = x .answer }
 
--- where judging stands
+-- where judging stands, by its progress and its session
 abbrev pub standingIn : Progress → Session → Standing
 standingIn the.GoesOn s = going s
 standingIn (the.Stopped x) s = stopped (judgedSaid x)
 
+-- the same of the code's value
 abbrev pub standingOf : Judging → Standing
 standingOf j = standingIn (j .progress) (sessionOf (j .session))
 
