@@ -16,7 +16,7 @@ use Rattle.session.specs.PhaseOne.{Buffers, commandIn, payloadIn}
 use Rattle.session.specs.Phases.{closes}
 use Rattle.session.specs.Views.{Kind, rowsOf}
 use Rattle.conversation.specs.Session.{Session, closed}
-use Rattle.conversation.specs.Receiving.{Heard, heard, declined, received}
+use Rattle.conversation.specs.Receiving.{Taking, took, declined, received}
 use Rattle.conversation.specs.Sending.{sent}
 
 -- the plugin end receives a text; the client end sends a command with its arguments' text and its body, and lends an output buffer
@@ -31,9 +31,9 @@ pub record Outcome : Type 0 where
   pub buffers : Buffers
 
 -- the number of an answer, 0 where nothing is refused: of a receiving
-abbrev pub heardNumber : Heard → ℕ
-heardNumber (heard w k) = 0
-heardNumber (declined n) = n
+abbrev pub takingNumber : Taking → ℕ
+takingNumber (took w k) = 0
+takingNumber (declined n) = n
 
 -- .. of a sending
 abbrev pub sentNumber : Answer → ℕ
@@ -43,7 +43,7 @@ sentNumber (refused n) = n
 -- a call
 abbrev pub outcome : Session → Buffers → Call → Outcome
 outcome s b (receive text) =
-    let r = received s text b in record { number = heardNumber (r .answer); session = r .session; buffers = r .buffers }
+    let r = received s text b in record { number = takingNumber (r .answer); session = r .session; buffers = r .buffers }
 outcome s b (send word arguments body out) =
     let r = sent s word arguments body b out in record { number = sentNumber (r .answer); session = r .session; buffers = r .buffers }
 

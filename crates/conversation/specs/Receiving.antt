@@ -12,17 +12,17 @@ use Rattle.session.specs.Phases.{turnOne, closes, phaseAfter}
 use Rattle.conversation.specs.Session.{Session, moved, closed}
 
 -- which command it was and how many bytes were taken; or the number
-pub data Heard : Type 0 where
-  heard : Word → ℕ → Heard
-  declined : ℕ → Heard
+pub data Taking : Type 0 where
+  took : Word → ℕ → Taking
+  declined : ℕ → Taking
 
 -- the answer to a command with the number n that took k bytes
-abbrev pub answerOf : ℕ → Command → ℕ → Heard
-answerOf n c k = pick (eqb n 0) (heard (wordOf c) k) (declined n)
+abbrev pub answerOf : ℕ → Command → ℕ → Taking
+answerOf n c k = pick (eqb n 0) (took (wordOf c) k) (declined n)
 
 -- the answer, the session and the four buffers afterwards
 pub record Received : Type 0 where
-  pub answer : Heard
+  pub answer : Taking
   pub session : Session
   pub buffers : Buffers
 
@@ -37,7 +37,7 @@ receivedStanza s b line body k =
     let c = commandIn (s .machine) (s .name) line body in
     pick (eqb n 0)
     (record {
-      answer = heard (wordOf c) k;
+      answer = took (wordOf c) k;
       session = moved s (phaseAfter c) (tablesOne (s .machine) (s .name) (s .tables) b 0 line body);
       buffers = buffersOne (s .machine) (s .name) (s .tables) b 0 line body;
     })

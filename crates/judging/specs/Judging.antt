@@ -9,7 +9,7 @@ use Rattle.session.specs.Commands.{Word, add-recipient, add-identity, wrap-file
 use Rattle.session.specs.PhaseOne.{Tables, Buffers, buffersOf}
 use Rattle.session.specs.declared.commands.Machine.the-variants.{RecipientV1}
 use Rattle.conversation.specs.Session.{Session, openedSession}
-use Rattle.conversation.specs.Receiving.{Heard, heard, declined, Received, received}
+use Rattle.conversation.specs.Receiving.{Taking, took, declined, Received, received}
 
 -- what the program writes: four counts and the answer, 0 behind done, else the number of the refusal
 pub record Judged : Type 0 where
@@ -50,13 +50,13 @@ isDone recipient-stanza = false
 isDone other-word = false
 
 -- it "stops at done or a refusal"; "At a refusal the counts are those before it"
-abbrev pub standingAfter : Heard → Session → Session → Standing
-standingAfter (heard w k) before after = pick (isDone w) (stopped (counted (after .tables) 0)) (going after)
+abbrev pub standingAfter : Taking → Session → Session → Standing
+standingAfter (took w k) before after = pick (isDone w) (stopped (counted (after .tables) 0)) (going after)
 standingAfter (declined n) before after = stopped (counted (before .tables) n)
 
 -- a refused call takes nothing
-abbrev pub takenBy : Heard → ℕ
-takenBy (heard w k) = k
+abbrev pub takenBy : Taking → ℕ
+takenBy (took w k) = k
 takenBy (declined n) = 0
 
 -- a call of a session, and what it came to

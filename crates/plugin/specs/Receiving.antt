@@ -6,22 +6,22 @@ use Rattle.bech32.specs.declared.human.Name.{Name}
 use Rattle.session.specs.Commands.{wordSaid}
 use Rattle.session.specs.PhaseOne.{buffersOf}
 use Rattle.session.specs.declared.commands.Machine.{Machine}
-use Rattle.conversation.specs.Receiving.{Heard, heard, declined, Received}
+use Rattle.conversation.specs.Receiving.{Taking, took, declined, Received}
 use Rattle.plugin.specs.Session.{sessionIn, sessionOf}
-use Rattle.plugin.specs.declared.receiving.Heard.{Heard as CodeHeard}
-use Rattle.plugin.specs.declared.receiving.Heard.the-variants as the
+use Rattle.plugin.specs.declared.receiving.Answer.{Answer as CodeAnswer}
+use Rattle.plugin.specs.declared.receiving.Answer.the-variants as the
 use Rattle.plugin.specs.declared.receiving.Received.{Received as CodeReceived}
 use Rattle.plugin.specs.declared.receiving.Taken.{Taken}
 
 -- the code's answer
-abbrev pub heardSaid : CodeHeard → Heard
-heardSaid (the.Command w k) = heard (wordSaid w) k
-heardSaid (the.Refused r) = declined (numberOf r)
+abbrev pub answerSaid : CodeAnswer → Taking
+answerSaid (the.Command w k) = took (wordSaid w) k
+answerSaid (the.Refused r) = declined (numberOf r)
 
 -- the answer and the session, with the four buffers afterwards
 abbrev pub receivedSaid : CodeReceived → List ℕ → List ℕ → List ℕ → List ℕ → Received
-receivedSaid x r i k h = record { answer = heardSaid (x .answer); session = sessionOf (x .session); buffers = buffersOf r i k h }
+receivedSaid x r i k h = record { answer = answerSaid (x .answer); session = sessionOf (x .session); buffers = buffersOf r i k h }
 
 -- the same of a command taken, by the parts of the session that it leaves
 abbrev pub takenSaid : Machine → Name → Taken → List ℕ → List ℕ → List ℕ → List ℕ → Received
-takenSaid machine name x r i k h = record { answer = heardSaid (x .answer); session = sessionIn machine name (x .phase) (x .tables); buffers = buffersOf r i k h }
+takenSaid machine name x r i k h = record { answer = answerSaid (x .answer); session = sessionIn machine name (x .phase) (x .tables); buffers = buffersOf r i k h }

@@ -26,7 +26,7 @@ use Rattle.session.proofs.Laws.Views.{Reached, applied-view, first-zero}
 use Rattle.conversation.specs.Session.{Session, moved}
 use Rattle.conversation.specs.Receiving.{Received, receivedStanza, receivedAs, received}
 use Rattle.conversation.specs.Sending.{Sent, shortness, sentStanza, sentLine, sent}
-use Rattle.conversation.specs.Calls.{Call, receive, send, heardNumber, sentNumber, outcome, lineIn, bodyIn, lineRead, bodyRead}
+use Rattle.conversation.specs.Calls.{Call, receive, send, takingNumber, sentNumber, outcome, lineIn, bodyIn, lineRead, bodyRead}
 
 -- one command applied, by its arguments' text and its body: the session and the buffers behind it
 pub record Applied (s : Session) (b : Buffers) (line body : List ℕ) (after : Session) (buffers-after : Buffers) : Type 0 where
@@ -86,7 +86,7 @@ module _ (s : Session) (b : Buffers) where
   AppliedReceived line body r = Applied s b line body (r .session) (r .buffers)
 
   abbrev numberReceived : Received → ℕ
-  numberReceived r = heardNumber (r .answer)
+  numberReceived r = takingNumber (r .answer)
 
   stanza-applied : (line body : List ℕ) (k : ℕ) → s .phase ≡ One → isLine line ≡ true → numberReceived (receivedStanza s b line body k) ≡ 0 → AppliedReceived line body (receivedStanza s b line body k)
   unfolding receivedStanza

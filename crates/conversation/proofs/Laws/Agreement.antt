@@ -25,7 +25,7 @@ use Rattle.session.specs.Views.{Kind, recipients, identities, keys, headers, ta
 use Rattle.session.specs.declared.phases.Phase.the-variants.{One}
 use Rattle.session.proofs.Laws.Views.{Reached, space, header-space}
 use Rattle.conversation.specs.Session.{Session}
-use Rattle.conversation.specs.Receiving.{heard, Received, refusedReceipt, receivedStanza, receivedAs, received}
+use Rattle.conversation.specs.Receiving.{took, Received, refusedReceipt, receivedStanza, receivedAs, received}
 use Rattle.conversation.specs.Sending.{Sent, shortness, sentStanza, sentLine, sent}
 use Rattle.conversation.specs.Calls.{sentNumber, send}
 use Rattle.conversation.proofs.Laws.Accepted.{Applied, applied-rows, branch, one-applied, accepted}
@@ -117,17 +117,17 @@ module _ (s : Session) (b : Buffers) (line body : List ℕ) where
       ∙ ap₂ (λ l y. receivedStanza s b l y (length (stanzaText line body))) (read-arguments line body rest) (read-body line body rest a)
 
   -- accepted, and its command applied
-  abbrev HeardAs : ℕ → Received → Type 0
-  HeardAs k r = (r .answer ≡ heard (wordOf (commandIn (s .machine) (s .name) line body)) k) × Applied s b line body (r .session) (r .buffers)
+  abbrev TookAs : ℕ → Received → Type 0
+  TookAs k r = (r .answer ≡ took (wordOf (commandIn (s .machine) (s .name) line body)) k) × Applied s b line body (r .session) (r .buffers)
 
   -- a stanza in which the decision finds no fault
-  stanza-heard : (k : ℕ) → s .phase ≡ One → isLine line ≡ true → decided (s .tables) b (commandIn (s .machine) (s .name) line body) (length (payloadIn (s .machine) (s .name) line body)) ≡ 0 →
-      HeardAs k (receivedStanza s b line body k)
+  stanza-took : (k : ℕ) → s .phase ≡ One → isLine line ≡ true → decided (s .tables) b (commandIn (s .machine) (s .name) line body) (length (payloadIn (s .machine) (s .name) line body)) ≡ 0 →
+      TookAs k (receivedStanza s b line body k)
   unfolding receivedStanza
-  stanza-heard k o l h =
+  stanza-took k o l h =
       let n = numberOne (s .machine) (s .name) (s .tables) b 0 line body in
       let f = eq-eqb n 0 (ap (λ d. firstOf d 0) h) in
-      chosen (HeardAs k) (eqb n 0) _ _ f (refl, one-applied s b 0 line body o l f)
+      chosen (TookAs k) (eqb n 0) _ _ f (refl, one-applied s b 0 line body o l f)
     where
       chosen : {X : Type 0} (P : X → Type 0) (f : Bool) (x y : X) → f ≡ true → P x → P (pick f x y)
       chosen P f x y e p = subst (λ g. P (pick g x y)) (sym e) p
@@ -138,7 +138,7 @@ module _ (s : Session) (b : Buffers) (line body : List ℕ) where
 -- command; the sessions are alike again, and views that were equal are equal again
 pub record Agreed (s s′ : Session) (b b′ : Buffers) (line body : List ℕ) (n : ℕ) (r : Sent) (r′ : Received) : Type 0 where
   pub written : take n (r .output) ≡ stanzaText line body
-  pub answer : r′ .answer ≡ heard (wordOf (commandIn (s .machine) (s .name) line body)) n
+  pub answer : r′ .answer ≡ took (wordOf (commandIn (s .machine) (s .name) line body)) n
   pub alike : Alike (r .session) (r′ .session)
   pub views : Reached (s .tables) → ((k : Kind) → viewOf k (s .tables) b ≡ viewOf k (s′ .tables) b′) → (k : Kind) → viewOf k (r .session .tables) (r .buffers) ≡ viewOf k (r′ .session .tables) (r′ .buffers)
 
@@ -156,12 +156,12 @@ module _ (s : Session) (b b′ : Buffers) (line body : List ℕ) (n : ℕ) (r : 
       let r′ : Received = received s′ (stanzaText line body ++ rest) b′ in
       let m : n ≡ length (stanzaText line body) = cc (w .answer) in
       let g = again (s .tables) b b′ (payloadIn (s .machine) (s .name) line body) (commandIn (s .machine) (s .name) line body) (p .faultless) (λ k. subst (λ x. tableOf k (x .tables) .used ≤ length (bufferOf k b′)) (p .session) (l k)) in
-      let h : HeardAs s′ b′ line body (length (stanzaText line body)) r′ =
-      subst (HeardAs s′ b′ line body (length (stanzaText line body))) (sym (text-received s′ b′ line body rest (p .turn) (w .writable) a)) (stanza-heard s′ b′ line body (length (stanzaText line body)) (p .turn) (p .argued) (g .0)) in
+      let h : TookAs s′ b′ line body (length (stanzaText line body)) r′ =
+      subst (TookAs s′ b′ line body (length (stanzaText line body))) (sym (text-received s′ b′ line body rest (p .turn) (w .writable) a)) (stanza-took s′ b′ line body (length (stanzaText line body)) (p .turn) (p .argued) (g .0)) in
       let p′ = h .1 in
       record {
         written = ap (λ k. take k (r .output)) m ∙ w .output;
-        answer = h .0 ∙ ap (heard (wordOf (commandIn (s .machine) (s .name) line body))) (sym m);
+        answer = h .0 ∙ ap (took (wordOf (commandIn (s .machine) (s .name) line body))) (sym m);
         alike = record {
           machine = ap (λ x. x .machine) (p .session) ∙ sym (ap (λ x. x .machine) (p′ .session));
           name = ap (λ x. x .name) (p .session) ∙ sym (ap (λ x. x .name) (p′ .session));

@@ -14,12 +14,12 @@ use Rattle.session.specs.declared.commands.Machine.{Machine}
 use Rattle.session.specs.declared.phases.Phase.{Phase}
 use Rattle.session.specs.declared.phases.Phase.the-variants.{One, Two, Ended, Closed}
 use Rattle.conversation.specs.Session.{Session, closed}
-use Rattle.conversation.specs.Receiving.{Heard, heard, declined, answerOf, Received, receivedStanza, receivedAs, received, refusedReceipt}
+use Rattle.conversation.specs.Receiving.{Taking, took, declined, answerOf, Received, receivedStanza, receivedAs, received, refusedReceipt}
 
 abbrev sessionIn : Machine → List ℕ → Bool → Phase → Tables → Session
 sessionIn m g x p t = record { machine = m; name = g; screen = x; phase = p; tables = t }
 
-abbrev receipt : Heard → Session → Buffers → Received
+abbrev receipt : Taking → Session → Buffers → Received
 receipt a s b = record { answer = a; session = s; buffers = b }
 
 module _ (m : Machine) (g : List ℕ) (x : Bool) (t : Tables) (b : Buffers) where
@@ -41,10 +41,10 @@ module _ (m : Machine) (g : List ℕ) (x : Bool) (t : Tables) (b : Buffers) wher
     step-is = go (eqb (numberOne m g t b 0 l y) 0) (closes (numberOne m g t b 0 l y))
       where
         go : (f h : Bool) →
-            receipt (pick f (heard (wordOf (commandIn m g l y)) k) (declined (numberOne m g t b 0 l y)))
+            receipt (pick f (took (wordOf (commandIn m g l y)) k) (declined (numberOne m g t b 0 l y)))
             (sessionIn m g x (pick f (phaseAfter (commandIn m g l y)) (pick h Closed One)) (pick f (applied t b (commandIn m g l y) (payloadIn m g l y)) t))
             (pick f (filledBy t b (commandIn m g l y) (payloadIn m g l y)) b) ≡ pick f
-            (receipt (heard (wordOf (commandIn m g l y)) k)
+            (receipt (took (wordOf (commandIn m g l y)) k)
             (sessionIn m g x (phaseAfter (commandIn m g l y)) (pick f (applied t b (commandIn m g l y) (payloadIn m g l y)) t))
             (pick f (filledBy t b (commandIn m g l y) (payloadIn m g l y)) b))
             (receipt (declined (numberOne m g t b 0 l y)) (pick h (sessionIn m g x Closed t) (sessionIn m g x One t)) b)
@@ -52,12 +52,12 @@ module _ (m : Machine) (g : List ℕ) (x : Bool) (t : Tables) (b : Buffers) wher
         go false true = refl
         go false false = refl
 
-    pub received-by : (n : ℕ) (c : Command) (a : Heard) (p : Phase) (t′ : Tables) (b′ : Buffers) → n ≡ numberOne m g t b 0 l y → c ≡ commandIn m g l y → a ≡ answerOf n c k → p ≡ phaseReceived n c → t′ ≡ tablesOne m g t b 0 l y → b′ ≡ buffersOne m g t b 0 l y →
+    pub received-by : (n : ℕ) (c : Command) (a : Taking) (p : Phase) (t′ : Tables) (b′ : Buffers) → n ≡ numberOne m g t b 0 l y → c ≡ commandIn m g l y → a ≡ answerOf n c k → p ≡ phaseReceived n c → t′ ≡ tablesOne m g t b 0 l y → b′ ≡ buffersOne m g t b 0 l y →
         receipt a (sessionIn m g x p t′) b′ ≡ receivedStanza (sessionIn m g x One t) b l y k
     received-by n c a p t′ b′ en ec ea ep et eb = rw (ea, ep, et, eb, en, ec) step-is
 
     -- the same where name, arguments' text and body are said otherwise
-    pub received-from : (g′ l′ y′ : List ℕ) (n : ℕ) (c : Command) (a : Heard) (p : Phase) (t′ : Tables) (b′ : Buffers) → g′ ≡ g → l′ ≡ l → y′ ≡ y → n ≡ numberOne m g′ t b 0 l′ y′ → c ≡ commandIn m g′ l′ y′ → a ≡ answerOf n c k → p ≡ phaseReceived n c →
+    pub received-from : (g′ l′ y′ : List ℕ) (n : ℕ) (c : Command) (a : Taking) (p : Phase) (t′ : Tables) (b′ : Buffers) → g′ ≡ g → l′ ≡ l → y′ ≡ y → n ≡ numberOne m g′ t b 0 l′ y′ → c ≡ commandIn m g′ l′ y′ → a ≡ answerOf n c k → p ≡ phaseReceived n c →
         t′ ≡ tablesOne m g′ t b 0 l′ y′ → b′ ≡ buffersOne m g′ t b 0 l′ y′ → receipt a (sessionIn m g x p t′) b′ ≡ receivedStanza (sessionIn m g x One t) b l y k
     received-from g′ l′ y′ n c a p t′ b′ eg el ey en ec ea ep et eb =
         received-by n c a p t′ b′ (en ∙ same (λ g l y. numberOne m g t b 0 l y)) (ec ∙ same (λ g l y. commandIn m g l y)) ea ep (et ∙ same (λ g l y. tablesOne m g t b 0 l y)) (eb ∙ same (λ g l y. buffersOne m g t b 0 l y))

@@ -14,7 +14,7 @@ use Rattle.session.specs.Phases.{turnOne, closes}
 use Rattle.conversation.specs.Session.{Session, closed}
 use Rattle.conversation.specs.Receiving.{Received, refusedReceipt, receivedStanza, receivedAs, received}
 use Rattle.conversation.specs.Sending.{Sent, refusedSending, shortness, sentStanza, sent}
-use Rattle.conversation.specs.Calls.{Call, receive, send, heardNumber, sentNumber, outcome, outputIn, outputAfter, sessionAfter}
+use Rattle.conversation.specs.Calls.{Call, receive, send, takingNumber, sentNumber, outcome, outputIn, outputAfter, sessionAfter}
 
 -- a refused call's session, tables, buffers and output buffer
 pub record Refused (s : Session) (b : Buffers) (c : Call) : Type 0 where
@@ -31,7 +31,7 @@ either P false x y p q = q
 module _ (s : Session) (b : Buffers) where
   -- what is received is accepted, or it leaves what a refusal leaves
   abbrev LeftReceived : Received → Type 0
-  LeftReceived r = (heardNumber (r .answer) ≡ 0 → ⊥) → r ≡ refusedReceipt (heardNumber (r .answer)) s b
+  LeftReceived r = (takingNumber (r .answer) ≡ 0 → ⊥) → r ≡ refusedReceipt (takingNumber (r .answer)) s b
 
   stanza-left : (line body : List ℕ) (k : ℕ) → LeftReceived (receivedStanza s b line body k)
   unfolding receivedStanza
@@ -67,7 +67,7 @@ module _ (s : Session) (b : Buffers) where
   pub refusal : (c : Call) → (outcome s b c .number ≡ 0 → ⊥) → Refused s b c
   refusal (receive text) h =
       let e = received-left text h in
-      record { session = ap (λ r. r .session) e; tables = ap (λ r. r .session .tables) e ∙ closed-tables (closes (heardNumber (received s text b .answer))); buffers = ap (λ r. r .buffers) e; output = refl }
+      record { session = ap (λ r. r .session) e; tables = ap (λ r. r .session .tables) e ∙ closed-tables (closes (takingNumber (received s text b .answer))); buffers = ap (λ r. r .buffers) e; output = refl }
   refusal (send word arguments body out) h =
       let e = sent-left word arguments body out h in
       record { session = ap (λ r. r .session) e; tables = ap (λ r. r .session .tables) e; buffers = ap (λ r. r .buffers) e; output = ap (λ r. r .output) e }

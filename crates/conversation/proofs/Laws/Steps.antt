@@ -31,8 +31,8 @@ use Rattle.session.specs.Views.{Kind, recipients, identities, keys, headers, ta
 use Rattle.session.proofs.Laws.Views.{Reached, applied-reached, applied-view, payload-stored, space, header-space}
 use Rattle.session.specs.Phases.{phaseAfter}
 use Rattle.conversation.specs.Session.{Session, moved, openedSession}
-use Rattle.conversation.specs.Receiving.{Received, heard, refusedReceipt, receivedStanza, receivedAs, received}
-use Rattle.conversation.specs.Calls.{receive, heardNumber, outcome, lineRead, bodyRead}
+use Rattle.conversation.specs.Receiving.{Received, took, refusedReceipt, receivedStanza, receivedAs, received}
+use Rattle.conversation.specs.Calls.{receive, takingNumber, outcome, lineRead, bodyRead}
 use Rattle.conversation.specs.Phases.{Whole, lineIn, bodyIn, isDone, commandOf, rowsFrom, isRight}
 use Rattle.conversation.proofs.Laws.Limits.{Within, Held, Grown, same as unchanged, more, within-fits, grown-within, grown-length, grown-held}
 
@@ -219,13 +219,13 @@ module _ (machine : Machine) (name : List ℕ) where
     abbrev now : Session
     now = going screen t
 
-    picked : (n : ℕ) (r : Received) → heardNumber (r .answer) ≡ 0 → heardNumber (pick (eqb n 0) r (refusedReceipt n now b) .answer) ≡ n
+    picked : (n : ℕ) (r : Received) → takingNumber (r .answer) ≡ 0 → takingNumber (pick (eqb n 0) r (refusedReceipt n now b) .answer) ≡ n
     picked n r q = cases (eqb n 0) (λ e. rw e (q ∙ sym (eqb-true n 0 e))) (λ e. rw e)
 
     -- what a text leaves, by whether it is accepted
     abbrev left : List ℕ → Bool → Received
     left x f = let c = commandOf machine name x in record {
-      answer = heard (wordOf c) (length x);
+      answer = took (wordOf c) (length x);
       session = moved now (phaseAfter c) (pick f (tablesWith t b x) t);
       buffers = pick f (buffersWith t b x) b;
     }
@@ -240,7 +240,7 @@ module _ (machine : Machine) (name : List ℕ) where
       unfolding receivedStanza
       number-received =
           let n = firstOf (judged t b x) 0 in
-          ap (λ r. heardNumber (r .answer)) read-as ∙ picked n (left x (eqb n 0)) refl ∙ first-same (judged t b x)
+          ap (λ r. takingNumber (r .answer)) read-as ∙ picked n (left x (eqb n 0)) refl ∙ first-same (judged t b x)
 
       module _ (z : judged t b x ≡ 0) where
         leaves : received now x b ≡ left x true

@@ -20,7 +20,7 @@ use Rattle.session.specs.PhaseOne.{Buffers, numberOne}
 use Rattle.session.specs.Commands.{Word}
 use Rattle.session.specs.Phases.{turnOne}
 use Rattle.conversation.specs.Session.{Session}
-use Rattle.conversation.specs.Receiving.{Heard, heard, declined, Received, refusedReceipt, receivedStanza, receivedAs, received}
+use Rattle.conversation.specs.Receiving.{Taking, took, declined, Received, refusedReceipt, receivedStanza, receivedAs, received}
 
 -- ---- reading
 
@@ -76,7 +76,7 @@ module _ (s : Session) (b : Buffers) where
 
   -- an accepted call takes a byte or more, and no more than its text has
   abbrev Takes : List ℕ → Received → Type 0
-  Takes t r = (w : Word) (k : ℕ) → r .answer ≡ heard w k → (0 < k) × (k ≤ length t)
+  Takes t r = (w : Word) (k : ℕ) → r .answer ≡ took w k → (0 < k) × (k ≤ length t)
 
   either : {X : Type 0} (P : X → Type 0) (f : Bool) (x y : X) → P x → P y → P (pick f x y)
   either P true x y p q = p

@@ -18,7 +18,7 @@ use Rattle.session.specs.Commands.{Word}
 use Rattle.session.specs.PhaseOne.{Buffers, buffersOf}
 use Rattle.session.specs.Opening.{recipientV1}
 use Rattle.conversation.specs.Session.{Session, opened}
-use Rattle.conversation.specs.Receiving.{Heard, heard, declined, Received, received}
+use Rattle.conversation.specs.Receiving.{Taking, took, declined, Received, received}
 use Rattle.judging.specs.Judging.{Judged, counted, Standing, going, stopped, Turn, turnOf, isDone, turnBy, turned, behind, judgedWith, judgeName, start, judgedText}
 use Rattle.judging.specs.Windows.{leastOf, windowed}
 use Rattle.judging.specs.Said.{judgedSaid, standingIn, lentOf, isDue}
@@ -40,9 +40,9 @@ empty-list (x ∷ l) h = absurd (omega arith)
 
 -- ---- one stanza: the code calls with the part of the window from `at` to its end
 
-module _ (s after : Session) (b : Buffers) (r i k h : List ℕ) (window : List ℕ) (at : ℕ) (a : Heard) (none : length h ≡ 0)
+module _ (s after : Session) (b : Buffers) (r i k h : List ℕ) (window : List ℕ) (at : ℕ) (a : Taking) (none : length h ≡ 0)
     (e : _≡_ {A = Received} (record { answer = a; session = after; buffers = buffersOf r i k h }) (received s (take (length window - at) (drop at window)) b)) where
-  by-answer : (a′ : Heard) → a ≡ a′ → behind at (turnBy s (record { answer = a′; session = after; buffers = lentOf r i k })) ≡ behind at (turned s b (drop at window))
+  by-answer : (a′ : Taking) → a ≡ a′ → behind at (turnBy s (record { answer = a′; session = after; buffers = lentOf r i k })) ≡ behind at (turned s b (drop at window))
   by-answer a′ q =
       ap (behind at)
       (ap (λ x. turnBy s (record { answer = x; session = after; buffers = lentOf r i k })) (sym q)
@@ -59,17 +59,17 @@ module _ (s after : Session) (b : Buffers) (r i k h : List ℕ) (window : List �
   stands f = pick f (stopped (counted (after .tables) 0)) (going after)
 
   -- done stops it
-  pub turn-done : (w : Word) (n : ℕ) (f : Bool) (x : Judged) → a ≡ heard w n → f ≡ isDone w → f ≡ true → x ≡ counted (after .tables) 0 →
+  pub turn-done : (w : Word) (n : ℕ) (f : Bool) (x : Judged) → a ≡ took w n → f ≡ isDone w → f ≡ true → x ≡ counted (after .tables) 0 →
       turnOf (stopped x) (lentOf r i k) (at + n) ≡ behind at (turned s b (drop at window))
   turn-done w n f x q d t c =
-      ap (λ y. turnOf (stopped y) (lentOf r i k) (at + n)) c ∙ ap (λ g. turnOf (stands g) (lentOf r i k) (at + n)) (sym t ∙ d) ∙ by-answer (heard w n) q
+      ap (λ y. turnOf (stopped y) (lentOf r i k) (at + n)) c ∙ ap (λ g. turnOf (stands g) (lentOf r i k) (at + n)) (sym t ∙ d) ∙ by-answer (took w n) q
 
   -- any other command lets it go on
-  pub turn-on : (w : Word) (n : ℕ) (f : Bool) → a ≡ heard w n → f ≡ isDone w → f ≡ false → turnOf (going after) (lentOf r i k) (at + n) ≡ behind at (turned s b (drop at window))
-  turn-on w n f q d t = ap (λ g. turnOf (stands g) (lentOf r i k) (at + n)) (sym t ∙ d) ∙ by-answer (heard w n) q
+  pub turn-on : (w : Word) (n : ℕ) (f : Bool) → a ≡ took w n → f ≡ isDone w → f ≡ false → turnOf (going after) (lentOf r i k) (at + n) ≡ behind at (turned s b (drop at window))
+  turn-on w n f q d t = ap (λ g. turnOf (stands g) (lentOf r i k) (at + n)) (sym t ∙ d) ∙ by-answer (took w n) q
 
   -- what was taken lies within the window
-  pub turn-within : (w : Word) (n : ℕ) → a ≡ heard w n → at ≤ length window → at + n ≤ length window
+  pub turn-within : (w : Word) (n : ℕ) → a ≡ took w n → at ≤ length window → at + n ≤ length window
   turn-within w n q f =
       let l = received-takes s b (take (length window - at) (drop at window)) w n (ap (λ x. x .answer) (sym e) ∙ q) .1 in
       omega (arith, ap length (part-rest at window), length-drop at window)

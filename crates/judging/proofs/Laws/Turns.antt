@@ -12,7 +12,7 @@ use Rattle.refusal.specs.Pick.{pick}
 use Rattle.session.specs.PhaseOne.{Buffers}
 use Rattle.session.specs.Commands.{Word}
 use Rattle.conversation.specs.Session.{Session}
-use Rattle.conversation.specs.Receiving.{Heard, heard, declined, Received, received}
+use Rattle.conversation.specs.Receiving.{Taking, took, declined, Received, received}
 use Rattle.judging.specs.Judging.{Judged, Standing, going, stopped, Turn, turnOf, turnBy, turned, behind, judgedWith, judgedFrom}
 use Rattle.judging.proofs.Laws.Reading.{received-takes}
 
@@ -26,9 +26,9 @@ pub record Taking (n : ℕ) (t : Turn) : Type 0 where
 pub turned-takes : (s : Session) (b : Buffers) (text : List ℕ) → Taking (length text) (turned s b text)
 turned-takes s b text = any (received s text b .answer) (received-takes s b text)
   where
-    any : (a : Heard) → ((w : Word) (k : ℕ) → a ≡ heard w k → (0 < k) × (k ≤ length text)) →
+    any : (a : Taking) → ((w : Word) (k : ℕ) → a ≡ took w k → (0 < k) × (k ≤ length text)) →
         Taking (length text) (turnBy s (record { answer = a; session = received s text b .session; buffers = received s text b .buffers }))
-    any (heard w k) h = record { within = h w k refl .1; moves = λ s′ e. h w k refl .0 }
+    any (took w k) h = record { within = h w k refl .1; moves = λ s′ e. h w k refl .0 }
     any (declined n) h = record { within = omega arith; moves = λ s′ e. let z : _≡_ {A = ℕ} 0 1 = cc in absurd (omega arith) }
 
 -- ---- turns put together

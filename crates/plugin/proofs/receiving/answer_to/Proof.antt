@@ -1,6 +1,6 @@
 use mathlib.Core.Path.{ap}
 use Rattle.refusal.proofs.Laws.Number.{number-not-zero}
-use Rattle.conversation.specs.Receiving.{heard}
+use Rattle.conversation.specs.Receiving.{took}
 use borrow.Author.Needs.{needs}
 use Rattle.plugin.proofs.receiving.answer_to.Statement.{statement}
 use Rattle.plugin.proofs.receiving.answer_to.Tie as tie
@@ -22,7 +22,7 @@ enum-known-verdict c = search needs
 
 -- src/receiving.rt:44:1
 returns : tie.Need-returns
-returns c = rw (c .before .enum-told .given .1) (ap (λ w. heard w (c .before .before .before .args .taken)) (c .word-of .ensures))
+returns c = rw (c .before .enum-told .given .1) (ap (λ w. took w (c .before .before .before .args .taken)) (c .word-of .ensures))
 
 -- src/receiving.rt:44:1
 returns-2 : tie.Need-returns-2
