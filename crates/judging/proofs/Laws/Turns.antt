@@ -19,15 +19,15 @@ use Rattle.judging.proofs.Laws.Reading.{received-takes}
 -- ---- one stanza
 
 -- it takes no more than the text, and where judging goes on a byte or more
-pub record Taking (n : ℕ) (t : Turn) : Type 0 where
+pub record Takes (n : ℕ) (t : Turn) : Type 0 where
   pub within : t .taken ≤ n
   pub moves : (s : Session) → t .standing ≡ going s → 0 < t .taken
 
-pub turned-takes : (s : Session) (b : Buffers) (text : List ℕ) → Taking (length text) (turned s b text)
+pub turned-takes : (s : Session) (b : Buffers) (text : List ℕ) → Takes (length text) (turned s b text)
 turned-takes s b text = any (received s text b .answer) (received-takes s b text)
   where
     any : (a : Taking) → ((w : Word) (k : ℕ) → a ≡ took w k → (0 < k) × (k ≤ length text)) →
-        Taking (length text) (turnBy s (record { answer = a; session = received s text b .session; buffers = received s text b .buffers }))
+        Takes (length text) (turnBy s (record { answer = a; session = received s text b .session; buffers = received s text b .buffers }))
     any (took w k) h = record { within = h w k refl .1; moves = λ s′ e. h w k refl .0 }
     any (declined n) h = record { within = omega arith; moves = λ s′ e. let z : _≡_ {A = ℕ} 0 1 = cc in absurd (omega arith) }
 

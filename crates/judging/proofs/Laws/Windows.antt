@@ -15,7 +15,7 @@ use Rattle.conversation.specs.Session.{Session}
 use Rattle.judging.specs.Judging.{Judged, Standing, going, stopped, Turn, turnOf, turnBy, turned, behind, judgedWith, judgedFrom, start, judgedText, numbersOf, lent, judged}
 use Rattle.judging.specs.Windows.{leastOf, windowed, Cut}
 use Rattle.judging.proofs.Laws.Reading.{received-window}
-use Rattle.judging.proofs.Laws.Turns.{Taking, turned-takes, behind-zero, behind-behind, ended, unrolled-on, unrolled-off}
+use Rattle.judging.proofs.Laws.Turns.{Takes, turned-takes, behind-zero, behind-behind, ended, unrolled-on, unrolled-off}
 
 -- where enough of the window is left, a stanza is judged alike, whatever comes behind the window
 turned-window : (last : Bool) (s : Session) (b : Buffers) (w rest : List ℕ) → leastOf last ≤ length w → (last ≡ true → rest ≡ []) → turned s b (w ++ rest) ≡ turned s b w
@@ -54,7 +54,7 @@ module _ (last : Bool) (s : Session) (b : Buffers) (w : List ℕ) (enough : leas
       t : Turn
       t = turned s b w
 
-      k : Taking (length w) (turned s b w)
+      k : Takes (length w) (turned s b w)
       k = turned-takes s b w
 
       same : (rest : List ℕ) → (last ≡ true → rest ≡ []) →
