@@ -6,6 +6,9 @@ use bech32::Kind;
 use script::Call;
 use script::Number;
 
+// The longest output buffer.
+const LONGEST: u64 = 65536;
+
 // A call of the open session; sending and receiving are lent an output buffer of some length.
 pub enum Request {
     Send(usize),
@@ -31,7 +34,7 @@ fn read_send(text: &[u8], w: Words) -> Request {
     if w.count != 5 {
         return Request::Bad;
     }
-    let length = script::read_number(last_word(text, w), 65536);
+    let length = script::read_number(last_word(text, w), LONGEST);
     match length {
         Number::Value(n) => Request::Send(n as usize),
         Number::Bad => Request::Bad,
@@ -43,7 +46,7 @@ fn read_receive(text: &[u8], w: Words) -> Request {
     if w.count != 3 {
         return Request::Bad;
     }
-    let length = script::read_number(last_word(text, w), 65536);
+    let length = script::read_number(last_word(text, w), LONGEST);
     match length {
         Number::Value(n) => Request::Receive(n as usize),
         Number::Bad => Request::Bad,

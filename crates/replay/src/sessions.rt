@@ -145,10 +145,14 @@ fn word_named(name: &[u8]) -> Word {
 
 // The arguments' text of a command at the front of `out`, which takes the words of any line; any other word stands first in it: how many bytes.
 fn put_arguments(command: Word, name: &[u8], arguments: &[u8], out: &mut [u8]) -> usize {
-    let written = match command {
-        Word::Other => stanza::join(name, arguments, out),
-        _ => stanza::join(arguments, b"", out),
-    };
+    match command {
+        Word::Other => bytes_of(stanza::join(name, arguments, out)),
+        _ => bytes_of(stanza::join(arguments, b"", out)),
+    }
+}
+
+// How many bytes were written.
+fn bytes_of(written: Written) -> usize {
     match written {
         Written::Bytes(n) => n,
         Written::Refused(_) => 0,

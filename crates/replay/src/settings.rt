@@ -3,12 +3,14 @@ use crate::answers::Answer;
 use crate::host::End;
 use crate::host::Host;
 use crate::words::Words;
-use crate::words::last_word;
 use crate::words::word;
 use script::Call;
 use script::Number;
 use script::Screen;
 use session::Verdict;
+
+// The longest buffer.
+const LONGEST: u64 = 65536;
 
 // What such a line comes to, and how many bytes each buffer keeps; zeros stand behind them.
 pub struct Setting {
@@ -25,19 +27,25 @@ struct Lengths {
 
 // Nothing changes.
 fn unchanged(answer: Answer, host: Host) -> Setting {
+    let kept = host.lengths;
     Setting {
         answer: answer,
-        kept: host.lengths,
         host: host,
+        kept: kept,
     }
 }
 
-// Seven words from the k-th on, which are the last.
-fn read_lengths(text: &[u8], w: Words, from: usize) -> Lengths {
+// The last seven words of a line.
+fn read_lengths(text: &[u8], w: Words) -> Lengths {
     let mut given = [0usize; 7];
+    let count = w.count;
+    if count < 7 {
+        return Lengths { good: false, given };
+    }
+    let first = count - 7;
     let mut k: usize = 0;
     while k < 7 {
-        let length = script::read_number(word(text, w, from + k), 65536);
+        let length = script::read_number(word(text, w, first + k), LONGEST);
         let Number::Value(n) = length else {
             return Lengths { good: false, given };
         };
@@ -60,7 +68,7 @@ fn set_lengths(text: &[u8], w: Words, host: Host) -> Setting {
     if w.count != 8 {
         return unchanged(Answer::Bad, host);
     }
-    let l = read_lengths(text, w, 1);
+    let l = read_lengths(text, w);
     if !l.good {
         return unchanged(Answer::Bad, host);
     }
@@ -92,7 +100,7 @@ fn open_client(text: &[u8], w: Words, host: Host) -> Setting {
         return unchanged(Answer::Bad, host);
     }
     let screen = script::choose_screen(word(text, w, 4));
-    let l = read_lengths(text, w, 5);
+    let l = read_lengths(text, w);
     if !l.good {
         return unchanged(Answer::Bad, host);
     }
@@ -135,7 +143,7 @@ fn open_plugin(text: &[u8], w: Words, host: Host) -> Setting {
     if w.count != 11 {
         return unchanged(Answer::Bad, host);
     }
-    let l = read_lengths(text, w, 4);
+    let l = read_lengths(text, w);
     if !l.good {
         return unchanged(Answer::Bad, host);
     }

@@ -20,12 +20,12 @@ enum Column {
 }
 
 // The line of a look-up.
-pub fn print_entry(
+pub fn print_entry<'a>(
     tables: Tables,
     kind: Kind,
     n: usize,
-    recipients: &[u8],
-    identities: &[u8],
+    recipients: &'a [u8],
+    identities: &'a [u8],
     out: &mut [u8],
     at: usize,
 ) -> usize {

@@ -155,13 +155,13 @@ fn call_lent(
 }
 
 // A call that shows what is open.
-fn call_look(
+fn call_look<'a>(
     call: Call,
     text: &[u8],
     w: Words,
     host: Host,
-    recipients: &[u8],
-    identities: &[u8],
+    recipients: &'a [u8],
+    identities: &'a [u8],
     keys: &[u8],
     headers: &[u8],
     out: &mut [u8],
