@@ -3,6 +3,7 @@ use crate::answers::Answer;
 use crate::parts::front;
 use crate::print::print_bytes;
 use crate::print::print_holds;
+use crate::print::print_judged;
 use crate::print::print_ok_number;
 use crate::print::print_ok_parts;
 use crate::print::print_ok_word;
@@ -35,7 +36,7 @@ pub fn call_plain(
         Call::Index => call_index(text, w, out, at),
         Call::Checksum => call_checksum(text, w, out, at),
         Call::Profile => call_profile(text, w, out, at),
-        Call::Judge => Answer::Bad,
+        Call::Judge => call_judge(text, w, out, at),
         Call::Other => Answer::Bad,
         _ => with_buffer(call, text, w, buffer, out, at),
     }
@@ -148,6 +149,23 @@ fn call_profile(text: &[u8], w: Words, out: &mut [u8], at: usize) -> Answer {
         Conformity::Nonconforming => Answer::Printed(print_bytes(b"ok nonconforming\n", out, at)),
         Conformity::Unknown => Answer::Printed(print_bytes(b"ok unknown\n", out, at)),
     }
+}
+
+// judge TEXT, with the judging program's buffers
+fn call_judge(text: &[u8], w: Words, out: &mut [u8], at: usize) -> Answer {
+    if w.count != 2 {
+        return Answer::Bad;
+    }
+    let mut recipients = [0u8; 16384];
+    let mut identities = [0u8; 16384];
+    let mut keys = [0u8; 1024];
+    let judged = judging::judge(
+        word(text, w, 1),
+        &mut recipients,
+        &mut identities,
+        &mut keys,
+    );
+    Answer::Printed(print_judged(judged, out, at))
 }
 
 // recipient TEXT OUT, identity TEXT OUT

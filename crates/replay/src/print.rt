@@ -5,6 +5,7 @@ ghost use lib.ListN.{length};
 use crate::parts::append;
 use crate::parts::front;
 use crate::parts::least;
+use judging::Judged;
 use libc::STDERR_FILENO;
 use libc::STDOUT_FILENO;
 use refusal::Refusal;
@@ -134,6 +135,23 @@ fn print_command(word: Word, out: &mut [u8], at: usize) -> usize {
         Word::Done => print_bytes(b" done", out, at),
         Word::Other => print_bytes(b" other", out, at),
     }
+}
+
+// The line of the judging program's verdict.
+pub fn print_judged(judged: Judged, out: &mut [u8], at: usize) -> usize {
+    let a = print_bytes(b"ok", out, at);
+    let b = print_count(judged.recipients, out, a);
+    let c = print_count(judged.identities, out, b);
+    let d = print_count(judged.keys, out, c);
+    let e = print_count(judged.headers, out, d);
+    let f = print_count(judged.answer as usize, out, e);
+    print_bytes(b"\n", out, f)
+}
+
+// A space and a number.
+fn print_count(n: usize, out: &mut [u8], at: usize) -> usize {
+    let a = print_bytes(b" ", out, at);
+    print_number(n as u64, out, a)
 }
 
 // The line of a checksum.

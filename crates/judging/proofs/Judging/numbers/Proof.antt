@@ -1,0 +1,23 @@
+-- `numbers` meets its contract, by where judging stands.
+use mathlib.Core.Path.{refl}
+use borrow.Author.Needs.{needs}
+use Rattle.judging.proofs.Judging.numbers.Statement.{statement}
+use Rattle.judging.proofs.Judging.numbers.Tie as tie
+
+enum-known-progress : tie.Need-enum-known-progress
+enum-known-progress c = search needs
+
+enum-told : tie.Need-enum-told
+enum-told c = search needs
+
+count-requires : tie.Need-count-requires
+count-requires c κs = search needs
+
+returns : tie.Need-returns
+returns c = rw (c .before .progress .given .1)
+
+returns-2 : tie.Need-returns-2
+returns-2 c = rw (c .before .enum-told .given .1) (c .count .ensures)
+
+pub numbers-spec : {M : Type 1} → statement M
+numbers-spec = tie.close (tie.spec enum-known-progress enum-told count-requires returns returns-2)

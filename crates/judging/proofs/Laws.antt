@@ -1,0 +1,6 @@
+-- What is shown of judging.
+pub mod Examples
+pub mod Reading
+pub mod Steps
+pub mod Turns
+pub mod Windows

@@ -1,0 +1,140 @@
+-- `advance` meets its contract: what `receive` ensures of the part of the window from `at` on, by the answer it gave.
+use native.Mathlib.Omega.{arith}
+use mathlib.Core.Path.{ap}
+use denote.Ref.{now}
+use Rattle.refusal.specs.Number.{numberOf}
+use Rattle.session.specs.Commands.{wordSaid}
+use Rattle.plugin.specs.Session.{sessionOf}
+use Rattle.plugin.specs.Receiving.{heardSaid}
+use Rattle.judging.specs.Said.{judgedSaid, lentOf}
+use Rattle.judging.proofs.Laws.Steps.{turn-refused, turn-done, turn-on, turn-within}
+use borrow.Author.Needs.{needs}
+use Rattle.judging.proofs.advance.Statement.{statement}
+use Rattle.judging.proofs.advance.Tie as tie
+
+sub-receive : tie.Need-sub-receive
+sub-receive c = search needs
+
+part-receive-start : tie.Need-part-receive-start
+part-receive-start c = search needs
+
+part-receive-end : tie.Need-part-receive-end
+part-receive-end c = search needs
+
+slice-aggregate-receive : tie.Need-slice-aggregate-receive
+slice-aggregate-receive c = search needs
+
+receive-requires : tie.Need-receive-requires
+receive-requires c κs = search needs
+
+enum-known-answer : tie.Need-enum-known-answer
+enum-known-answer c = search needs
+
+number-requires : tie.Need-number-requires
+number-requires c κs = search needs
+
+count-requires : tie.Need-count-requires
+count-requires c κs = search needs
+
+enum-known-answer-2 : tie.Need-enum-known-answer-2
+enum-known-answer-2 c = search needs
+
+is-done-requires : tie.Need-is-done-requires
+is-done-requires c κs = search needs
+
+count-requires-2 : tie.Need-count-requires-2
+count-requires-2 c κs = search needs
+
+add-t33 : tie.Need-add-t33
+add-t33 c =
+    let a = c .before .before .before .before .before .before .before .before .before .before .before .before .before .before .before .before .before .before .before .before .before .before .before .before .args in
+    let r = c .before .before .before .before .before .before .before .before .before .before .before .before .before .before .receive in
+    let h = turn-within (sessionOf (a .session)) (sessionOf (r .result .session)) (lentOf (now (a .recipients)) (now (a .identities)) (now (a .keys))) (r .last .1 .1 .0) (r .last .1 .1 .1 .0) (r .last .1 .1 .1 .1 .0) (r .last .1 .1 .1 .1 .1 .0) (now (a .window)) (a .at) (heardSaid (r .result .answer)) (r .kept .1 .1 .1 .1 .1 .0) (r .ensures)
+    (wordSaid (c .before .before .before .before .answer2 .given .0 .0)) (c .before .before .before .before .answer2 .given .0 .1 .0) (ap heardSaid (c .before .before .before .before .answer2 .given .1)) (c .before .before .before .before .before .before .before .before .before .before .before .before .before .before .before .before .before .before .before .before .before .before .before .before .pre) in
+    omega (arith, h, c .before .before .before .before .before .before .before .before .before .before .before .before .before .before .before .before .before .before .before .before .before .before .before .before .good)
+
+same-length : tie.Need-same-length
+same-length c = search needs
+
+same-length-2 : tie.Need-same-length-2
+same-length-2 c = search needs
+
+same-length-3 : tie.Need-same-length-3
+same-length-3 c = search needs
+
+returns : tie.Need-returns
+returns c =
+    let a = c .before .before .before .before .before .before .before .before .before .before .before .before .before .before .before .before .before .before .before .before .before .before .before .before .args in
+    let r = c .before .before .before .before .before .before .before .before .before .before .before .before .before .before .receive in
+    turn-done (sessionOf (a .session)) (sessionOf (r .result .session)) (lentOf (now (a .recipients)) (now (a .identities)) (now (a .keys))) (r .last .1 .1 .0) (r .last .1 .1 .1 .0) (r .last .1 .1 .1 .1 .0) (r .last .1 .1 .1 .1 .1 .0) (now (a .window)) (a .at) (heardSaid (r .result .answer)) (r .kept .1 .1 .1 .1 .1 .0) (r .ensures)
+    (wordSaid (c .before .before .before .before .answer2 .given .0 .0)) (c .before .before .before .before .answer2 .given .0 .1 .0) (c .before .before .is-done .result) (judgedSaid (c .count2 .result)) (ap heardSaid (c .before .before .before .before .answer2 .given .1)) (c .before .before .is-done .ensures) (c .before .if1 .taken) (c .count2 .ensures)
+
+add-t35 : tie.Need-add-t35
+add-t35 c =
+    let a = c .before .before .before .before .before .before .before .before .before .before .before .before .before .before .before .before .before .before .before .before .before .before .before .args in
+    let r = c .before .before .before .before .before .before .before .before .before .before .before .before .before .receive in
+    let h = turn-within (sessionOf (a .session)) (sessionOf (r .result .session)) (lentOf (now (a .recipients)) (now (a .identities)) (now (a .keys))) (r .last .1 .1 .0) (r .last .1 .1 .1 .0) (r .last .1 .1 .1 .1 .0) (r .last .1 .1 .1 .1 .1 .0) (now (a .window)) (a .at) (heardSaid (r .result .answer)) (r .kept .1 .1 .1 .1 .1 .0) (r .ensures)
+    (wordSaid (c .before .before .before .answer2 .given .0 .0)) (c .before .before .before .answer2 .given .0 .1 .0) (ap heardSaid (c .before .before .before .answer2 .given .1)) (c .before .before .before .before .before .before .before .before .before .before .before .before .before .before .before .before .before .before .before .before .before .before .before .pre) in
+    omega (arith, h, c .before .before .before .before .before .before .before .before .before .before .before .before .before .before .before .before .before .before .before .before .before .before .before .good)
+
+same-length-4 : tie.Need-same-length-4
+same-length-4 c = search needs
+
+same-length-5 : tie.Need-same-length-5
+same-length-5 c = search needs
+
+same-length-6 : tie.Need-same-length-6
+same-length-6 c = search needs
+
+returns-2 : tie.Need-returns-2
+returns-2 c =
+    let a = c .before .before .before .before .before .before .before .before .before .before .before .before .before .before .before .before .before .before .before .before .before .before .before .args in
+    let r = c .before .before .before .before .before .before .before .before .before .before .before .before .before .receive in
+    turn-refused (sessionOf (a .session)) (sessionOf (r .result .session)) (lentOf (now (a .recipients)) (now (a .identities)) (now (a .keys))) (r .last .1 .1 .0) (r .last .1 .1 .1 .0) (r .last .1 .1 .1 .1 .0) (r .last .1 .1 .1 .1 .1 .0) (now (a .window)) (a .at) (heardSaid (r .result .answer)) (r .kept .1 .1 .1 .1 .1 .0) (r .ensures)
+    (numberOf (c .before .before .before .answer .given .0 .0)) (c .before .number .result) (judgedSaid (c .count .result)) (ap heardSaid (c .before .before .before .answer .given .1)) (c .before .number .ensures) (c .count .ensures)
+
+same-length-7 : tie.Need-same-length-7
+same-length-7 c = search needs
+
+same-length-8 : tie.Need-same-length-8
+same-length-8 c = search needs
+
+same-length-9 : tie.Need-same-length-9
+same-length-9 c = search needs
+
+returns-3 : tie.Need-returns-3
+returns-3 c =
+    let a = c .before .before .before .before .before .before .before .before .before .before .before .before .before .before .before .before .before .before .before .before .before .before .before .args in
+    let r = c .before .before .before .before .before .before .before .before .before .before .before .before .before .receive in
+    turn-on (sessionOf (a .session)) (sessionOf (r .result .session)) (lentOf (now (a .recipients)) (now (a .identities)) (now (a .keys))) (r .last .1 .1 .0) (r .last .1 .1 .1 .0) (r .last .1 .1 .1 .1 .0) (r .last .1 .1 .1 .1 .1 .0) (now (a .window)) (a .at) (heardSaid (r .result .answer)) (r .kept .1 .1 .1 .1 .1 .0) (r .ensures)
+    (wordSaid (c .before .before .before .answer2 .given .0 .0)) (c .before .before .before .answer2 .given .0 .1 .0) (c .before .is-done .result) (ap heardSaid (c .before .before .before .answer2 .given .1)) (c .before .is-done .ensures) (c .if1 .left)
+
+pub advance-spec : {M : Type 1} → statement M
+advance-spec =
+    tie.close
+    (tie.spec
+    sub-receive
+    part-receive-start
+    part-receive-end
+    slice-aggregate-receive
+    receive-requires
+    enum-known-answer
+    number-requires
+    count-requires
+    enum-known-answer-2
+    is-done-requires
+    count-requires-2
+    add-t33
+    same-length
+    same-length-2
+    same-length-3
+    returns
+    add-t35
+    same-length-4
+    same-length-5
+    same-length-6
+    returns-2
+    same-length-7
+    same-length-8
+    same-length-9
+    returns-3)

@@ -1,0 +1,46 @@
+-- `judge` meets its contract: the text is one window, and the last.
+use mathlib.Core.Path.{ap, _∙_}
+use denote.Ref.{now}
+use Rattle.judging.specs.Judging.{numbersOf}
+use Rattle.judging.specs.Said.{standingOf, lentOf, turnSaid}
+use Rattle.judging.proofs.Laws.Steps.{whole}
+use borrow.Author.Needs.{needs}
+use Rattle.judging.proofs.judge.Statement.{statement}
+use Rattle.judging.proofs.judge.Tie as tie
+
+open-requires : tie.Need-open-requires
+open-requires c κs = search needs
+
+judge-window-requires : tie.Need-judge-window-requires
+judge-window-requires c κs = search needs
+
+numbers-requires : tie.Need-numbers-requires
+numbers-requires c κs = search needs
+
+same-length : tie.Need-same-length
+same-length c = search needs
+
+same-length-2 : tie.Need-same-length-2
+same-length-2 c = search needs
+
+same-length-3 : tie.Need-same-length-3
+same-length-3 c = search needs
+
+returns : tie.Need-returns
+returns c =
+    let a = c .before .before .before .before .before .before .before .before .before .before .before .before .before .before .before .before .args in
+    let j = c .before .before .before .before .before .before .before .judge-window in
+    let e = whole (turnSaid (j .result) (j .last .1 .1 .1 .0) (j .last .1 .1 .1 .1 .0) (j .last .1 .1 .1 .1 .1 .0)) (standingOf (c .before .before .before .before .before .before .before .before .before .before .before .«open» .result)) (lentOf (now (a .recipients)) (now (a .identities)) (now (a .keys))) (now (a .text)) (j .ensures .0) (c .before .before .before .before .before .before .before .before .before .before .before .«open» .ensures .0) in
+    (c .numbers .ensures ∙ ap (λ t. numbersOf (t .standing)) e, ap (λ t. t .buffers) e)
+
+pub judge-spec : {M : Type 1} → statement M
+judge-spec =
+    tie.close
+    (tie.spec
+    open-requires
+    judge-window-requires
+    numbers-requires
+    same-length
+    same-length-2
+    same-length-3
+    returns)

@@ -1,0 +1,108 @@
+-- Judging a recorded phase one (document 01, "The judging program").
+use Prim.Native.Nat.{ℕ, zero, suc, _+_}
+use mathlib.Core.Bool.{Bool, true, false}
+use mathlib.Core.List.{List, [], _∷_}
+use lib.Dec.{leb}
+use lib.ListN.{length, drop, replicate}
+use Rattle.refusal.specs.Pick.{pick}
+use Rattle.session.specs.Commands.{Word, add-recipient, add-identity, wrap-file-key, recipient-stanza, done-word, other-word}
+use Rattle.session.specs.PhaseOne.{Tables, Buffers, buffersOf}
+use Rattle.session.specs.declared.commands.Machine.the-variants.{RecipientV1}
+use Rattle.conversation.specs.Session.{Session, openedSession}
+use Rattle.conversation.specs.Receiving.{Heard, heard, declined, Received, received}
+
+-- what the program writes: four counts and the answer, 0 behind done, else the number of the refusal
+pub record Judged : Type 0 where
+  pub recipients : ℕ
+  pub identities : ℕ
+  pub keys : ℕ
+  pub headers : ℕ
+  pub answer : ℕ
+
+-- the counts of tables, and an answer
+abbrev pub counted : Tables → ℕ → Judged
+counted t n = record { recipients = t .recipients .count; identities = t .identities .count; keys = t .keys .count; headers = t .headers .count; answer = n }
+
+-- judging goes on with a session, or has stopped
+pub data Standing : Type 0 where
+  going : Session → Standing
+  stopped : Judged → Standing
+
+-- the buffers and where judging stands behind some bytes of a text
+pub record Turn : Type 0 where
+  pub standing : Standing
+  pub buffers : Buffers
+  pub taken : ℕ
+
+abbrev pub turnOf : Standing → Buffers → ℕ → Turn
+turnOf d b k = record { standing = d; buffers = b; taken = k }
+
+-- ---- one stanza
+
+abbrev pub isDone : Word → Bool
+isDone done-word = true
+isDone add-recipient = false
+isDone add-identity = false
+isDone wrap-file-key = false
+isDone recipient-stanza = false
+isDone other-word = false
+
+-- it "stops at done or a refusal"; "At a refusal the counts are those before it"
+abbrev pub standingAfter : Heard → Session → Session → Standing
+standingAfter (heard w k) before after = pick (isDone w) (stopped (counted (after .tables) 0)) (going after)
+standingAfter (declined n) before after = stopped (counted (before .tables) n)
+
+-- a refused call takes nothing
+abbrev pub takenBy : Heard → ℕ
+takenBy (heard w k) = k
+takenBy (declined n) = 0
+
+-- a call of a session, and what it came to
+abbrev pub turnBy : Session → Received → Turn
+turnBy s r = turnOf (standingAfter (r .answer) s (r .session)) (r .buffers) (takenBy (r .answer))
+
+-- the first stanza of a text
+abbrev pub turned : Session → Buffers → List ℕ → Turn
+turned s b text = turnBy s (received s text b)
+
+-- ---- a text
+
+-- a turn behind k bytes
+abbrev pub behind : ℕ → Turn → Turn
+behind k t = turnOf (t .standing) (t .buffers) (k + t .taken)
+
+-- one stanza after the other, as long as `least` bytes are left. Each takes a byte or more, so fuel that is more than the text's length is never used up
+unfoldable pub judgedWith : ℕ → ℕ → Standing → Buffers → List ℕ → Turn
+judgedWith zero least d b text = turnOf d b 0
+judgedWith (suc fuel) least (stopped x) b text = turnOf (stopped x) b 0
+judgedWith (suc fuel) least (going s) b text =
+    let t = turned s b text in
+    pick (leb least (length text)) (behind (t .taken) (judgedWith fuel least (t .standing) (t .buffers) (drop (t .taken) text))) (turnOf (going s) b 0)
+
+abbrev pub judgedFrom : ℕ → Standing → Buffers → List ℕ → Turn
+judgedFrom least d b text = judgedWith (suc (length text)) least d b text
+
+-- the plugin's name is not given and does not show in the counts: "judge"
+abbrev pub judgeName : List ℕ
+judgeName = 106 ∷ 117 ∷ 100 ∷ 103 ∷ 101 ∷ []
+
+-- "a recipient-v1 phase one": a plugin session just opened
+abbrev pub start : Session
+start = openedSession RecipientV1 judgeName false
+
+-- a whole text, with these buffers
+abbrev pub judgedText : Buffers → List ℕ → Turn
+judgedText b text = judgedFrom 0 (going start) b text
+
+-- the five numbers; where judging goes on, the input has ended before done: No. 2. (A whole text always makes it stop.)
+abbrev pub numbersOf : Standing → Judged
+numbersOf (stopped x) = x
+numbersOf (going s) = counted (s .tables) 2
+
+-- "with rooms of 16,384, 16,384 and 1,024 bytes", and none for header stanzas, of which recipient-v1 has none
+abbrev pub lent : Buffers
+lent = buffersOf (replicate 16384 0) (replicate 16384 0) (replicate 1024 0) []
+
+-- what the program writes for an input
+abbrev pub judged : List ℕ → Judged
+judged text = numbersOf (judgedText lent text .standing)

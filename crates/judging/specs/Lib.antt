@@ -1,0 +1,4 @@
+-- The judging program's verdict on a recorded phase one.
+pub mod Judging
+pub mod Windows
+pub mod Said

@@ -1,0 +1,181 @@
+// Judging a recorded phase one of recipient-v1: stanza after stanza up to done or a refusal, window by window of the input. How the input is cut does not show.
+ghost use mathlib.Core.Path.{_≡_};
+ghost use Prim.Native.Nat.{_≤_};
+ghost use lib.ListN.{length, drop};
+ghost use Rattle.session.specs.Commands.{wordSaid};
+ghost use Rattle.session.specs.PhaseOne.{tablesOf};
+ghost use Rattle.plugin.specs.Session.{sessionOf};
+ghost use Rattle.judging.specs.Judging.{counted, going, stopped, isDone, turned, behind, start, judgedText, numbersOf};
+ghost use Rattle.judging.specs.Windows.{windowed, Cut};
+ghost use Rattle.judging.specs.Said.{judgedSaid, isDue, lentOf, standingOf, turnSaid};
+use plugin::Heard;
+use plugin::Session;
+use session::Tables;
+use session::Word;
+
+// How long a stanza is at most.
+const LONGEST: usize = 8192;
+
+// What the judging program writes: how many entries each kind has, and the answer, 0 behind done, else the number of the refusal.
+pub struct Judged {
+    pub recipients: usize,
+    pub identities: usize,
+    pub keys: usize,
+    pub headers: usize,
+    pub answer: u8,
+}
+
+// Judging goes on, or has stopped at done or a refusal.
+pub enum Progress {
+    GoesOn,
+    Stopped(Judged),
+}
+
+// Where judging stands, and how many bytes of the last window it took. Where it has stopped the session is left open: nothing goes by it any more.
+pub struct Judging {
+    pub session: Session,
+    pub progress: Progress,
+    pub taken: usize,
+}
+
+// The counts of tables, and an answer.
+fn count(tables: Tables, answer: u8) -> Judged
+    ensures { λ r. ⌜ judgedSaid r ≡ counted (tablesOf tables) answer ⌝ }
+{
+    Judged {
+        recipients: tables.recipients.count,
+        identities: tables.identities.count,
+        keys: tables.keys.count,
+        headers: tables.headers.count,
+        answer: answer,
+    }
+}
+
+// Whether a command is done.
+fn is_done(word: Word) -> bool
+    ensures { λ r. ⌜ r ≡ isDone (wordSaid word) ⌝ }
+{
+    match word {
+        Word::Done => true,
+        Word::AddRecipient => false,
+        Word::AddIdentity => false,
+        Word::WrapFileKey => false,
+        Word::RecipientStanza => false,
+        Word::Other => false,
+    }
+}
+
+// Whether another stanza of a window is looked at: judging goes on, and the longest stanza could be left or the window is the last.
+fn is_due(progress: Progress, left: usize, last: bool) -> bool
+    ensures { λ r. ⌜ r ≡ isDue progress left last ⌝ }
+{
+    match progress {
+        Progress::Stopped(_) => false,
+        Progress::GoesOn => {
+            if last {
+                return true;
+            }
+            LONGEST <= left
+        }
+    }
+}
+
+// The stanza that stands at a place of a window.
+fn advance(
+    session: Session,
+    window: &[u8],
+    at: usize,
+    recipients: &mut [u8],
+    identities: &mut [u8],
+    keys: &mut [u8],
+) -> Judging
+    requires { ⌜ at ≤ length (now window) ⌝ }
+    ensures { λ r. ⌜ turnSaid r (now (recipients .exit)) (now (identities .exit)) (now (keys .exit)) ≡ behind at (turned (sessionOf session) (lentOf (now (recipients .entry)) (now (identities .entry)) (now (keys .entry))) (drop at (now (window .entry)))) ⌝ }
+{
+    let mut headers = [0u8; 0];
+    let received = session.receive(&window[at..], recipients, identities, keys, &mut headers);
+    let answer = received.answer;
+    let after = received.session;
+    match answer {
+        Heard::Refused(r) => Judging {
+            session: after,
+            progress: Progress::Stopped(count(session.tables, refusal::number(r))),
+            taken: at,
+        },
+        Heard::Command(word, taken) => {
+            if is_done(word) {
+                return Judging {
+                    session: after,
+                    progress: Progress::Stopped(count(after.tables, 0)),
+                    taken: at + taken,
+                };
+            }
+            Judging {
+                session: after,
+                progress: Progress::GoesOn,
+                taken: at + taken,
+            }
+        }
+    }
+}
+
+impl Judging {
+    // Nothing judged yet: a session of recipient-v1 just opened. The plugin's name does not show in the numbers.
+    pub fn open() -> Judging
+        ensures { λ r. ⌜ (standingOf r ≡ going start) × (r .taken ≡ 0) ⌝ }
+    {
+        let opening = Session::open(b"recipient-v1", b"judge");
+        let session = opening.session;
+        Judging {
+            session: session,
+            progress: Progress::GoesOn,
+            taken: 0,
+        }
+    }
+
+    // A window of the input, which ends behind it where it is the last. The next window begins with what is not taken. However the input is cut, it is judged
+    // alike.
+    pub fn judge_window(
+        self,
+        window: &[u8],
+        last: bool,
+        recipients: &mut [u8],
+        identities: &mut [u8],
+        keys: &mut [u8],
+    ) -> Judging
+        ensures exact { λ r. ⌜ turnSaid r (now (recipients .exit)) (now (identities .exit)) (now (keys .exit)) ≡ windowed last (standingOf self) (lentOf (now (recipients .entry)) (now (identities .entry)) (now (keys .entry))) (now (window .entry)) ⌝ }
+        ensures any_cut { λ r. ⌜ Cut last (standingOf self) (lentOf (now (recipients .entry)) (now (identities .entry)) (now (keys .entry))) (now (window .entry)) (turnSaid r (now (recipients .exit)) (now (identities .exit)) (now (keys .exit))) ⌝ }
+    {
+        let mut j = self;
+        j.taken = 0;
+        loop {
+            let progress = j.progress;
+            let at = j.taken;
+            if !is_due(progress, window.len() - at, last) {
+                return j;
+            }
+            j = advance(j.session, window, at, recipients, identities, keys);
+        }
+    }
+
+    // The five numbers. Where judging goes on the input has ended before done: 2.
+    pub fn numbers(self) -> Judged
+        ensures { λ r. ⌜ judgedSaid r ≡ numbersOf (standingOf self) ⌝ }
+    {
+        let progress = self.progress;
+        match progress {
+            Progress::Stopped(x) => x,
+            Progress::GoesOn => count(self.session.tables, 2),
+        }
+    }
+}
+
+// A whole text: the five numbers. The judging program lends 16,384, 16,384 and 1,024 bytes of zeros. Header stanzas need no buffer: recipient-v1 has none.
+pub fn judge(text: &[u8], recipients: &mut [u8], identities: &mut [u8], keys: &mut [u8]) -> Judged
+    ensures numbers { λ r. ⌜ judgedSaid r ≡ numbersOf (judgedText (lentOf (now (recipients .entry)) (now (identities .entry)) (now (keys .entry))) (now (text .entry)) .standing) ⌝ }
+    ensures buffers { λ _. ⌜ lentOf (now (recipients .exit)) (now (identities .exit)) (now (keys .exit)) ≡ judgedText (lentOf (now (recipients .entry)) (now (identities .entry)) (now (keys .entry))) (now (text .entry)) .buffers ⌝ }
+{
+    let begun = Judging::open();
+    let judging = begun.judge_window(text, true, recipients, identities, keys);
+    judging.numbers()
+}
