@@ -1,6 +1,9 @@
-// The calls, a function for each: it judges the words of the line, makes the call and prints its answer.
+// The calls that need no session, a function for each: it judges the words of the line, makes the call and prints its answer.
+use crate::answers::Answer;
 use crate::parts::front;
+use crate::print::print_bytes;
 use crate::print::print_holds;
+use crate::print::print_judged;
 use crate::print::print_ok_number;
 use crate::print::print_ok_parts;
 use crate::print::print_ok_word;
@@ -8,10 +11,10 @@ use crate::print::print_ok_words;
 use crate::print::print_refused;
 use crate::words::Words;
 use crate::words::last_word;
-use crate::words::read_words;
 use crate::words::word;
 use bech32::Kind;
 use bech32::Reading;
+use profile::Conformity;
 use refusal::Written;
 use script::Call;
 use script::Number;
@@ -19,29 +22,21 @@ use stanza::First;
 use stanza::Index;
 use stanza::Stanza;
 
-// What a line came to: its answer is printed, or nothing, since it is no call.
-pub enum Answer {
-    Printed(usize),
-    Bad,
-}
-
-// Makes the call of a line.
-pub fn make_call(
-    line: &[u8],
-    text: &mut [u8],
+// Makes the call of a line that calls no session.
+pub fn call_plain(
+    call: Call,
+    text: &[u8],
+    w: Words,
     buffer: &mut [u8],
     out: &mut [u8],
     at: usize,
 ) -> Answer {
-    let w = read_words(line, text);
-    if w.count == 0 {
-        return Answer::Bad;
-    }
-    let call = script::choose_call(word(text, w, 0));
     match call {
         Call::Stanza => call_stanza(text, w, buffer, out, at),
         Call::Index => call_index(text, w, out, at),
         Call::Checksum => call_checksum(text, w, out, at),
+        Call::Profile => call_profile(text, w, out, at),
+        Call::Judge => call_judge(text, w, out, at),
         Call::Other => Answer::Bad,
         _ => with_buffer(call, text, w, buffer, out, at),
     }
@@ -140,6 +135,37 @@ fn call_checksum(text: &[u8], w: Words, out: &mut [u8], at: usize) -> Answer {
         return Answer::Bad;
     }
     Answer::Printed(print_holds(bech32::holds(word(text, w, 1)), out, at))
+}
+
+// profile NAME LINE BODY
+fn call_profile(text: &[u8], w: Words, out: &mut [u8], at: usize) -> Answer {
+    if w.count != 4 {
+        return Answer::Bad;
+    }
+    let body = word(text, w, 3);
+    let found = profile::check(word(text, w, 1), word(text, w, 2), body.len());
+    match found {
+        Conformity::Conforming => Answer::Printed(print_bytes(b"ok conforming\n", out, at)),
+        Conformity::Nonconforming => Answer::Printed(print_bytes(b"ok nonconforming\n", out, at)),
+        Conformity::Unknown => Answer::Printed(print_bytes(b"ok unknown\n", out, at)),
+    }
+}
+
+// judge TEXT, with the judging program's buffers
+fn call_judge(text: &[u8], w: Words, out: &mut [u8], at: usize) -> Answer {
+    if w.count != 2 {
+        return Answer::Bad;
+    }
+    let mut recipients = [0u8; 16384];
+    let mut identities = [0u8; 16384];
+    let mut keys = [0u8; 1024];
+    let judged = judging::judge(
+        word(text, w, 1),
+        &mut recipients,
+        &mut identities,
+        &mut keys,
+    );
+    Answer::Printed(print_judged(judged, out, at))
 }
 
 // recipient TEXT OUT, identity TEXT OUT

@@ -39,3 +39,12 @@ pub fn append(src: &[u8], out: &mut [u8], at: usize) -> usize {
     let from = least(at, out.len());
     from + copy(src, &mut out[from..])
 }
+
+// Zeros from `from` on.
+pub fn clear(bytes: &mut [u8], from: usize) {
+    let mut i = from;
+    while i < bytes.len() {
+        bytes[i] = 0;
+        i += 1;
+    }
+}

@@ -5,10 +5,12 @@ ghost use lib.ListN.{length};
 use crate::parts::append;
 use crate::parts::front;
 use crate::parts::least;
+use judging::Judged;
 use libc::STDERR_FILENO;
 use libc::STDOUT_FILENO;
 use refusal::Refusal;
 use refusal::Written;
+use session::Word;
 
 // A byte string is printed in pieces of this many bytes, each of which is printed by at most four.
 const PIECE: usize = 16384;
@@ -113,6 +115,43 @@ fn print_last_words(first: &[u8], second: &[u8], out: &mut [u8], at: usize) -> u
     let b = print_bytes(b" ", out, a);
     let c = print_word(second, out, b);
     print_bytes(b"\n", out, c)
+}
+
+// The line of a command that was received; nothing is answered at once in phase one.
+pub fn print_received(taken: u64, word: Word, out: &mut [u8], at: usize) -> usize {
+    let a = print_bytes(b"ok ", out, at);
+    let b = print_number(taken, out, a);
+    let c = print_command(word, out, b);
+    print_bytes(b" \\e\n", out, c)
+}
+
+// A space and the word of a command.
+fn print_command(word: Word, out: &mut [u8], at: usize) -> usize {
+    match word {
+        Word::AddRecipient => print_bytes(b" add-recipient", out, at),
+        Word::AddIdentity => print_bytes(b" add-identity", out, at),
+        Word::WrapFileKey => print_bytes(b" wrap-file-key", out, at),
+        Word::RecipientStanza => print_bytes(b" recipient-stanza", out, at),
+        Word::Done => print_bytes(b" done", out, at),
+        Word::Other => print_bytes(b" other", out, at),
+    }
+}
+
+// The line of the judging program's verdict.
+pub fn print_judged(judged: Judged, out: &mut [u8], at: usize) -> usize {
+    let a = print_bytes(b"ok", out, at);
+    let b = print_count(judged.recipients, out, a);
+    let c = print_count(judged.identities, out, b);
+    let d = print_count(judged.keys, out, c);
+    let e = print_count(judged.headers, out, d);
+    let f = print_count(judged.answer as usize, out, e);
+    print_bytes(b"\n", out, f)
+}
+
+// A space and a number.
+fn print_count(n: usize, out: &mut [u8], at: usize) -> usize {
+    let a = print_bytes(b" ", out, at);
+    print_number(n as u64, out, a)
 }
 
 // The line of a checksum.

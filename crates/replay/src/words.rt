@@ -2,13 +2,20 @@
 use crate::parts::least;
 use crate::parts::part;
 use refusal::Written;
+use script::Call;
 use script::Unescaped;
+
+// The longest line that is a call, without its LF.
+const LONGEST: usize = 65536;
 
 // No call has more words.
 const MOST: usize = 16;
 
-// How many words there are, none where the line is bad, and where each ends in the buffer.
+// Whether the line is skipped, the call that its first word names, how many words there are, none where the line is bad, and where each ends
+// in the buffer.
 pub struct Words {
+    pub skipped: bool,
+    pub call: Call,
     pub count: usize,
     pub ends: [usize; 16],
 }
@@ -19,15 +26,54 @@ enum End {
     Bad,
 }
 
-// The words of a line into `text`, which is as long as the longest line.
-pub fn read_words(line: &[u8], text: &mut [u8]) -> Words {
-    let bad = Words {
+// No word.
+fn no_words(skipped: bool) -> Words {
+    Words {
+        skipped: skipped,
+        call: Call::Other,
         count: 0,
         ends: [0; 16],
-    };
+    }
+}
+
+// The words of a line into `text`, which is as long as the longest line. An empty line, a comment and a line that has not ended are skipped.
+pub fn read_line(line: &[u8], ended: bool, text: &mut [u8]) -> Words {
+    if !ended {
+        return no_words(true);
+    }
+    if line.len() == 0 {
+        return no_words(true);
+    }
+    if line[0] == b'#' {
+        return no_words(true);
+    }
+    if LONGEST < line.len() {
+        return no_words(false);
+    }
+    let w = read_words(line, text);
+    let call = script::choose_call(word(text, w, 0));
+    with_call(call, w)
+}
+
+// The call that words make, if there are any.
+fn with_call(call: Call, w: Words) -> Words {
+    if w.count == 0 {
+        return w;
+    }
+    let ends = w.ends;
+    Words {
+        skipped: false,
+        call: call,
+        count: w.count,
+        ends: ends,
+    }
+}
+
+// The words alone.
+fn read_words(line: &[u8], text: &mut [u8]) -> Words {
     let count = stanza::count(line);
     if MOST < count {
-        return bad;
+        return no_words(false);
     }
     let mut ends = [0usize; 16];
     let mut at: usize = 0;
@@ -35,13 +81,18 @@ pub fn read_words(line: &[u8], text: &mut [u8]) -> Words {
     while k < count {
         let e = read_word(stanza::argument(line, k), text, at);
         let End::At(end) = e else {
-            return bad;
+            return no_words(false);
         };
         ends[k] = end;
         at = end;
         k += 1;
     }
-    Words { count, ends }
+    Words {
+        skipped: false,
+        call: Call::Other,
+        count: count,
+        ends: ends,
+    }
 }
 
 // A word into `text` from `at` on.

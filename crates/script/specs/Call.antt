@@ -1,35 +1,9 @@
--- Which call a line of a script makes, by its first word.
-use Prim.Native.Nat.{ℕ, suc}
+-- Which call a line of a script makes, by its first word: the number of the word among the words of the calls that are built.
+use Prim.Native.Nat.{ℕ}
 use mathlib.Core.List.{List, [], _∷_}
-use lib.ListN.{getD}
-use Rattle.refusal.specs.Pick.{pick}
-use Rattle.refusal.specs.Same.{same}
+use Rattle.script.specs.Choice.{recipientWord, identityWord}
 use Rattle.script.specs.declared.calls.Call.{Call}
-use Rattle.script.specs.declared.calls.Call.the-variants.{Stanza, Write, Index, Checksum, Recipient, Identity, WriteRecipient, WriteIdentity, Other}
-
--- the calls that are built
-pub data Choice : Type 0 where
-  stanza : Choice
-  write : Choice
-  index : Choice
-  checksum : Choice
-  recipient : Choice
-  identity : Choice
-  writeRecipient : Choice
-  writeIdentity : Choice
-  other : Choice
-
--- what the code's answer stands for
-abbrev pub callSaid : Call → Choice
-callSaid Stanza = stanza
-callSaid Write = write
-callSaid Index = index
-callSaid Checksum = checksum
-callSaid Recipient = recipient
-callSaid Identity = identity
-callSaid WriteRecipient = writeRecipient
-callSaid WriteIdentity = writeIdentity
-callSaid Other = other
+use Rattle.script.specs.declared.calls.Call.the-variants.{Stanza, Write, Index, Checksum, Recipient, Identity, WriteRecipient, WriteIdentity, Profile, Judge, Open, Buffers, Send, Receive, Entry, Show, Other}
 
 -- "stanza"
 abbrev pub stanzaWord : List ℕ
@@ -43,17 +17,9 @@ writeWord = 119 ∷ 114 ∷ 105 ∷ 116 ∷ 101 ∷ []
 abbrev pub indexWord : List ℕ
 indexWord = 105 ∷ 110 ∷ 100 ∷ 101 ∷ 120 ∷ []
 
--- the words "checksum", "recipient", "identity", "write-recipient" and "write-identity"
+-- "checksum"
 abbrev pub checksumWord : List ℕ
 checksumWord = 99 ∷ 104 ∷ 101 ∷ 99 ∷ 107 ∷ 115 ∷ 117 ∷ 109 ∷ []
-
--- "recipient"
-abbrev pub recipientWord : List ℕ
-recipientWord = 114 ∷ 101 ∷ 99 ∷ 105 ∷ 112 ∷ 105 ∷ 101 ∷ 110 ∷ 116 ∷ []
-
--- "identity"
-abbrev pub identityWord : List ℕ
-identityWord = 105 ∷ 100 ∷ 101 ∷ 110 ∷ 116 ∷ 105 ∷ 116 ∷ 121 ∷ []
 
 -- "write-recipient"
 abbrev pub writeRecipientWord : List ℕ
@@ -63,19 +29,58 @@ writeRecipientWord = 119 ∷ 114 ∷ 105 ∷ 116 ∷ 101 ∷ 45 ∷ 114 ∷ 101 
 abbrev pub writeIdentityWord : List ℕ
 writeIdentityWord = 119 ∷ 114 ∷ 105 ∷ 116 ∷ 101 ∷ 45 ∷ 105 ∷ 100 ∷ 101 ∷ 110 ∷ 116 ∷ 105 ∷ 116 ∷ 121 ∷ []
 
--- all of them, and their calls in the same order
+-- "profile"
+abbrev pub profileWord : List ℕ
+profileWord = 112 ∷ 114 ∷ 111 ∷ 102 ∷ 105 ∷ 108 ∷ 101 ∷ []
+
+-- "judge"
+abbrev pub judgeWord : List ℕ
+judgeWord = 106 ∷ 117 ∷ 100 ∷ 103 ∷ 101 ∷ []
+
+-- "open"
+abbrev pub openWord : List ℕ
+openWord = 111 ∷ 112 ∷ 101 ∷ 110 ∷ []
+
+-- "buffers"
+abbrev pub buffersWord : List ℕ
+buffersWord = 98 ∷ 117 ∷ 102 ∷ 102 ∷ 101 ∷ 114 ∷ 115 ∷ []
+
+-- "send"
+abbrev pub sendWord : List ℕ
+sendWord = 115 ∷ 101 ∷ 110 ∷ 100 ∷ []
+
+-- "receive"
+abbrev pub receiveWord : List ℕ
+receiveWord = 114 ∷ 101 ∷ 99 ∷ 101 ∷ 105 ∷ 118 ∷ 101 ∷ []
+
+-- "entry"
+abbrev pub entryWord : List ℕ
+entryWord = 101 ∷ 110 ∷ 116 ∷ 114 ∷ 121 ∷ []
+
+-- "show"
+abbrev pub showWord : List ℕ
+showWord = 115 ∷ 104 ∷ 111 ∷ 119 ∷ []
+
+-- all of them
 abbrev pub callWords : List (List ℕ)
-callWords = stanzaWord ∷ writeWord ∷ indexWord ∷ checksumWord ∷ recipientWord ∷ identityWord ∷ writeRecipientWord ∷ writeIdentityWord ∷ []
+callWords = stanzaWord ∷ writeWord ∷ indexWord ∷ checksumWord ∷ recipientWord ∷ identityWord ∷ writeRecipientWord ∷ writeIdentityWord ∷ profileWord ∷ judgeWord ∷ openWord ∷ buffersWord ∷ sendWord ∷ receiveWord ∷ entryWord ∷ showWord ∷ []
 
--- the calls in the order of the words
-abbrev pub calls : List Choice
-calls = stanza ∷ write ∷ index ∷ checksum ∷ recipient ∷ identity ∷ writeRecipient ∷ writeIdentity ∷ []
-
--- the number of a word among words, byte for byte, counted from 0; how many they are where it is none of them
-unfoldable pub place : List ℕ → List (List ℕ) → ℕ
-place w [] = 0
-place w (v ∷ vs) = pick (same w v) 0 (suc (place w vs))
-
--- the call of a word
-unfoldable pub chosen : List ℕ → Choice
-chosen w = getD calls (place w callWords) other
+-- the number of the code's answer
+abbrev pub callSaid : Call → ℕ
+callSaid Stanza = 0
+callSaid Write = 1
+callSaid Index = 2
+callSaid Checksum = 3
+callSaid Recipient = 4
+callSaid Identity = 5
+callSaid WriteRecipient = 6
+callSaid WriteIdentity = 7
+callSaid Profile = 8
+callSaid Judge = 9
+callSaid Open = 10
+callSaid Buffers = 11
+callSaid Send = 12
+callSaid Receive = 13
+callSaid Entry = 14
+callSaid Show = 15
+callSaid Other = 16

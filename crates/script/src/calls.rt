@@ -1,7 +1,8 @@
 // Which call a line makes, by its first word.
 ghost use mathlib.Core.Path.{_≡_};
-ghost use Rattle.stanza.specs.Arguments.{words};
-ghost use Rattle.script.specs.Call.{callSaid, chosen, place};
+ghost use Rattle.script.specs.Choice.{place};
+ghost use Rattle.script.specs.Call.{callSaid, callWords};
+use crate::choices::find_word;
 
 // The calls that are built; any other word is no call yet.
 pub enum Call {
@@ -13,31 +14,24 @@ pub enum Call {
     Identity,
     WriteRecipient,
     WriteIdentity,
+    Profile,
+    Judge,
+    Open,
+    Buffers,
+    Send,
+    Receive,
+    Entry,
+    Show,
     Other,
 }
 
 // The words of the calls, which number them.
-const WORDS: [u8; 77] =
-    *b"stanza write index checksum recipient identity write-recipient write-identity";
-
-// The number of a word among the words of a text, counted from 0; how many there are where it is none of them.
-fn find_word(word: &[u8], text: &[u8]) -> usize
-    ensures { λ r. ⌜ r ≡ place (now (word .entry)) (words (now (text .entry))) ⌝ }
-{
-    let n = stanza::count(text);
-    let mut k: usize = 0;
-    while k < n {
-        if stanza::is_same(word, stanza::argument(text, k)) {
-            return k;
-        }
-        k += 1;
-    }
-    n
-}
+const WORDS: [u8; 128] =
+    *b"stanza write index checksum recipient identity write-recipient write-identity profile judge open buffers send receive entry show";
 
 // The call of a first word that has been read.
 pub fn choose_call(word: &[u8]) -> Call
-    ensures { λ r. ⌜ callSaid r ≡ chosen (now (word .entry)) ⌝ }
+    ensures { λ r. ⌜ callSaid r ≡ place (now (word .entry)) callWords ⌝ }
 {
     let words = WORDS;
     let k = find_word(word, &words);
@@ -50,6 +44,14 @@ pub fn choose_call(word: &[u8]) -> Call
         5 => Call::Identity,
         6 => Call::WriteRecipient,
         7 => Call::WriteIdentity,
+        8 => Call::Profile,
+        9 => Call::Judge,
+        10 => Call::Open,
+        11 => Call::Buffers,
+        12 => Call::Send,
+        13 => Call::Receive,
+        14 => Call::Entry,
+        15 => Call::Show,
         _ => Call::Other,
     }
 }

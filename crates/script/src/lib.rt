@@ -1,6 +1,7 @@
-// The script of the replay program: its lines, its words with their escapes, read and printed, its numbers, and which call a line makes.
+// The script of the replay program: its lines, its words with their escapes, read and printed, its numbers, its choices of words, and which call a line makes.
 // It knows nothing of files and of what the calls do.
 mod calls;
+mod choices;
 mod escaping;
 mod lines;
 mod numbers;
@@ -8,6 +9,14 @@ mod unescaping;
 
 pub use calls::Call;
 pub use calls::choose_call;
+pub use choices::Command;
+pub use choices::End;
+pub use choices::Kind;
+pub use choices::Screen;
+pub use choices::choose_command;
+pub use choices::choose_end;
+pub use choices::choose_kind;
+pub use choices::choose_screen;
 pub use escaping::escape;
 pub use lines::find_lf;
 pub use numbers::Number;

@@ -1,19 +1,29 @@
--- `read_words` is safe and ends. The invariant: k is at most the count, and the buffer and the table keep their lengths.
 use Prim.Native.Nat.{_-_, _≤_}
 use mathlib.Core.Path.{_≡_}
 use lib.ListN.{length}
 use borrow.Author.Needs.{needs}
 use Rattle.replay.proofs.words.read_words.Statement.{statement}
 use Rattle.replay.proofs.words.read_words.Tie as tie
+use Rattle.replay.proofs.words.read_words.Reads as reads
+use Rattle.replay.proofs.words.read_words.Lts as lts
+use Rattle.replay.proofs.words.no_words.Reads as no-words-reads
+use Rattle.replay.proofs.words.read_word.Reads as read-word-reads
+use Rattle.stanza.proofs.argument.Reads as argument-reads
+use Rattle.stanza.proofs.count.Reads as count-reads
 
+-- `read_words` is safe and ends. The invariant: k is at most the count, and the buffer and the table keep their lengths.
 abbrev Inv-loop : tie.InvT-loop
-Inv-loop line text₀ bad count ends₀ at₀ k₀ text ends at k = (k ≤ count) × (length text ≡ length text₀) × (length ends ≡ 16)
+Inv-loop line text₀ count ends₀ at₀ k₀ text ends at k = (k ≤ count) × (length text ≡ length text₀) × (length ends ≡ 16)
 
 abbrev μ-loop : tie.MeasureT-loop
-μ-loop line text₀ bad count ends₀ at₀ k₀ text ends at k = count - k
+μ-loop line text₀ count ends₀ at₀ k₀ text ends at k = count - k
 
 count-requires : tie.Need-count-requires Inv-loop μ-loop
 count-requires c κs = search needs
+
+-- src/words.rt:76:9
+no-words-requires : tie.Need-no-words-requires Inv-loop μ-loop
+no-words-requires c κs = search needs
 
 returns : tie.Need-returns Inv-loop μ-loop
 returns c = search needs
@@ -32,6 +42,10 @@ enum-known-e c = search needs
 
 enum-told : tie.Need-enum-told Inv-loop μ-loop
 enum-told c = search needs
+
+-- src/words.rt:84:13
+no-words-requires-2 : tie.Need-no-words-requires-2 Inv-loop μ-loop
+no-words-requires-2 c κs = search needs
 
 same-length : tie.Need-same-length Inv-loop μ-loop
 same-length c = search needs
@@ -67,12 +81,14 @@ read-words-spec =
     Inv-loop
     μ-loop
     count-requires
+    no-words-requires
     returns
     loop-holds
     argument-requires
     read-word-requires
     enum-known-e
     enum-told
+    no-words-requires-2
     same-length
     returns-2
     mul-ends

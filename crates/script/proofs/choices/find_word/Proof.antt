@@ -6,10 +6,10 @@ use native.Mathlib.Omega.{arith}
 use borrow.Author.Needs.{needs}
 use denote.Ref.{now}
 use Rattle.stanza.specs.Arguments.{words}
-use Rattle.script.specs.Call.{place}
-use Rattle.script.proofs.Laws.Call.{place-here, place-later, place-none}
-use Rattle.script.proofs.calls.find_word.Statement.{statement}
-use Rattle.script.proofs.calls.find_word.Tie as tie
+use Rattle.script.specs.Choice.{place}
+use Rattle.script.proofs.Laws.Choice.{place-here, place-later, place-none}
+use Rattle.script.proofs.choices.find_word.Statement.{statement}
+use Rattle.script.proofs.choices.find_word.Tie as tie
 
 abbrev Inv-loop : tie.InvT-loop
 Inv-loop word text n k₀ k = (k ≤ n) × (place word (words text) ≡ k + place word (drop k (words text)))

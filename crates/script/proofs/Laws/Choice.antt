@@ -8,7 +8,8 @@ use lib.Seq.{drop-cons}
 use native.Mathlib.Numerals.{add-one}
 use native.Mathlib.Omega.{arith}
 use Rattle.refusal.specs.Same.{same}
-use Rattle.script.specs.Call.{place}
+use Rattle.refusal.proofs.Laws.Booleans.{cases}
+use Rattle.script.specs.Choice.{place}
 
 module _ (w : List ℕ) (ws : List (List ℕ)) (k : ℕ) where
   pub place-here : k < length ws → same w (getD ws k []) ≡ true → place w (drop k ws) ≡ 0
@@ -31,3 +32,15 @@ NoneOf k (suc n) = NoneOf k n × (k ≡ n → ⊥)
 pub none-below : (k n : ℕ) → NoneOf k n → n ≤ k
 none-below k zero h = omega arith
 none-below k (suc n) h = let below = none-below k n (h .0) in let other : k ≡ n → ⊥ = h .1 in omega arith
+
+pub place-le : (w : List ℕ) (ws : List (List ℕ)) → place w ws ≤ length ws
+unfolding place
+place-le w [] = omega arith
+place-le w (v ∷ vs) =
+    cases (same w v)
+    (λ e. rw e (omega arith))
+    (λ e. let h = place-le w vs in rw e (omega arith))
+
+-- a word whose number is none of the words' is any other
+pub place-other : (w : List ℕ) (ws : List (List ℕ)) {r : ℕ} → r ≡ place w ws → length ws ≤ r → length ws ≡ place w ws
+place-other w ws e h = omega (arith, place-le w ws)

@@ -1,0 +1,115 @@
+-- The choices of words in a script: an end, a screen, a kind, a command. A choice is the number of its word in a list, byte for byte, counted from 0; the
+-- number of any other word is how many they are.
+use Prim.Native.Nat.{ℕ, suc}
+use mathlib.Core.List.{List, [], _∷_}
+use Rattle.refusal.specs.Pick.{pick}
+use Rattle.refusal.specs.Same.{same}
+use Rattle.script.specs.declared.choices.Command.{Command}
+use Rattle.script.specs.declared.choices.Command.the-variants as command-is
+use Rattle.script.specs.declared.choices.End.{End}
+use Rattle.script.specs.declared.choices.End.the-variants as end-is
+use Rattle.script.specs.declared.choices.Kind.{Kind}
+use Rattle.script.specs.declared.choices.Kind.the-variants as kind-is
+use Rattle.script.specs.declared.choices.Screen.{Screen}
+use Rattle.script.specs.declared.choices.Screen.the-variants as screen-is
+
+-- the number of a word among words
+unfoldable pub place : List ℕ → List (List ℕ) → ℕ
+place w [] = 0
+place w (v ∷ vs) = pick (same w v) 0 (suc (place w vs))
+
+-- ---- an end
+
+-- "client"
+abbrev pub clientWord : List ℕ
+clientWord = 99 ∷ 108 ∷ 105 ∷ 101 ∷ 110 ∷ 116 ∷ []
+
+-- "plugin"
+abbrev pub pluginWord : List ℕ
+pluginWord = 112 ∷ 108 ∷ 117 ∷ 103 ∷ 105 ∷ 110 ∷ []
+
+abbrev pub endWords : List (List ℕ)
+endWords = clientWord ∷ pluginWord ∷ []
+
+-- the number of the code's answer
+abbrev pub endSaid : End → ℕ
+endSaid end-is.Client = 0
+endSaid end-is.Plugin = 1
+endSaid end-is.Other = 2
+
+-- ---- what an opening says of the screen
+
+-- "screen"
+abbrev pub screenWord : List ℕ
+screenWord = 115 ∷ 99 ∷ 114 ∷ 101 ∷ 101 ∷ 110 ∷ []
+
+-- "no-screen"
+abbrev pub noScreenWord : List ℕ
+noScreenWord = 110 ∷ 111 ∷ 45 ∷ 115 ∷ 99 ∷ 114 ∷ 101 ∷ 101 ∷ 110 ∷ []
+
+-- "default"
+abbrev pub defaultWord : List ℕ
+defaultWord = 100 ∷ 101 ∷ 102 ∷ 97 ∷ 117 ∷ 108 ∷ 116 ∷ []
+
+abbrev pub screenWords : List (List ℕ)
+screenWords = screenWord ∷ noScreenWord ∷ defaultWord ∷ []
+
+-- the number of the code's answer
+abbrev pub screenSaid : Screen → ℕ
+screenSaid screen-is.Shown = 0
+screenSaid screen-is.Missing = 1
+screenSaid screen-is.Default = 2
+screenSaid screen-is.Other = 3
+
+-- ---- a kind that is looked up
+
+-- "recipient"
+abbrev pub recipientWord : List ℕ
+recipientWord = 114 ∷ 101 ∷ 99 ∷ 105 ∷ 112 ∷ 105 ∷ 101 ∷ 110 ∷ 116 ∷ []
+
+-- "identity"
+abbrev pub identityWord : List ℕ
+identityWord = 105 ∷ 100 ∷ 101 ∷ 110 ∷ 116 ∷ 105 ∷ 116 ∷ 121 ∷ []
+
+abbrev pub kindWords : List (List ℕ)
+kindWords = recipientWord ∷ identityWord ∷ []
+
+-- the number of the code's answer
+abbrev pub kindSaid : Kind → ℕ
+kindSaid kind-is.Recipient = 0
+kindSaid kind-is.Identity = 1
+kindSaid kind-is.Other = 2
+
+-- ---- a command that is sent
+
+-- "add-recipient"
+abbrev pub addRecipientWord : List ℕ
+addRecipientWord = 97 ∷ 100 ∷ 100 ∷ 45 ∷ 114 ∷ 101 ∷ 99 ∷ 105 ∷ 112 ∷ 105 ∷ 101 ∷ 110 ∷ 116 ∷ []
+
+-- "add-identity"
+abbrev pub addIdentityWord : List ℕ
+addIdentityWord = 97 ∷ 100 ∷ 100 ∷ 45 ∷ 105 ∷ 100 ∷ 101 ∷ 110 ∷ 116 ∷ 105 ∷ 116 ∷ 121 ∷ []
+
+-- "wrap-file-key"
+abbrev pub wrapFileKeyWord : List ℕ
+wrapFileKeyWord = 119 ∷ 114 ∷ 97 ∷ 112 ∷ 45 ∷ 102 ∷ 105 ∷ 108 ∷ 101 ∷ 45 ∷ 107 ∷ 101 ∷ 121 ∷ []
+
+-- "recipient-stanza"
+abbrev pub recipientStanzaWord : List ℕ
+recipientStanzaWord = 114 ∷ 101 ∷ 99 ∷ 105 ∷ 112 ∷ 105 ∷ 101 ∷ 110 ∷ 116 ∷ 45 ∷ 115 ∷ 116 ∷ 97 ∷ 110 ∷ 122 ∷ 97 ∷ []
+
+-- "done"
+abbrev pub doneWord : List ℕ
+doneWord = 100 ∷ 111 ∷ 110 ∷ 101 ∷ []
+
+abbrev pub commandWords : List (List ℕ)
+commandWords = addRecipientWord ∷ addIdentityWord ∷ wrapFileKeyWord ∷ recipientStanzaWord ∷ doneWord ∷ []
+
+-- the number of the code's answer
+abbrev pub commandSaid : Command → ℕ
+commandSaid command-is.AddRecipient = 0
+commandSaid command-is.AddIdentity = 1
+commandSaid command-is.WrapFileKey = 2
+commandSaid command-is.RecipientStanza = 3
+commandSaid command-is.Done = 4
+commandSaid command-is.Other = 5
