@@ -8,8 +8,8 @@ ghost use Rattle.plugin.specs.Session.{sessionOf};
 ghost use Rattle.judging.specs.Judging.{counted, going, stopped, isDone, turned, behind, start, judgedText, numbersOf};
 ghost use Rattle.judging.specs.Windows.{windowed, Cut};
 ghost use Rattle.judging.specs.Said.{judgedSaid, isDue, lentOf, standingOf, turnSaid};
-use plugin::Answer;
 use plugin::Session;
+use plugin::Taking;
 use session::Tables;
 use session::Word;
 
@@ -97,12 +97,12 @@ fn advance(
     let answer = received.answer;
     let after = received.session;
     match answer {
-        Answer::Refused(r) => Judging {
+        Taking::Refused(r) => Judging {
             session: after,
             progress: Progress::Stopped(count(session.tables, refusal::number(r))),
             taken: at,
         },
-        Answer::Command(word, taken) => {
+        Taking::Command(word, taken) => {
             let next = at + taken;
             if is_done(word) {
                 return Judging {

@@ -2,7 +2,7 @@
 mod receiving;
 mod sessions;
 
-pub use receiving::Answer;
 pub use receiving::Received;
+pub use receiving::Taking;
 pub use sessions::Opening;
 pub use sessions::Session;

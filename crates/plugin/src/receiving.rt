@@ -9,7 +9,7 @@ ghost use Rattle.session.specs.PhaseOne.{buffersOf, tablesOf, verdictSaid};
 ghost use Rattle.stanza.specs.Parts.{argumentsIn, bodyIn};
 ghost use Rattle.conversation.specs.Receiving.{answerOf, received, receivedAs, receivedStanza};
 ghost use Rattle.plugin.specs.Session.{sessionIn, sessionOf};
-ghost use Rattle.plugin.specs.Receiving.{answerSaid, receivedSaid, takenSaid};
+ghost use Rattle.plugin.specs.Receiving.{takingSaid, receivedSaid, takenSaid};
 use crate::sessions::Session;
 use bech32::Name;
 use refusal::Refusal;
@@ -23,30 +23,30 @@ use stanza::First;
 use stanza::Stanza;
 
 // Which command was received and how many bytes of the text it took; or the refusal.
-pub enum Answer {
+pub enum Taking {
     Command(Word, usize),
     Refused(Refusal),
 }
 
 pub struct Received {
-    pub answer: Answer,
+    pub answer: Taking,
     pub session: Session,
 }
 
 // What becomes of the parts of a session that a command changes.
 struct Taken {
-    answer: Answer,
+    answer: Taking,
     phase: Phase,
     tables: Tables,
 }
 
 // The answer to a command that was judged.
-fn answer_to(verdict: Verdict, command: Command, taken: usize) -> Answer
-    ensures { λ r. ⌜ answerSaid r ≡ answerOf (verdictSaid verdict) (commandSaid command) taken ⌝ }
+fn answer_to(verdict: Verdict, command: Command, taken: usize) -> Taking
+    ensures { λ r. ⌜ takingSaid r ≡ answerOf (verdictSaid verdict) (commandSaid command) taken ⌝ }
 {
     match verdict {
-        Verdict::Accepted => Answer::Command(session::word_of(command), taken),
-        Verdict::Refused(r) => Answer::Refused(r),
+        Verdict::Accepted => Taking::Command(session::word_of(command), taken),
+        Verdict::Refused(r) => Taking::Refused(r),
     }
 }
 
@@ -122,7 +122,7 @@ fn receive_text(
             headers,
         ),
         First::Refused(r) => Taken {
-            answer: Answer::Refused(r),
+            answer: Taking::Refused(r),
             phase: session::phase_refused(r),
             tables: tables,
         },
@@ -146,7 +146,7 @@ impl Session {
         let turn = session::turn_one(phase);
         match turn {
             Verdict::Refused(r) => Received {
-                answer: Answer::Refused(r),
+                answer: Taking::Refused(r),
                 session: self,
             },
             Verdict::Accepted => {

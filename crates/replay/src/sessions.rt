@@ -10,7 +10,7 @@ use crate::turns::Turn;
 use crate::words::Words;
 use crate::words::word;
 use client::Sent;
-use plugin::Heard;
+use plugin::Taking;
 use refusal::Written;
 use script::Command;
 use session::Word;
@@ -178,20 +178,20 @@ fn call_plugin(
     };
     let session = host.plugin;
     let received = session.receive(word(text, w, 1), recipients, identities, keys, headers);
-    let heard = received.answer;
+    let taking = received.answer;
     let session = received.session;
     let mut after = host;
     after.plugin = session;
     Turn {
-        answer: answer_heard(heard),
+        answer: answer_taken(taking),
         host: after,
     }
 }
 
 // The answer of a command received.
-fn answer_heard(heard: Heard) -> Answer {
-    match heard {
-        Heard::Command(word, taken) => Answer::Received(word, taken),
-        Heard::Refused(r) => Answer::Refused(r),
+fn answer_taken(taking: Taking) -> Answer {
+    match taking {
+        Taking::Command(word, taken) => Answer::Received(word, taken),
+        Taking::Refused(r) => Answer::Refused(r),
     }
 }

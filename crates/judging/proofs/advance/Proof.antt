@@ -5,7 +5,7 @@ use denote.Ref.{now}
 use Rattle.refusal.specs.Number.{numberOf}
 use Rattle.session.specs.Commands.{wordSaid}
 use Rattle.plugin.specs.Session.{sessionOf}
-use Rattle.plugin.specs.Receiving.{answerSaid}
+use Rattle.plugin.specs.Receiving.{takingSaid}
 use Rattle.judging.specs.Said.{judgedSaid, lentOf}
 use Rattle.judging.proofs.Laws.Steps.{turn-refused, turn-done, turn-on, turn-within}
 use borrow.Author.Needs.{needs}
@@ -43,8 +43,8 @@ add-next : tie.Need-add-next
 add-next c =
     let a = c .before .before .before .before .before .before .before .before .before .before .before .before .before .before .before .before .before .before .before .before .before .args in
     let r = c .before .before .before .before .before .before .before .before .before .before .before .receive in
-    let h = turn-within (sessionOf (a .session)) (sessionOf (r .result .session)) (lentOf (now (a .recipients)) (now (a .identities)) (now (a .keys))) (r .last .1 .1 .0) (r .last .1 .1 .1 .0) (r .last .1 .1 .1 .1 .0) (r .last .1 .1 .1 .1 .1 .0) (now (a .window)) (a .at) (answerSaid (r .result .answer)) (r .kept .1 .1 .1 .1 .1 .0) (r .ensures)
-    (wordSaid (c .before .answer2 .given .0 .0)) (c .before .answer2 .given .0 .1 .0) (ap answerSaid (c .before .answer2 .given .1)) (c .before .before .before .before .before .before .before .before .before .before .before .before .before .before .before .before .before .before .before .before .before .pre) in
+    let h = turn-within (sessionOf (a .session)) (sessionOf (r .result .session)) (lentOf (now (a .recipients)) (now (a .identities)) (now (a .keys))) (r .last .1 .1 .0) (r .last .1 .1 .1 .0) (r .last .1 .1 .1 .1 .0) (r .last .1 .1 .1 .1 .1 .0) (now (a .window)) (a .at) (takingSaid (r .result .answer)) (r .kept .1 .1 .1 .1 .1 .0) (r .ensures)
+    (wordSaid (c .before .answer2 .given .0 .0)) (c .before .answer2 .given .0 .1 .0) (ap takingSaid (c .before .answer2 .given .1)) (c .before .before .before .before .before .before .before .before .before .before .before .before .before .before .before .before .before .before .before .before .before .pre) in
     omega (arith, h, c .before .before .before .before .before .before .before .before .before .before .before .before .before .before .before .before .before .before .before .before .before .good)
 
 is-done-requires : tie.Need-is-done-requires
@@ -66,8 +66,8 @@ returns : tie.Need-returns
 returns c =
     let a = c .before .before .before .before .before .before .before .before .before .before .before .before .before .before .before .before .before .before .before .before .before .before .before .before .args in
     let r = c .before .before .before .before .before .before .before .before .before .before .before .before .before .before .receive in
-    turn-done (sessionOf (a .session)) (sessionOf (r .result .session)) (lentOf (now (a .recipients)) (now (a .identities)) (now (a .keys))) (r .last .1 .1 .0) (r .last .1 .1 .1 .0) (r .last .1 .1 .1 .1 .0) (r .last .1 .1 .1 .1 .1 .0) (now (a .window)) (a .at) (answerSaid (r .result .answer)) (r .kept .1 .1 .1 .1 .1 .0) (r .ensures)
-    (wordSaid (c .before .before .before .before .answer2 .given .0 .0)) (c .before .before .before .before .answer2 .given .0 .1 .0) (c .before .before .is-done .result) (judgedSaid (c .count2 .result)) (ap answerSaid (c .before .before .before .before .answer2 .given .1)) (c .before .before .is-done .ensures) (c .before .if1 .taken) (c .count2 .ensures)
+    turn-done (sessionOf (a .session)) (sessionOf (r .result .session)) (lentOf (now (a .recipients)) (now (a .identities)) (now (a .keys))) (r .last .1 .1 .0) (r .last .1 .1 .1 .0) (r .last .1 .1 .1 .1 .0) (r .last .1 .1 .1 .1 .1 .0) (now (a .window)) (a .at) (takingSaid (r .result .answer)) (r .kept .1 .1 .1 .1 .1 .0) (r .ensures)
+    (wordSaid (c .before .before .before .before .answer2 .given .0 .0)) (c .before .before .before .before .answer2 .given .0 .1 .0) (c .before .before .is-done .result) (judgedSaid (c .count2 .result)) (ap takingSaid (c .before .before .before .before .answer2 .given .1)) (c .before .before .is-done .ensures) (c .before .if1 .taken) (c .count2 .ensures)
 
 same-length-4 : tie.Need-same-length-4
 same-length-4 c = search needs
@@ -82,8 +82,8 @@ returns-2 : tie.Need-returns-2
 returns-2 c =
     let a = c .before .before .before .before .before .before .before .before .before .before .before .before .before .before .before .before .before .before .before .before .before .before .before .args in
     let r = c .before .before .before .before .before .before .before .before .before .before .before .before .before .receive in
-    turn-refused (sessionOf (a .session)) (sessionOf (r .result .session)) (lentOf (now (a .recipients)) (now (a .identities)) (now (a .keys))) (r .last .1 .1 .0) (r .last .1 .1 .1 .0) (r .last .1 .1 .1 .1 .0) (r .last .1 .1 .1 .1 .1 .0) (now (a .window)) (a .at) (answerSaid (r .result .answer)) (r .kept .1 .1 .1 .1 .1 .0) (r .ensures)
-    (numberOf (c .before .before .before .answer .given .0 .0)) (c .before .number .result) (judgedSaid (c .count .result)) (ap answerSaid (c .before .before .before .answer .given .1)) (c .before .number .ensures) (c .count .ensures)
+    turn-refused (sessionOf (a .session)) (sessionOf (r .result .session)) (lentOf (now (a .recipients)) (now (a .identities)) (now (a .keys))) (r .last .1 .1 .0) (r .last .1 .1 .1 .0) (r .last .1 .1 .1 .1 .0) (r .last .1 .1 .1 .1 .1 .0) (now (a .window)) (a .at) (takingSaid (r .result .answer)) (r .kept .1 .1 .1 .1 .1 .0) (r .ensures)
+    (numberOf (c .before .before .before .answer .given .0 .0)) (c .before .number .result) (judgedSaid (c .count .result)) (ap takingSaid (c .before .before .before .answer .given .1)) (c .before .number .ensures) (c .count .ensures)
 
 same-length-7 : tie.Need-same-length-7
 same-length-7 c = search needs
@@ -98,8 +98,8 @@ returns-3 : tie.Need-returns-3
 returns-3 c =
     let a = c .before .before .before .before .before .before .before .before .before .before .before .before .before .before .before .before .before .before .before .before .before .before .before .args in
     let r = c .before .before .before .before .before .before .before .before .before .before .before .before .before .receive in
-    turn-on (sessionOf (a .session)) (sessionOf (r .result .session)) (lentOf (now (a .recipients)) (now (a .identities)) (now (a .keys))) (r .last .1 .1 .0) (r .last .1 .1 .1 .0) (r .last .1 .1 .1 .1 .0) (r .last .1 .1 .1 .1 .1 .0) (now (a .window)) (a .at) (answerSaid (r .result .answer)) (r .kept .1 .1 .1 .1 .1 .0) (r .ensures)
-    (wordSaid (c .before .before .before .answer2 .given .0 .0)) (c .before .before .before .answer2 .given .0 .1 .0) (c .before .is-done .result) (ap answerSaid (c .before .before .before .answer2 .given .1)) (c .before .is-done .ensures) (c .if1 .left)
+    turn-on (sessionOf (a .session)) (sessionOf (r .result .session)) (lentOf (now (a .recipients)) (now (a .identities)) (now (a .keys))) (r .last .1 .1 .0) (r .last .1 .1 .1 .0) (r .last .1 .1 .1 .1 .0) (r .last .1 .1 .1 .1 .1 .0) (now (a .window)) (a .at) (takingSaid (r .result .answer)) (r .kept .1 .1 .1 .1 .1 .0) (r .ensures)
+    (wordSaid (c .before .before .before .answer2 .given .0 .0)) (c .before .before .before .answer2 .given .0 .1 .0) (c .before .is-done .result) (ap takingSaid (c .before .before .before .answer2 .given .1)) (c .before .is-done .ensures) (c .if1 .left)
 
 pub advance-spec : {M : Type 1} → statement M
 advance-spec =

@@ -11,7 +11,7 @@ use Rattle.session.specs.Commands.{commandSaid}
 use Rattle.session.specs.Opening.{nameOf}
 use Rattle.session.specs.PhaseOne.{tablesOf, buffersOf, verdictSaid}
 use Rattle.conversation.proofs.Laws.Receiving.{received-from}
-use Rattle.plugin.specs.Receiving.{answerSaid}
+use Rattle.plugin.specs.Receiving.{takingSaid}
 use borrow.Author.Needs.{needs}
 use Rattle.plugin.proofs.receiving.receive_stanza.Statement.{statement}
 use Rattle.plugin.proofs.receiving.receive_stanza.Tie as tie
@@ -90,7 +90,7 @@ returns c =
     let body : now (c .before .before .before .before .before .before .before .before .before .before .before .before .before .before .before .before .name-text2 .result) ≡ bodyIn text (a .s) = c .before .before .before .before .before .before .before .before .before .before .before .before .before .before .before .before .name-text2 .ensures ∙ c .before .before .before .before .before .before .before .before .before .before .before .before .before .before .before .before .before .before .before .before .before .before .decode .ensures .1 ∙ body-whole text (a .s) 6144 long in
     received-from (a .machine) (nameOf (a .name)) false (tablesOf (a .tables)) (buffersOf (now (a .recipients)) (now (a .identities)) (now (a .keys)) (now (a .headers))) (argumentsIn text (a .s)) (bodyIn text (a .s)) (a .s .taken)
     (now (c .before .before .before .before .before .before .before .before .before .before .before .before .before .before .before .before .before .before .name-text .result)) (now (c .before .before .before .before .before .before .before .before .before .before .before .before .before .before .before .before .before .before .before .before .before .before .before .before .arguments-of .result)) (now (c .before .before .before .before .before .before .before .before .before .before .before .before .before .before .before .before .name-text2 .result))
-    (verdictSaid (c .before .before .before .before .before .before .before .before .before .before .before .step-one .result .verdict)) (commandSaid (c .before .before .before .before .before .before .before .before .before .before .before .step-one .result .command)) (answerSaid (c .before .answer-to .result)) (c .phase-received .result) (tablesOf (c .before .before .before .before .before .before .before .before .before .before .before .step-one .result .tables)) _
+    (verdictSaid (c .before .before .before .before .before .before .before .before .before .before .before .step-one .result .verdict)) (commandSaid (c .before .before .before .before .before .before .before .before .before .before .before .step-one .result .command)) (takingSaid (c .before .answer-to .result)) (c .phase-received .result) (tablesOf (c .before .before .before .before .before .before .before .before .before .before .before .step-one .result .tables)) _
     (c .before .before .before .before .before .before .before .before .before .before .before .before .before .before .before .before .before .before .name-text .ensures) (c .before .before .before .before .before .before .before .before .before .before .before .before .before .before .before .before .before .before .before .before .before .before .before .before .arguments-of .ensures) body (e .1 .0) (e .0) (c .before .answer-to .ensures) (c .phase-received .ensures) (e .1 .1 .0) (buffers-are _ _ _ _ _ (e .1 .1 .1))
 
 pub receive-stanza-spec : {M : Type 1} → statement M
