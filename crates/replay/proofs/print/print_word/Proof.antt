@@ -1,11 +1,16 @@
--- `print_word` is safe and ends: each turn passes at least one byte.
 use Prim.Native.Nat.{_-_, _≤_}
 use mathlib.Core.Path.{_≡_}
 use lib.ListN.{length}
 use borrow.Author.Needs.{needs}
 use Rattle.replay.proofs.print.print_word.Statement.{statement}
 use Rattle.replay.proofs.print.print_word.Tie as tie
+use Rattle.replay.proofs.print.print_word.Reads as reads
+use Rattle.replay.proofs.print.print_word.Lts as lts
+use Rattle.replay.proofs.parts.least.Reads as least-reads
+use Rattle.replay.proofs.print.print_bytes.Reads as print-bytes-reads
+use Rattle.replay.proofs.print.print_piece.Reads as print-piece-reads
 
+-- `print_word` is safe and ends: each turn passes at least one byte.
 abbrev Inv-loop : tie.InvT-loop
 Inv-loop bytes out₀ at next₀ i₀ out next i = (i ≤ length bytes) × (length out ≡ length out₀)
 
@@ -23,6 +28,14 @@ same-length c = search needs
 
 returns : tie.Need-returns Inv-loop μ-loop
 returns c = search needs
+
+-- src/print.rt:64:32
+slice-aggregate-print-bytes-2 : tie.Need-slice-aggregate-print-bytes-2 Inv-loop μ-loop
+slice-aggregate-print-bytes-2 c = search needs
+
+-- src/print.rt:64:9
+print-bytes-requires-2 : tie.Need-print-bytes-requires-2 Inv-loop μ-loop
+print-bytes-requires-2 c κs = search needs
 
 loop-holds : tie.Need-loop-holds Inv-loop μ-loop
 loop-holds c = search needs
@@ -70,6 +83,8 @@ print-word-spec =
     print-bytes-requires
     same-length
     returns
+    slice-aggregate-print-bytes-2
+    print-bytes-requires-2
     loop-holds
     sub-least
     least-requires
