@@ -49,15 +49,15 @@ fn main() {
 // Reads to the end of the input. A proved loop has to end, and nothing says that the input does, so the turns are counted down from a
 // number that no run uses up.
 fn run(
-    chunk: &mut [u8],
-    line: &mut [u8],
-    text: &mut [u8],
-    buffer: &mut [u8],
-    out: &mut [u8],
-    recipients: &mut [u8],
-    identities: &mut [u8],
-    keys: &mut [u8],
-    headers: &mut [u8],
+    chunk: &mut [u8; 65536],
+    line: &mut [u8; 65537],
+    text: &mut [u8; 65536],
+    buffer: &mut [u8; 65536],
+    out: &mut [u8; 131072],
+    recipients: &mut [u8; 65536],
+    identities: &mut [u8; 65536],
+    keys: &mut [u8; 65536],
+    headers: &mut [u8; 65536],
 ) {
     let mut s = start();
     let mut host = no_session();

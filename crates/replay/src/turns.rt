@@ -29,10 +29,10 @@ pub fn make_call(
     out: &mut [u8],
     at: usize,
     host: Host,
-    recipients: &mut [u8],
-    identities: &mut [u8],
-    keys: &mut [u8],
-    headers: &mut [u8],
+    recipients: &mut [u8; 65536],
+    identities: &mut [u8; 65536],
+    keys: &mut [u8; 65536],
+    headers: &mut [u8; 65536],
 ) -> Turn {
     let call = w.call;
     let end = host.end;
@@ -71,10 +71,10 @@ fn call_set(
     text: &[u8],
     w: Words,
     host: Host,
-    recipients: &mut [u8],
-    identities: &mut [u8],
-    keys: &mut [u8],
-    headers: &mut [u8],
+    recipients: &mut [u8; 65536],
+    identities: &mut [u8; 65536],
+    keys: &mut [u8; 65536],
+    headers: &mut [u8; 65536],
 ) -> Turn {
     let s = set(call, text, w, host);
     let kept = s.kept;
