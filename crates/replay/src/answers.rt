@@ -1,5 +1,6 @@
 // What a line came to, and the line that is printed for it.
 use crate::parts::front;
+use crate::print::Output;
 use crate::print::print_bytes;
 use crate::print::print_end;
 use crate::print::print_number;
@@ -46,7 +47,7 @@ pub fn print_answer(
     skipped: bool,
     number: u64,
     buffer: &[u8],
-    out: &mut [u8],
+    out: &mut Output,
     at: usize,
 ) -> usize {
     if skipped {
@@ -67,21 +68,21 @@ pub fn print_answer(
 }
 
 // Some words and a number.
-fn print_numbered(words: &[u8], number: u64, out: &mut [u8], at: usize) -> usize {
+fn print_numbered(words: &[u8], number: u64, out: &mut Output, at: usize) -> usize {
     let a = print_bytes(words, out, at);
     let b = print_number(number, out, a);
     print_end(out, b)
 }
 
 // A byte string.
-pub fn print_text(bytes: &[u8], out: &mut [u8], at: usize) -> usize {
+pub fn print_text(bytes: &[u8], out: &mut Output, at: usize) -> usize {
     let a = print_ok(out, at);
     let b = print_word(bytes, out, a);
     print_end(out, b)
 }
 
 // A command that was received; in phase one nothing is answered at once.
-fn print_received(word: Word, taken: u64, out: &mut [u8], at: usize) -> usize {
+fn print_received(word: Word, taken: u64, out: &mut Output, at: usize) -> usize {
     let a = print_ok(out, at);
     let b = print_number(taken, out, a);
     let c = print_word(stanza::argument(&COMMANDS, place_of(word)), out, b);
@@ -101,7 +102,7 @@ fn place_of(word: Word) -> usize {
 }
 
 // The judging program's verdict.
-fn print_judged(judged: Judged, out: &mut [u8], at: usize) -> usize {
+fn print_judged(judged: Judged, out: &mut Output, at: usize) -> usize {
     let a = print_ok(out, at);
     let b = print_number(judged.recipients as u64, out, a);
     let c = print_number(judged.identities as u64, out, b);

@@ -2,6 +2,7 @@
 use crate::answers::Answer;
 use crate::answers::answer_of;
 use crate::parts::front;
+use crate::print::Output;
 use crate::print::print_number;
 use crate::print::print_ok;
 use crate::print::print_words;
@@ -24,7 +25,7 @@ pub fn call_plain(
     text: &[u8],
     w: Words,
     buffer: &mut [u8],
-    out: &mut [u8],
+    out: &mut Output,
     at: usize,
 ) -> Answer {
     match call {
@@ -43,7 +44,7 @@ fn with_buffer(
     text: &[u8],
     w: Words,
     buffer: &mut [u8],
-    out: &mut [u8],
+    out: &mut Output,
     at: usize,
 ) -> Answer {
     let length = script::read_number(last_word(text, w), buffer.len() as u64);
@@ -60,7 +61,7 @@ fn call_buffered(
     text: &[u8],
     w: Words,
     buffer: &mut [u8],
-    out: &mut [u8],
+    out: &mut Output,
     at: usize,
 ) -> Answer {
     match call {
@@ -74,7 +75,7 @@ fn call_buffered(
 }
 
 // stanza TEXT
-fn call_stanza(text: &[u8], w: Words, buffer: &mut [u8], out: &mut [u8], at: usize) -> Answer {
+fn call_stanza(text: &[u8], w: Words, buffer: &mut [u8], out: &mut Output, at: usize) -> Answer {
     if w.count != 2 {
         return Answer::Bad;
     }
@@ -87,7 +88,7 @@ fn call_stanza(text: &[u8], w: Words, buffer: &mut [u8], out: &mut [u8], at: usi
 }
 
 // The line of a stanza that was read.
-fn print_stanza(text: &[u8], s: Stanza, buffer: &mut [u8], out: &mut [u8], at: usize) -> Answer {
+fn print_stanza(text: &[u8], s: Stanza, buffer: &mut [u8], out: &mut Output, at: usize) -> Answer {
     let body = stanza::body_of(text, s, buffer);
     match body {
         Written::Bytes(n) => {
@@ -167,7 +168,7 @@ fn call_read(
     text: &[u8],
     w: Words,
     buffer: &mut [u8],
-    out: &mut [u8],
+    out: &mut Output,
     at: usize,
 ) -> Answer {
     if w.count != 3 {
@@ -178,7 +179,7 @@ fn call_read(
 }
 
 // The line of a recipient or an identity, whose payload is at the front of the buffer.
-fn print_reading(reading: Reading, buffer: &[u8], out: &mut [u8], at: usize) -> Answer {
+fn print_reading(reading: Reading, buffer: &[u8], out: &mut Output, at: usize) -> Answer {
     let answer = reading.answer;
     let name = reading.name;
     let bytes = name.bytes;

@@ -18,6 +18,7 @@ use host::no_session;
 use lines::advance;
 use lines::start;
 use parts::front;
+use print::Output;
 use print::flush;
 use turns::make_call;
 use words::read_line;
@@ -53,7 +54,7 @@ fn run(
     line: &mut [u8; 65537],
     text: &mut [u8; 65536],
     buffer: &mut [u8; 65536],
-    out: &mut [u8; 131072],
+    out: &mut Output,
     recipients: &mut [u8; 65536],
     identities: &mut [u8; 65536],
     keys: &mut [u8; 65536],

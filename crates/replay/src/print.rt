@@ -9,6 +9,9 @@ use libc::STDERR_FILENO;
 use libc::STDOUT_FILENO;
 use refusal::Written;
 
+// The output buffer.
+pub type Output = [u8; 131072];
+
 // A byte string is printed in pieces of this many bytes, each of which is printed by at most four.
 const PIECE: usize = 16384;
 
@@ -33,13 +36,13 @@ fn make_space(out: &[u8], at: usize, n: usize) -> usize
 }
 
 // Some bytes as they are.
-pub fn print_bytes(bytes: &[u8], out: &mut [u8], at: usize) -> usize {
+pub fn print_bytes(bytes: &[u8], out: &mut Output, at: usize) -> usize {
     let from = make_space(out, at, bytes.len());
     append(bytes, out, from)
 }
 
 // A space and a number in decimal.
-pub fn print_number(n: u64, out: &mut [u8], at: usize) -> usize {
+pub fn print_number(n: u64, out: &mut Output, at: usize) -> usize {
     let mut text = [0u8; 20];
     let k = io::decimal(n, &mut text);
     let next = print_bytes(b" ", out, at);
@@ -57,7 +60,7 @@ fn print_piece(piece: &[u8], out: &mut [u8], at: usize) -> usize {
 }
 
 // A space and a byte string as a word.
-pub fn print_word(bytes: &[u8], out: &mut [u8], at: usize) -> usize {
+pub fn print_word(bytes: &[u8], out: &mut Output, at: usize) -> usize {
     if bytes.len() == 0 {
         return print_bytes(b" \\e", out, at);
     }
@@ -73,17 +76,17 @@ pub fn print_word(bytes: &[u8], out: &mut [u8], at: usize) -> usize {
 }
 
 // "ok".
-pub fn print_ok(out: &mut [u8], at: usize) -> usize {
+pub fn print_ok(out: &mut Output, at: usize) -> usize {
     print_bytes(b"ok", out, at)
 }
 
 // The end of a line.
-pub fn print_end(out: &mut [u8], at: usize) -> usize {
+pub fn print_end(out: &mut Output, at: usize) -> usize {
     print_bytes(b"\n", out, at)
 }
 
 // The last two words of a line.
-pub fn print_words(first: &[u8], second: &[u8], out: &mut [u8], at: usize) -> usize {
+pub fn print_words(first: &[u8], second: &[u8], out: &mut Output, at: usize) -> usize {
     let a = print_word(first, out, at);
     let b = print_word(second, out, a);
     print_end(out, b)

@@ -1,6 +1,7 @@
 // What the lines `entry` and `show` print: texts and tables as the buffers lent now show them.
 use crate::answers::print_text;
 use crate::parts::least;
+use crate::print::Output;
 use crate::print::print_bytes;
 use crate::print::print_end;
 use crate::print::print_number;
@@ -34,7 +35,7 @@ pub fn print_look<'a>(
     identities: &'a [u8],
     keys: &[u8],
     headers: &[u8],
-    out: &mut [u8],
+    out: &mut Output,
     at: usize,
 ) -> usize {
     let tables = session.tables;
@@ -49,7 +50,7 @@ pub fn print_look<'a>(
 }
 
 // The lines of the phase, and of what is awaited: nothing in phase one.
-fn print_phase(phase: Phase, out: &mut [u8], at: usize) -> usize {
+fn print_phase(phase: Phase, out: &mut Output, at: usize) -> usize {
     let a = print_bytes(b"phase", out, at);
     let b = print_word(stanza::argument(&PHASES, place_of(phase)), out, a);
     print_bytes(b"\nawaits -\n", out, b)
@@ -72,7 +73,7 @@ fn print_tables(
     identities: &[u8],
     keys: &[u8],
     headers: &[u8],
-    out: &mut [u8],
+    out: &mut Output,
     at: usize,
 ) -> usize {
     let a = print_table(0, tables.recipients, recipients, out, at);
@@ -83,7 +84,7 @@ fn print_tables(
 }
 
 // The entries of a table of 64 slots.
-fn print_table(kind: usize, table: Table64, buffer: &[u8], out: &mut [u8], at: usize) -> usize {
+fn print_table(kind: usize, table: Table64, buffer: &[u8], out: &mut Output, at: usize) -> usize {
     let mut next = at;
     let mut n: usize = 0;
     while n < 64 {
@@ -102,7 +103,7 @@ fn print_table(kind: usize, table: Table64, buffer: &[u8], out: &mut [u8], at: u
 }
 
 // The header stanzas.
-fn print_headers(table: Table256, buffer: &[u8], out: &mut [u8], at: usize) -> usize {
+fn print_headers(table: Table256, buffer: &[u8], out: &mut Output, at: usize) -> usize {
     let mut next = at;
     let mut n: usize = 0;
     while n < 256 {
@@ -121,7 +122,7 @@ fn print_headers(table: Table256, buffer: &[u8], out: &mut [u8], at: usize) -> u
 }
 
 // The line of an entry: its kind and number, the index of a header stanza, its payload, and its mark.
-fn print_slot(kind: usize, n: usize, e: Entry, payload: &[u8], out: &mut [u8], at: usize) -> usize {
+fn print_slot(kind: usize, n: usize, e: Entry, payload: &[u8], out: &mut Output, at: usize) -> usize {
     let a = print_bytes(stanza::argument(&KINDS, kind), out, at);
     let b = print_number(n as u64, out, a);
     let c = print_index(kind, e.index, out, b);
@@ -131,7 +132,7 @@ fn print_slot(kind: usize, n: usize, e: Entry, payload: &[u8], out: &mut [u8], a
 }
 
 // The index of a header stanza.
-fn print_index(kind: usize, index: usize, out: &mut [u8], at: usize) -> usize {
+fn print_index(kind: usize, index: usize, out: &mut Output, at: usize) -> usize {
     if kind == HEADER {
         return print_number(index as u64, out, at);
     }
@@ -139,7 +140,7 @@ fn print_index(kind: usize, index: usize, out: &mut [u8], at: usize) -> usize {
 }
 
 // The mark of an entry, if its kind has marks.
-fn print_mark(kind: usize, mark: u8, out: &mut [u8], at: usize) -> usize {
+fn print_mark(kind: usize, mark: u8, out: &mut Output, at: usize) -> usize {
     if kind == FILE_KEY {
         return at;
     }

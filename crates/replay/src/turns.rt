@@ -5,6 +5,7 @@ use crate::host::Host;
 use crate::parts::clear;
 use crate::parts::front;
 use crate::parts::least;
+use crate::print::Output;
 use crate::requests::Look;
 use crate::requests::Request;
 use crate::requests::Talk;
@@ -26,7 +27,7 @@ pub fn make_call(
     w: Words,
     text: &[u8],
     buffer: &mut [u8],
-    out: &mut [u8],
+    out: &mut Output,
     at: usize,
     host: Host,
     recipients: &mut [u8; 65536],
@@ -136,7 +137,7 @@ fn call_look<'a>(
     identities: &'a [u8],
     keys: &[u8],
     headers: &[u8],
-    out: &mut [u8],
+    out: &mut Output,
     at: usize,
 ) -> Answer {
     let lengths = host.lengths;

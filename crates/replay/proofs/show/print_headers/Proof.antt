@@ -1,12 +1,15 @@
 use Prim.Native.Nat.{_-_, _≤_}
-use mathlib.Core.Path.{_≡_}
-use lib.ListN.{length}
 use borrow.Author.Needs.{needs}
 use Rattle.replay.proofs.show.print_headers.Statement.{statement}
 use Rattle.replay.proofs.show.print_headers.Tie as tie
+use Rattle.replay.proofs.show.print_headers.Reads as reads
+use Rattle.replay.proofs.show.print_headers.Lts as lts
+use Rattle.replay.proofs.show.print_slot.Reads as print-slot-reads
+use Rattle.tables.proofs.tables.Table256.find.Reads as find-reads
+use Rattle.tables.proofs.payload.Reads as payload-reads
 
 abbrev Inv-loop : tie.InvT-loop
-Inv-loop table buffer out₀ at next₀ n₀ out next n = (n ≤ 256) × (length out ≡ length out₀)
+Inv-loop table buffer out₀ at next₀ n₀ out next n = n ≤ 256
 
 abbrev μ-loop : tie.MeasureT-loop
 μ-loop table buffer out₀ at next₀ n₀ out next n = 256 - n
@@ -19,9 +22,6 @@ find-requires c κs = search needs
 
 enum-told : tie.Need-enum-told Inv-loop μ-loop
 enum-told c = search needs
-
-same-length : tie.Need-same-length Inv-loop μ-loop
-same-length c = search needs
 
 returns : tie.Need-returns Inv-loop μ-loop
 returns c = search needs
@@ -44,9 +44,6 @@ loop-less c = search needs
 loop-again : tie.Need-loop-again Inv-loop μ-loop
 loop-again c = search needs
 
-same-length-2 : tie.Need-same-length-2 Inv-loop μ-loop
-same-length-2 c = search needs
-
 returns-2 : tie.Need-returns-2 Inv-loop μ-loop
 returns-2 c = search needs
 
@@ -59,7 +56,6 @@ print-headers-spec =
     loop-holds
     find-requires
     enum-told
-    same-length
     returns
     enum-known-found
     payload-requires
@@ -67,5 +63,4 @@ print-headers-spec =
     add-n
     loop-less
     loop-again
-    same-length-2
     returns-2)
