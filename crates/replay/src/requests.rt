@@ -1,5 +1,4 @@
 // What a line asks for. The words of a line that calls a session are judged before any session is looked at.
-use crate::answers::Answer;
 use crate::host::End;
 use crate::words::Words;
 use crate::words::last_word;
@@ -12,13 +11,14 @@ use script::Number;
 const LONGEST: u64 = 65536;
 
 // A call that needs no session; one that opens a session or sets the lengths of its buffers; one that talks to the open session, or looks
-// at it; or the answer where there is no call to make.
+// at it; one for which no session is open; or no call.
 pub enum Request {
     Plain,
     Setting,
     Talk(Talk),
     Look(Look),
-    Answered(Answer),
+    Unopened,
+    Bad,
 }
 
 // The session sends or receives, lent an output buffer of some length.
@@ -57,23 +57,23 @@ fn read_out(count: usize, text: &[u8], w: Words) -> Number {
 // send COMMAND ARGS BODY OUT; the plugin end does not send yet.
 fn send_at(end: End, out: Number) -> Request {
     let Number::Value(n) = out else {
-        return Request::Answered(Answer::Bad);
+        return Request::Bad;
     };
     match end {
-        End::Nothing => Request::Answered(Answer::Unopened),
+        End::Nothing => Request::Unopened,
         End::Client => Request::Talk(Talk::Send(n as usize)),
-        End::Plugin => Request::Answered(Answer::Bad),
+        End::Plugin => Request::Bad,
     }
 }
 
 // receive TEXT OUT; the client end does not receive yet.
 fn receive_at(end: End, out: Number) -> Request {
     let Number::Value(n) = out else {
-        return Request::Answered(Answer::Bad);
+        return Request::Bad;
     };
     match end {
-        End::Nothing => Request::Answered(Answer::Unopened),
-        End::Client => Request::Answered(Answer::Bad),
+        End::Nothing => Request::Unopened,
+        End::Client => Request::Bad,
         End::Plugin => Request::Talk(Talk::Receive(n as usize)),
     }
 }
@@ -81,24 +81,24 @@ fn receive_at(end: End, out: Number) -> Request {
 // entry recipient N, entry identity N
 fn read_entry(text: &[u8], w: Words) -> Request {
     if w.count != 3 {
-        return Request::Answered(Answer::Bad);
+        return Request::Bad;
     }
     let number = script::read_number(last_word(text, w), u64::MAX);
     let Number::Value(n) = number else {
-        return Request::Answered(Answer::Bad);
+        return Request::Bad;
     };
     let kind = script::choose_kind(word(text, w, 1));
     match kind {
         script::Kind::Recipient => Request::Look(Look::Entry(Kind::Recipient, n as usize)),
         script::Kind::Identity => Request::Look(Look::Entry(Kind::Identity, n as usize)),
-        script::Kind::Other => Request::Answered(Answer::Bad),
+        script::Kind::Other => Request::Bad,
     }
 }
 
 // show
 fn read_show(w: Words) -> Request {
     if w.count != 1 {
-        return Request::Answered(Answer::Bad);
+        return Request::Bad;
     }
     Request::Look(Look::Show)
 }
@@ -109,7 +109,7 @@ fn look_at(end: End, request: Request) -> Request {
         return request;
     };
     match end {
-        End::Nothing => Request::Answered(Answer::Unopened),
+        End::Nothing => Request::Unopened,
         _ => Request::Look(look),
     }
 }

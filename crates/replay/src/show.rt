@@ -122,7 +122,14 @@ fn print_headers(table: Table256, buffer: &[u8], out: &mut Output, at: usize) ->
 }
 
 // The line of an entry: its kind and number, the index of a header stanza, its payload, and its mark.
-fn print_slot(kind: usize, n: usize, e: Entry, payload: &[u8], out: &mut Output, at: usize) -> usize {
+fn print_slot(
+    kind: usize,
+    n: usize,
+    e: Entry,
+    payload: &[u8],
+    out: &mut Output,
+    at: usize,
+) -> usize {
     let a = print_bytes(stanza::argument(&KINDS, kind), out, at);
     let b = print_number(n as u64, out, a);
     let c = print_index(kind, e.index, out, b);

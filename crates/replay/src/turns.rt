@@ -59,8 +59,12 @@ pub fn make_call(
             answer: call_look(l, host, recipients, identities, keys, headers, out, at),
             host: host,
         },
-        Request::Answered(answer) => Turn {
-            answer: answer,
+        Request::Unopened => Turn {
+            answer: Answer::Unopened,
+            host: host,
+        },
+        Request::Bad => Turn {
+            answer: Answer::Bad,
             host: host,
         },
     }
