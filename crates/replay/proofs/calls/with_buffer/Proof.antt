@@ -1,3 +1,4 @@
+-- `with_buffer` is safe: the number that was read is at most the buffer's length.
 use native.Mathlib.Omega.{arith}
 use lib.ListN.{length, length-take}
 use denote.Ref.{now}
@@ -5,11 +6,6 @@ use Rattle.replay.proofs.Laws.{number-below}
 use borrow.Author.Needs.{needs}
 use Rattle.replay.proofs.calls.with_buffer.Statement.{statement}
 use Rattle.replay.proofs.calls.with_buffer.Tie as tie
-use Rattle.replay.proofs.calls.with_buffer.Reads as reads
-use Rattle.replay.proofs.calls.with_buffer.Lts as lts
-use Rattle.replay.proofs.calls.call_buffered.Reads as call-buffered-reads
-use Rattle.replay.proofs.words.last_word.Reads as last-word-reads
-use Rattle.script.proofs.read_number.Reads as read-number-reads
 
 -- `with_buffer` is safe: the number that was read is at most the buffer's length.
 last-word-requires : tie.Need-last-word-requires

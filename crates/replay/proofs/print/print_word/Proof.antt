@@ -1,14 +1,9 @@
+-- `print_word` is safe and ends: each turn passes at least one byte.
 use Prim.Native.Nat.{_-_, _≤_}
-use mathlib.Core.Path.{_≡_}
 use lib.ListN.{length}
 use borrow.Author.Needs.{needs}
 use Rattle.replay.proofs.print.print_word.Statement.{statement}
 use Rattle.replay.proofs.print.print_word.Tie as tie
-use Rattle.replay.proofs.print.print_word.Reads as reads
-use Rattle.replay.proofs.print.print_word.Lts as lts
-use Rattle.replay.proofs.parts.least.Reads as least-reads
-use Rattle.replay.proofs.print.print_bytes.Reads as print-bytes-reads
-use Rattle.replay.proofs.print.print_piece.Reads as print-piece-reads
 
 -- `print_word` is safe and ends: each turn passes at least one byte.
 abbrev Inv-loop : tie.InvT-loop
@@ -26,11 +21,9 @@ print-bytes-requires c κs = search needs
 returns : tie.Need-returns Inv-loop μ-loop
 returns c = search needs
 
--- src/print.rt:64:32
 slice-aggregate-print-bytes-2 : tie.Need-slice-aggregate-print-bytes-2 Inv-loop μ-loop
 slice-aggregate-print-bytes-2 c = search needs
 
--- src/print.rt:64:9
 print-bytes-requires-2 : tie.Need-print-bytes-requires-2 Inv-loop μ-loop
 print-bytes-requires-2 c κs = search needs
 

@@ -1,12 +1,8 @@
+-- `print_headers` is safe and ends: n is at most the number of slots.
 use Prim.Native.Nat.{_-_, _≤_}
 use borrow.Author.Needs.{needs}
 use Rattle.replay.proofs.show.print_headers.Statement.{statement}
 use Rattle.replay.proofs.show.print_headers.Tie as tie
-use Rattle.replay.proofs.show.print_headers.Reads as reads
-use Rattle.replay.proofs.show.print_headers.Lts as lts
-use Rattle.replay.proofs.show.print_slot.Reads as print-slot-reads
-use Rattle.tables.proofs.tables.Table256.find.Reads as find-reads
-use Rattle.tables.proofs.payload.Reads as payload-reads
 
 abbrev Inv-loop : tie.InvT-loop
 Inv-loop table buffer out₀ at next₀ n₀ out next n = n ≤ 256

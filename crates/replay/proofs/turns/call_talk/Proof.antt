@@ -4,100 +4,73 @@ use lib.ListN.{length-take}
 use borrow.Author.Needs.{needs}
 use Rattle.replay.proofs.turns.call_talk.Statement.{statement}
 use Rattle.replay.proofs.turns.call_talk.Tie as tie
-use Rattle.replay.proofs.turns.call_talk.Reads as reads
-use Rattle.replay.proofs.turns.call_talk.Lts as lts
-use Rattle.replay.proofs.parts.least.Reads as least-reads
-use Rattle.replay.proofs.sessions.talk.Reads as talk-reads
 
--- src/turns.rt:98:19
 array-read-least : tie.Need-array-read-least
 array-read-least c = search needs
 
--- src/turns.rt:98:9
 least-requires : tie.Need-least-requires
 least-requires c κs = search needs
 
--- src/turns.rt:99:19
 array-read-least-2 : tie.Need-array-read-least-2
 array-read-least-2 c = search needs
 
--- src/turns.rt:99:9
 least-requires-2 : tie.Need-least-requires-2
 least-requires-2 c κs = search needs
 
--- src/turns.rt:100:19
 array-read-least-3 : tie.Need-array-read-least-3
 array-read-least-3 c = search needs
 
--- src/turns.rt:100:9
 least-requires-3 : tie.Need-least-requires-3
 least-requires-3 c κs = search needs
 
--- src/turns.rt:101:19
 array-read-least-4 : tie.Need-array-read-least-4
 array-read-least-4 c = search needs
 
--- src/turns.rt:101:9
 least-requires-4 : tie.Need-least-requires-4
 least-requires-4 c κs = search needs
 
--- src/turns.rt:108:9
 slice-relend-prefix-talk : tie.Need-slice-relend-prefix-talk
 slice-relend-prefix-talk c = search needs
 
--- src/turns.rt:108:9
 slice-aggregate-talk : tie.Need-slice-aggregate-talk
 slice-aggregate-talk c = simp length-take (omega arith)
 
--- src/turns.rt:109:9
 slice-relend-prefix-talk-2 : tie.Need-slice-relend-prefix-talk-2
 slice-relend-prefix-talk-2 c = search needs
 
--- src/turns.rt:109:9
 slice-aggregate-talk-2 : tie.Need-slice-aggregate-talk-2
 slice-aggregate-talk-2 c = simp length-take (omega arith)
 
--- src/turns.rt:110:9
 slice-relend-prefix-talk-3 : tie.Need-slice-relend-prefix-talk-3
 slice-relend-prefix-talk-3 c = search needs
 
--- src/turns.rt:110:9
 slice-aggregate-talk-3 : tie.Need-slice-aggregate-talk-3
 slice-aggregate-talk-3 c = simp length-take (omega arith)
 
--- src/turns.rt:111:9
 slice-relend-prefix-talk-4 : tie.Need-slice-relend-prefix-talk-4
 slice-relend-prefix-talk-4 c = search needs
 
--- src/turns.rt:111:9
 slice-aggregate-talk-4 : tie.Need-slice-aggregate-talk-4
 slice-aggregate-talk-4 c = simp length-take (omega arith)
 
--- src/turns.rt:102:9
 talk-requires : tie.Need-talk-requires
 talk-requires c κs = search needs
 
--- src/turns.rt:86:1
 same-length : tie.Need-same-length
 same-length c = search needs
 
--- src/turns.rt:86:1
 same-length-2 : tie.Need-same-length-2
 same-length-2 c = search needs
 
--- src/turns.rt:86:1
 same-length-3 : tie.Need-same-length-3
 same-length-3 c = search needs
 
--- src/turns.rt:86:1
 same-length-4 : tie.Need-same-length-4
 same-length-4 c = search needs
 
--- src/turns.rt:86:1
 same-length-5 : tie.Need-same-length-5
 same-length-5 c = search needs
 
--- src/turns.rt:86:1
 returns : tie.Need-returns
 returns c = search needs
 
