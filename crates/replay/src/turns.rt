@@ -2,6 +2,7 @@
 use crate::answers::Answer;
 use crate::calls::call_plain;
 use crate::host::Host;
+use crate::parts::Buffer;
 use crate::parts::clear;
 use crate::parts::front;
 use crate::parts::least;
@@ -30,10 +31,10 @@ pub fn make_call(
     out: &mut Output,
     at: usize,
     host: Host,
-    recipients: &mut [u8; 65536],
-    identities: &mut [u8; 65536],
-    keys: &mut [u8; 65536],
-    headers: &mut [u8; 65536],
+    recipients: &mut Buffer,
+    identities: &mut Buffer,
+    keys: &mut Buffer,
+    headers: &mut Buffer,
 ) -> Turn {
     let call = w.call;
     let end = host.end;
@@ -76,10 +77,10 @@ fn call_set(
     text: &[u8],
     w: Words,
     host: Host,
-    recipients: &mut [u8; 65536],
-    identities: &mut [u8; 65536],
-    keys: &mut [u8; 65536],
-    headers: &mut [u8; 65536],
+    recipients: &mut Buffer,
+    identities: &mut Buffer,
+    keys: &mut Buffer,
+    headers: &mut Buffer,
 ) -> Turn {
     let s = set(call, text, w, host);
     let kept = s.kept;
