@@ -1,6 +1,5 @@
 // What is open: a session of either end or none, and the lengths of the buffers that each call of it is lent.
-use session::Phase;
-use session::Tables;
+use client::Session;
 
 // Which end is open.
 pub enum End {
@@ -9,56 +8,51 @@ pub enum End {
     Plugin,
 }
 
-// The session of the end that is open, and any other of the other end. The lengths are those of the recipients', identities', file keys',
-// header stanzas', errors', returned stanzas' and returned keys' buffers; a buffer's bytes behind its length are zeros.
+// The session is kept as one of the client end; one of the plugin end has the same parts but for the screen. The lengths are those of the
+// recipients', identities', file keys', header stanzas', errors', returned stanzas' and returned keys' buffers; behind its length a buffer
+// has zeros.
 pub struct Host {
     pub end: End,
     pub lengths: [usize; 7],
-    pub client: client::Session,
-    pub plugin: plugin::Session,
+    pub session: Session,
 }
 
-// What a session shows of itself.
-pub struct View {
-    pub phase: Phase,
-    pub tables: Tables,
-}
-
-// Nothing is open; refused openings have left closed sessions.
+// Nothing is open; a refused opening left a closed session.
 pub fn no_session() -> Host {
-    let c = client::Session::open(b"", b"");
-    let p = plugin::Session::open(b"", b"");
-    let client = c.session;
-    let plugin = p.session;
+    let opening = Session::open(b"", b"");
+    let session = opening.session;
     Host {
         end: End::Nothing,
         lengths: [0; 7],
-        client: client,
-        plugin: plugin,
+        session: session,
     }
 }
 
-// The view of the session that is open.
-pub fn view_of(host: Host) -> View {
-    let end = host.end;
-    match end {
-        End::Plugin => {
-            let s = host.plugin;
-            let phase = s.phase;
-            let tables = s.tables;
-            View {
-                phase: phase,
-                tables: tables,
-            }
-        }
-        _ => {
-            let s = host.client;
-            let phase = s.phase;
-            let tables = s.tables;
-            View {
-                phase: phase,
-                tables: tables,
-            }
-        }
+// A session of the plugin end from its parts.
+pub fn to_plugin(session: Session) -> plugin::Session {
+    let machine = session.machine;
+    let phase = session.phase;
+    let name = session.name;
+    let tables = session.tables;
+    plugin::Session {
+        machine: machine,
+        phase: phase,
+        name: name,
+        tables: tables,
+    }
+}
+
+// The parts of a session of the plugin end.
+pub fn from_plugin(session: plugin::Session) -> Session {
+    let machine = session.machine;
+    let phase = session.phase;
+    let name = session.name;
+    let tables = session.tables;
+    Session {
+        machine: machine,
+        phase: phase,
+        screen: false,
+        name: name,
+        tables: tables,
     }
 }

@@ -17,7 +17,9 @@ use answers::print_answer;
 use host::no_session;
 use lines::advance;
 use lines::start;
+use parts::Buffer;
 use parts::front;
+use print::Output;
 use print::flush;
 use turns::make_call;
 use words::read_line;
@@ -49,15 +51,15 @@ fn main() {
 // Reads to the end of the input. A proved loop has to end, and nothing says that the input does, so the turns are counted down from a
 // number that no run uses up.
 fn run(
-    chunk: &mut [u8],
-    line: &mut [u8],
-    text: &mut [u8],
-    buffer: &mut [u8],
-    out: &mut [u8],
-    recipients: &mut [u8],
-    identities: &mut [u8],
-    keys: &mut [u8],
-    headers: &mut [u8],
+    chunk: &mut Buffer,
+    line: &mut [u8; 65537],
+    text: &mut Buffer,
+    buffer: &mut Buffer,
+    out: &mut Output,
+    recipients: &mut Buffer,
+    identities: &mut Buffer,
+    keys: &mut Buffer,
+    headers: &mut Buffer,
 ) {
     let mut s = start();
     let mut host = no_session();

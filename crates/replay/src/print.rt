@@ -5,12 +5,12 @@ ghost use lib.ListN.{length};
 use crate::parts::append;
 use crate::parts::front;
 use crate::parts::least;
-use judging::Judged;
 use libc::STDERR_FILENO;
 use libc::STDOUT_FILENO;
-use refusal::Refusal;
 use refusal::Written;
-use session::Word;
+
+// The output buffer.
+pub type Output = [u8; 131072];
 
 // A byte string is printed in pieces of this many bytes, each of which is printed by at most four.
 const PIECE: usize = 16384;
@@ -36,16 +36,17 @@ fn make_space(out: &[u8], at: usize, n: usize) -> usize
 }
 
 // Some bytes as they are.
-pub fn print_bytes(bytes: &[u8], out: &mut [u8], at: usize) -> usize {
+pub fn print_bytes(bytes: &[u8], out: &mut Output, at: usize) -> usize {
     let from = make_space(out, at, bytes.len());
     append(bytes, out, from)
 }
 
-// A number in decimal.
-pub fn print_number(n: u64, out: &mut [u8], at: usize) -> usize {
+// A space and a number in decimal.
+pub fn print_number(n: u64, out: &mut Output, at: usize) -> usize {
     let mut text = [0u8; 20];
     let k = io::decimal(n, &mut text);
-    print_bytes(&text[..k], out, at)
+    let next = print_bytes(b" ", out, at);
+    print_bytes(&text[..k], out, next)
 }
 
 // A piece of a byte string with its escapes; it is not empty.
@@ -58,12 +59,12 @@ fn print_piece(piece: &[u8], out: &mut [u8], at: usize) -> usize {
     }
 }
 
-// A byte string as a word.
-pub fn print_word(bytes: &[u8], out: &mut [u8], at: usize) -> usize {
+// A space and a byte string as a word.
+pub fn print_word(bytes: &[u8], out: &mut Output, at: usize) -> usize {
     if bytes.len() == 0 {
-        return print_bytes(b"\\e", out, at);
+        return print_bytes(b" \\e", out, at);
     }
-    let mut next = at;
+    let mut next = print_bytes(b" ", out, at);
     let mut i: usize = 0;
     while i < bytes.len() {
         let n = least(PIECE, bytes.len() - i);
@@ -74,97 +75,19 @@ pub fn print_word(bytes: &[u8], out: &mut [u8], at: usize) -> usize {
     next
 }
 
-// The line of a refused call.
-pub fn print_refused(r: Refusal, out: &mut [u8], at: usize) -> usize {
-    let a = print_bytes(b"refused ", out, at);
-    let b = print_number(refusal::number(r) as u64, out, a);
-    print_bytes(b"\n", out, b)
+// "ok".
+pub fn print_ok(out: &mut Output, at: usize) -> usize {
+    print_bytes(b"ok", out, at)
 }
 
-// The line of a call that answers a number.
-pub fn print_ok_number(n: u64, out: &mut [u8], at: usize) -> usize {
-    let a = print_bytes(b"ok ", out, at);
-    let b = print_number(n, out, a);
-    print_bytes(b"\n", out, b)
-}
-
-// The line of a call that answers a byte string.
-pub fn print_ok_word(bytes: &[u8], out: &mut [u8], at: usize) -> usize {
-    let a = print_bytes(b"ok ", out, at);
-    let b = print_word(bytes, out, a);
-    print_bytes(b"\n", out, b)
-}
-
-// The line of a call that answers two byte strings.
-pub fn print_ok_words(first: &[u8], second: &[u8], out: &mut [u8], at: usize) -> usize {
-    let a = print_bytes(b"ok ", out, at);
-    print_last_words(first, second, out, a)
-}
-
-// The line of a call that answers a number and two byte strings.
-pub fn print_ok_parts(n: u64, first: &[u8], second: &[u8], out: &mut [u8], at: usize) -> usize {
-    let a = print_bytes(b"ok ", out, at);
-    let b = print_number(n, out, a);
-    let c = print_bytes(b" ", out, b);
-    print_last_words(first, second, out, c)
+// The end of a line.
+pub fn print_end(out: &mut Output, at: usize) -> usize {
+    print_bytes(b"\n", out, at)
 }
 
 // The last two words of a line.
-fn print_last_words(first: &[u8], second: &[u8], out: &mut [u8], at: usize) -> usize {
+pub fn print_words(first: &[u8], second: &[u8], out: &mut Output, at: usize) -> usize {
     let a = print_word(first, out, at);
-    let b = print_bytes(b" ", out, a);
-    let c = print_word(second, out, b);
-    print_bytes(b"\n", out, c)
-}
-
-// The line of a command that was received; nothing is answered at once in phase one.
-pub fn print_received(taken: u64, word: Word, out: &mut [u8], at: usize) -> usize {
-    let a = print_bytes(b"ok ", out, at);
-    let b = print_number(taken, out, a);
-    let c = print_command(word, out, b);
-    print_bytes(b" \\e\n", out, c)
-}
-
-// A space and the word of a command.
-fn print_command(word: Word, out: &mut [u8], at: usize) -> usize {
-    match word {
-        Word::AddRecipient => print_bytes(b" add-recipient", out, at),
-        Word::AddIdentity => print_bytes(b" add-identity", out, at),
-        Word::WrapFileKey => print_bytes(b" wrap-file-key", out, at),
-        Word::RecipientStanza => print_bytes(b" recipient-stanza", out, at),
-        Word::Done => print_bytes(b" done", out, at),
-        Word::Other => print_bytes(b" other", out, at),
-    }
-}
-
-// The line of the judging program's verdict.
-pub fn print_judged(judged: Judged, out: &mut [u8], at: usize) -> usize {
-    let a = print_bytes(b"ok", out, at);
-    let b = print_count(judged.recipients, out, a);
-    let c = print_count(judged.identities, out, b);
-    let d = print_count(judged.keys, out, c);
-    let e = print_count(judged.headers, out, d);
-    let f = print_count(judged.answer as usize, out, e);
-    print_bytes(b"\n", out, f)
-}
-
-// A space and a number.
-fn print_count(n: usize, out: &mut [u8], at: usize) -> usize {
-    let a = print_bytes(b" ", out, at);
-    print_number(n as u64, out, a)
-}
-
-// The line of a checksum.
-pub fn print_holds(holds: bool, out: &mut [u8], at: usize) -> usize {
-    if holds {
-        return print_bytes(b"ok holds\n", out, at);
-    }
-    print_bytes(b"ok fails\n", out, at)
-}
-
-// The answer of a line that is no call.
-pub fn print_bad(number: u64, out: &mut [u8], at: usize) -> usize {
-    let a = print_bytes(b"bad line ", out, at);
-    let b = print_number(number, out, a);
-    print_bytes(b"\n", out, b)
+    let b = print_word(second, out, a);
+    print_end(out, b)
 }

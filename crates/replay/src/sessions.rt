@@ -1,54 +1,53 @@
-// The calls that send and receive.
+// The calls that talk to the open session: it sends or receives.
 use crate::answers::Answer;
 use crate::answers::answer_of;
-use crate::host::End;
-use crate::host::Host;
+use crate::host::from_plugin;
+use crate::host::to_plugin;
 use crate::parts::front;
 use crate::parts::least;
-use crate::requests::Request;
-use crate::turns::Turn;
+use crate::requests::Talk;
 use crate::words::Words;
 use crate::words::word;
 use client::Sent;
+use client::Session;
 use plugin::Taking;
 use refusal::Written;
 use script::Command;
 use session::Word;
 
-// Makes the call at the end that is open.
-pub fn call_session(
-    request: Request,
+// What a call came to, and the session afterwards.
+pub struct Talked {
+    pub answer: Answer,
+    pub session: Session,
+}
+
+// Makes the call, lent the session's buffers at their lengths.
+pub fn talk(
+    talk: Talk,
     text: &[u8],
     w: Words,
     buffer: &mut [u8],
-    host: Host,
+    session: Session,
     recipients: &mut [u8],
     identities: &mut [u8],
     keys: &mut [u8],
     headers: &mut [u8],
-) -> Turn {
-    let end = host.end;
-    match end {
-        End::Nothing => Turn {
-            answer: unopened(request),
-            host: host,
-        },
-        End::Client => call_client(
-            request,
+) -> Talked {
+    match talk {
+        Talk::Send(n) => send(
+            n,
             text,
             w,
             buffer,
-            host,
+            session,
             recipients,
             identities,
             keys,
             headers,
         ),
-        End::Plugin => call_plugin(
-            request,
-            text,
-            w,
-            host,
+        Talk::Receive(_) => receive(
+            word(text, w, 1),
+            session,
             recipients,
             identities,
             keys,
@@ -57,77 +56,43 @@ pub fn call_session(
     }
 }
 
-// The answer where no session is open.
-pub fn unopened(request: Request) -> Answer {
-    match request {
-        Request::Bad => Answer::Bad,
-        _ => Answer::Unopened,
-    }
-}
-
-// Makes the call at the client end, which sends.
-fn call_client(
-    request: Request,
-    text: &[u8],
-    w: Words,
-    buffer: &mut [u8],
-    host: Host,
-    recipients: &mut [u8],
-    identities: &mut [u8],
-    keys: &mut [u8],
-    headers: &mut [u8],
-) -> Turn {
-    let Request::Send(length) = request else {
-        return Turn {
-            answer: Answer::Bad,
-            host: host,
-        };
-    };
-    let n = least(length, buffer.len());
-    let sent = send(
-        text,
-        w,
-        &mut buffer[..n],
-        host.client,
-        recipients,
-        identities,
-        keys,
-        headers,
-    );
-    let answer = sent.answer;
-    let session = sent.session;
-    let mut after = host;
-    after.client = session;
-    Turn {
-        answer: answer_of(answer),
-        host: after,
-    }
-}
-
-// send COMMAND ARGS BODY OUT, lent the output buffer.
+// send COMMAND ARGS BODY OUT, where OUT is n
 fn send(
+    n: usize,
     text: &[u8],
     w: Words,
     buffer: &mut [u8],
-    session: client::Session,
+    session: Session,
     recipients: &mut [u8],
     identities: &mut [u8],
     keys: &mut [u8],
     headers: &mut [u8],
-) -> Sent {
+) -> Talked {
     let mut store = [0u8; 65536];
     let command = word_named(word(text, w, 1));
-    let n = put_arguments(command, word(text, w, 1), word(text, w, 2), &mut store);
-    session.send(
+    let m = put_arguments(command, word(text, w, 1), word(text, w, 2), &mut store);
+    let out = least(n, buffer.len());
+    let sent = session.send(
         command,
-        front(&store, n),
+        front(&store, m),
         word(text, w, 3),
         recipients,
         identities,
         keys,
         headers,
-        buffer,
-    )
+        &mut buffer[..out],
+    );
+    keep_sent(sent)
+}
+
+// What a sending came to.
+fn keep_sent(sent: Sent) -> Talked {
+    let written = sent.answer;
+    let session = sent.session;
+    Talked {
+        answer: answer_of(written),
+        session: session,
+    }
 }
 
 // The command that a word names.
@@ -159,32 +124,21 @@ fn bytes_of(written: Written) -> usize {
     }
 }
 
-// Makes the call at the plugin end, which receives.
-fn call_plugin(
-    request: Request,
+// receive TEXT OUT; nothing is written in phase one.
+fn receive(
     text: &[u8],
-    w: Words,
-    host: Host,
+    session: Session,
     recipients: &mut [u8],
     identities: &mut [u8],
     keys: &mut [u8],
     headers: &mut [u8],
-) -> Turn {
-    let Request::Receive(_) = request else {
-        return Turn {
-            answer: Answer::Bad,
-            host: host,
-        };
-    };
-    let session = host.plugin;
-    let received = session.receive(word(text, w, 1), recipients, identities, keys, headers);
+) -> Talked {
+    let received = to_plugin(session).receive(text, recipients, identities, keys, headers);
     let taking = received.answer;
-    let session = received.session;
-    let mut after = host;
-    after.plugin = session;
-    Turn {
+    let after = received.session;
+    Talked {
         answer: answer_taken(taking),
-        host: after,
+        session: from_plugin(after),
     }
 }
 

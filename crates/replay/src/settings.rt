@@ -2,8 +2,10 @@
 use crate::answers::Answer;
 use crate::host::End;
 use crate::host::Host;
+use crate::host::from_plugin;
 use crate::words::Words;
 use crate::words::word;
+use client::Session;
 use script::Call;
 use script::Number;
 use script::Screen;
@@ -23,6 +25,26 @@ pub struct Setting {
 struct Lengths {
     good: bool,
     given: [usize; 7],
+}
+
+// What an opening comes to.
+struct Opened {
+    answer: Answer,
+    end: End,
+    session: Session,
+}
+
+// The line's call.
+pub fn set(call: Call, text: &[u8], w: Words, host: Host) -> Setting {
+    let lengths = read_lengths(text, w);
+    if !lengths.good {
+        return unchanged(Answer::Bad, host);
+    }
+    let given = lengths.given;
+    match call {
+        Call::Buffers => set_lengths(w.count, given, host),
+        _ => set_session(open(text, w), given, host),
+    }
 }
 
 // Nothing changes.
@@ -55,116 +77,106 @@ fn read_lengths(text: &[u8], w: Words) -> Lengths {
     Lengths { good: true, given }
 }
 
-// The line's call.
-pub fn set(call: Call, text: &[u8], w: Words, host: Host) -> Setting {
-    match call {
-        Call::Buffers => set_lengths(text, w, host),
-        _ => open(text, w, host),
-    }
-}
-
 // buffers R I K H E S F
-fn set_lengths(text: &[u8], w: Words, host: Host) -> Setting {
-    if w.count != 8 {
-        return unchanged(Answer::Bad, host);
-    }
-    let l = read_lengths(text, w);
-    if !l.good {
+fn set_lengths(count: usize, given: [usize; 7], host: Host) -> Setting {
+    if count != 8 {
         return unchanged(Answer::Bad, host);
     }
     let end = host.end;
+    if let End::Nothing = end {
+        return unchanged(Answer::Unopened, host);
+    }
+    let mut after = host;
+    after.lengths = given;
+    unchanged(Answer::Accepted, after)
+}
+
+// open client .., open plugin ..: the buffers of a session that is opened are zeros.
+fn set_session(opened: Opened, given: [usize; 7], host: Host) -> Setting {
+    let answer = opened.answer;
+    if let Answer::Accepted = answer {
+        let end = opened.end;
+        let session = opened.session;
+        return Setting {
+            answer: Answer::Accepted,
+            host: Host {
+                end: end,
+                lengths: given,
+                session: session,
+            },
+            kept: [0; 7],
+        };
+    }
+    unchanged(answer, host)
+}
+
+// The opening of a line.
+fn open(text: &[u8], w: Words) -> Opened {
+    let end = script::choose_end(word(text, w, 1));
     match end {
-        End::Nothing => unchanged(Answer::Unopened, host),
-        _ => {
-            let given = l.given;
-            let mut after = host;
-            after.lengths = given;
-            unchanged(Answer::Accepted, after)
-        }
+        script::End::Client => open_client(text, w),
+        script::End::Plugin => open_plugin(text, w),
+        script::End::Other => no_opening(),
     }
 }
 
-// open client .., open plugin ..
-fn open(text: &[u8], w: Words, host: Host) -> Setting {
-    let end = script::choose_end(word(text, w, 1));
-    match end {
-        script::End::Client => open_client(text, w, host),
-        script::End::Plugin => open_plugin(text, w, host),
-        script::End::Other => unchanged(Answer::Bad, host),
+// The line opens no session.
+fn no_opening() -> Opened {
+    let opening = Session::open(b"", b"");
+    let session = opening.session;
+    Opened {
+        answer: Answer::Bad,
+        end: End::Nothing,
+        session: session,
+    }
+}
+
+// The answer of an opening.
+fn answer_opened(verdict: Verdict) -> Answer {
+    match verdict {
+        Verdict::Accepted => Answer::Accepted,
+        Verdict::Refused(r) => Answer::Refused(r),
     }
 }
 
 // open client MACHINE NAME SCREEN R I K H E S F
-fn open_client(text: &[u8], w: Words, host: Host) -> Setting {
+fn open_client(text: &[u8], w: Words) -> Opened {
     if w.count != 12 {
-        return unchanged(Answer::Bad, host);
+        return no_opening();
     }
+    let machine = word(text, w, 2);
+    let name = word(text, w, 3);
     let screen = script::choose_screen(word(text, w, 4));
-    let l = read_lengths(text, w);
-    if !l.good {
-        return unchanged(Answer::Bad, host);
-    }
-    if let Screen::Other = screen {
-        return unchanged(Answer::Bad, host);
-    }
-    let opening = open_with(screen, word(text, w, 2), word(text, w, 3));
-    let verdict = opening.verdict;
-    match verdict {
-        Verdict::Refused(r) => unchanged(Answer::Refused(r), host),
-        Verdict::Accepted => {
-            let client = opening.session;
-            let plugin = host.plugin;
-            let given = l.given;
-            Setting {
-                answer: Answer::Accepted,
-                host: Host {
-                    end: End::Client,
-                    lengths: given,
-                    client: client,
-                    plugin: plugin,
-                },
-                kept: [0; 7],
-            }
-        }
+    match screen {
+        Screen::Shown => opened_client(Session::open_with(machine, name, true)),
+        Screen::Missing => opened_client(Session::open_with(machine, name, false)),
+        Screen::Default => opened_client(Session::open(machine, name)),
+        Screen::Other => no_opening(),
     }
 }
 
-// A client session by what the line says of the screen.
-fn open_with(screen: Screen, machine: &[u8], name: &[u8]) -> client::Opening {
-    match screen {
-        Screen::Shown => client::Session::open_with(machine, name, true),
-        Screen::Missing => client::Session::open_with(machine, name, false),
-        _ => client::Session::open(machine, name),
+// A session of the client end.
+fn opened_client(opening: client::Opening) -> Opened {
+    let verdict = opening.verdict;
+    let session = opening.session;
+    Opened {
+        answer: answer_opened(verdict),
+        end: End::Client,
+        session: session,
     }
 }
 
 // open plugin MACHINE NAME R I K H E S F
-fn open_plugin(text: &[u8], w: Words, host: Host) -> Setting {
+fn open_plugin(text: &[u8], w: Words) -> Opened {
     if w.count != 11 {
-        return unchanged(Answer::Bad, host);
-    }
-    let l = read_lengths(text, w);
-    if !l.good {
-        return unchanged(Answer::Bad, host);
+        return no_opening();
     }
     let opening = plugin::Session::open(word(text, w, 2), word(text, w, 3));
     let verdict = opening.verdict;
-    match verdict {
-        Verdict::Refused(r) => unchanged(Answer::Refused(r), host),
-        Verdict::Accepted => {
-            let plugin = opening.session;
-            let client = host.client;
-            let given = l.given;
-            Setting {
-                answer: Answer::Accepted,
-                host: Host {
-                    end: End::Plugin,
-                    lengths: given,
-                    client: client,
-                    plugin: plugin,
-                },
-                kept: [0; 7],
-            }
-        }
+    let session = opening.session;
+    Opened {
+        answer: answer_opened(verdict),
+        end: End::Plugin,
+        session: from_plugin(session),
     }
 }

@@ -1,10 +1,13 @@
 // What the lines `entry` and `show` print: texts and tables as the buffers lent now show them.
-use crate::host::View;
+use crate::answers::print_text;
+use crate::parts::least;
+use crate::print::Output;
 use crate::print::print_bytes;
+use crate::print::print_end;
 use crate::print::print_number;
-use crate::print::print_ok_word;
 use crate::print::print_word;
-use bech32::Kind;
+use crate::requests::Look;
+use client::Session;
 use session::Phase;
 use session::Tables;
 use tables::Entry;
@@ -12,59 +15,76 @@ use tables::Found;
 use tables::Table64;
 use tables::Table256;
 
-// The kinds of the tables of 64 slots.
-enum Column {
-    Recipient,
-    Identity,
-    Key,
-}
+// The phases, the kinds and the marks by their numbers.
+const PHASES: [u8; 20] = *b"one two ended closed";
 
-// The line of a look-up.
-pub fn print_entry<'a>(
-    tables: Tables,
-    kind: Kind,
-    n: usize,
+const KINDS: [u8; 34] = *b"recipient identity file-key header";
+
+const MARKS: [u8; 46] = *b"valid invalid conforming nonconforming unknown";
+
+// The kinds that are told by their numbers: a file key has no mark, and a header stanza has an index.
+const FILE_KEY: usize = 2;
+
+const HEADER: usize = 3;
+
+// Prints what a look at a session shows.
+pub fn print_look<'a>(
+    look: Look,
+    session: Session,
     recipients: &'a [u8],
     identities: &'a [u8],
-    out: &mut [u8],
+    keys: &[u8],
+    headers: &[u8],
+    out: &mut Output,
     at: usize,
 ) -> usize {
-    print_ok_word(tables.entry(kind, n, recipients, identities), out, at)
+    let tables = session.tables;
+    match look {
+        Look::Entry(kind, n) => print_text(tables.entry(kind, n, recipients, identities), out, at),
+        Look::Show => {
+            let phase = session.phase;
+            let next = print_phase(phase, out, at);
+            print_tables(tables, recipients, identities, keys, headers, out, next)
+        }
+    }
 }
 
-// All tables. Nothing is awaited in phase one, and the tables of phase two are empty yet.
-pub fn print_tables(
-    view: View,
+// The lines of the phase, and of what is awaited: nothing in phase one.
+fn print_phase(phase: Phase, out: &mut Output, at: usize) -> usize {
+    let a = print_bytes(b"phase", out, at);
+    let b = print_word(stanza::argument(&PHASES, place_of(phase)), out, a);
+    print_bytes(b"\nawaits -\n", out, b)
+}
+
+// The number of a phase.
+fn place_of(phase: Phase) -> usize {
+    match phase {
+        Phase::One => 0,
+        Phase::Two => 1,
+        Phase::Ended => 2,
+        Phase::Closed => 3,
+    }
+}
+
+// All tables; those of phase two are empty yet.
+fn print_tables(
+    tables: Tables,
     recipients: &[u8],
     identities: &[u8],
     keys: &[u8],
     headers: &[u8],
-    out: &mut [u8],
+    out: &mut Output,
     at: usize,
 ) -> usize {
-    let tables = view.tables;
-    let phase = view.phase;
-    let a = print_phase(phase, out, at);
-    let b = print_bytes(b"awaits -\n", out, a);
-    let c = print_table(Column::Recipient, tables.recipients, recipients, out, b);
-    let d = print_table(Column::Identity, tables.identities, identities, out, c);
-    let e = print_table(Column::Key, tables.keys, keys, out, d);
-    let f = print_headers(tables.headers, headers, out, e);
-    print_bytes(b"end\n", out, f)
-}
-
-// The line of a phase.
-fn print_phase(phase: Phase, out: &mut [u8], at: usize) -> usize {
-    match phase {
-        Phase::One => print_bytes(b"phase one\n", out, at),
-        Phase::Two => print_bytes(b"phase two\n", out, at),
-        Phase::Ended => print_bytes(b"phase ended\n", out, at),
-        Phase::Closed => print_bytes(b"phase closed\n", out, at),
-    }
+    let a = print_table(0, tables.recipients, recipients, out, at);
+    let b = print_table(1, tables.identities, identities, out, a);
+    let c = print_table(FILE_KEY, tables.keys, keys, out, b);
+    let d = print_headers(tables.headers, headers, out, c);
+    print_bytes(b"end\n", out, d)
 }
 
 // The entries of a table of 64 slots.
-fn print_table(column: Column, table: Table64, buffer: &[u8], out: &mut [u8], at: usize) -> usize {
+fn print_table(kind: usize, table: Table64, buffer: &[u8], out: &mut Output, at: usize) -> usize {
     let mut next = at;
     let mut n: usize = 0;
     while n < 64 {
@@ -74,7 +94,7 @@ fn print_table(column: Column, table: Table64, buffer: &[u8], out: &mut [u8], at
                 return next;
             }
             Found::Entry(e) => {
-                next = print_slot(column, n, e, tables::payload(found, buffer), out, next);
+                next = print_slot(kind, n, e, tables::payload(found, buffer), out, next);
             }
         }
         n += 1;
@@ -82,44 +102,8 @@ fn print_table(column: Column, table: Table64, buffer: &[u8], out: &mut [u8], at
     next
 }
 
-// The line of an entry: its kind and number, its payload, and its mark.
-fn print_slot(
-    column: Column,
-    n: usize,
-    e: Entry,
-    payload: &[u8],
-    out: &mut [u8],
-    at: usize,
-) -> usize {
-    let a = print_column(column, out, at);
-    let b = print_number(n as u64, out, a);
-    let c = print_bytes(b" ", out, b);
-    let d = print_word(payload, out, c);
-    print_mark(column, e.mark, out, d)
-}
-
-// The first word of an entry's line.
-fn print_column(column: Column, out: &mut [u8], at: usize) -> usize {
-    match column {
-        Column::Recipient => print_bytes(b"recipient ", out, at),
-        Column::Identity => print_bytes(b"identity ", out, at),
-        Column::Key => print_bytes(b"file-key ", out, at),
-    }
-}
-
-// The end of an entry's line: a recipient or an identity is valid where its mark is 0.
-fn print_mark(column: Column, mark: u8, out: &mut [u8], at: usize) -> usize {
-    if let Column::Key = column {
-        return print_bytes(b"\n", out, at);
-    }
-    if mark == 0 {
-        return print_bytes(b" valid\n", out, at);
-    }
-    print_bytes(b" invalid\n", out, at)
-}
-
 // The header stanzas.
-fn print_headers(table: Table256, buffer: &[u8], out: &mut [u8], at: usize) -> usize {
+fn print_headers(table: Table256, buffer: &[u8], out: &mut Output, at: usize) -> usize {
     let mut next = at;
     let mut n: usize = 0;
     while n < 256 {
@@ -129,7 +113,7 @@ fn print_headers(table: Table256, buffer: &[u8], out: &mut [u8], at: usize) -> u
                 return next;
             }
             Found::Entry(e) => {
-                next = print_header(n, e, tables::payload(found, buffer), out, next);
+                next = print_slot(HEADER, n, e, tables::payload(found, buffer), out, next);
             }
         }
         n += 1;
@@ -137,22 +121,43 @@ fn print_headers(table: Table256, buffer: &[u8], out: &mut [u8], at: usize) -> u
     next
 }
 
-// The line of a header stanza: its number, its index, its payload, and what the stanza check found.
-fn print_header(n: usize, e: Entry, payload: &[u8], out: &mut [u8], at: usize) -> usize {
-    let a = print_bytes(b"header ", out, at);
+// The line of an entry: its kind and number, the index of a header stanza, its payload, and its mark.
+fn print_slot(
+    kind: usize,
+    n: usize,
+    e: Entry,
+    payload: &[u8],
+    out: &mut Output,
+    at: usize,
+) -> usize {
+    let a = print_bytes(stanza::argument(&KINDS, kind), out, at);
     let b = print_number(n as u64, out, a);
-    let c = print_bytes(b" ", out, b);
-    let d = print_number(e.index as u64, out, c);
-    let f = print_bytes(b" ", out, d);
-    let g = print_word(payload, out, f);
-    print_finding(e.mark, out, g)
+    let c = print_index(kind, e.index, out, b);
+    let d = print_word(payload, out, c);
+    let f = print_mark(kind, e.mark, out, d);
+    print_end(out, f)
 }
 
-// The end of a header stanza's line: its mark is 0, 1 or 2.
-fn print_finding(mark: u8, out: &mut [u8], at: usize) -> usize {
-    match mark {
-        0 => print_bytes(b" conforming\n", out, at),
-        1 => print_bytes(b" nonconforming\n", out, at),
-        _ => print_bytes(b" unknown\n", out, at),
+// The index of a header stanza.
+fn print_index(kind: usize, index: usize, out: &mut Output, at: usize) -> usize {
+    if kind == HEADER {
+        return print_number(index as u64, out, at);
     }
+    at
+}
+
+// The mark of an entry, if its kind has marks.
+fn print_mark(kind: usize, mark: u8, out: &mut Output, at: usize) -> usize {
+    if kind == FILE_KEY {
+        return at;
+    }
+    print_word(stanza::argument(&MARKS, mark_number(kind, mark)), out, at)
+}
+
+// The number of a mark's word: a recipient or an identity is valid where its mark is 0; a header stanza's mark is 0, 1 or 2.
+fn mark_number(kind: usize, mark: u8) -> usize {
+    if kind == HEADER {
+        return 2 + least(2, mark as usize);
+    }
+    least(1, mark as usize)
 }

@@ -1,19 +1,19 @@
 // The call of a line.
 use crate::answers::Answer;
 use crate::calls::call_plain;
-use crate::host::End;
 use crate::host::Host;
-use crate::host::view_of;
+use crate::parts::Buffer;
 use crate::parts::clear;
 use crate::parts::front;
 use crate::parts::least;
+use crate::print::Output;
+use crate::requests::Look;
 use crate::requests::Request;
+use crate::requests::Talk;
 use crate::requests::read_request;
-use crate::sessions::call_session;
-use crate::sessions::unopened;
+use crate::sessions::talk;
 use crate::settings::set;
-use crate::show::print_entry;
-use crate::show::print_tables;
+use crate::show::print_look;
 use crate::words::Words;
 use script::Call;
 
@@ -28,87 +28,59 @@ pub fn make_call(
     w: Words,
     text: &[u8],
     buffer: &mut [u8],
-    out: &mut [u8],
+    out: &mut Output,
     at: usize,
     host: Host,
-    recipients: &mut [u8],
-    identities: &mut [u8],
-    keys: &mut [u8],
-    headers: &mut [u8],
+    recipients: &mut Buffer,
+    identities: &mut Buffer,
+    keys: &mut Buffer,
+    headers: &mut Buffer,
 ) -> Turn {
     let call = w.call;
-    match call {
-        Call::Open => call_set(call, text, w, host, recipients, identities, keys, headers),
-        Call::Buffers => call_set(call, text, w, host, recipients, identities, keys, headers),
-        Call::Send => call_lent(
-            call,
-            text,
-            w,
-            buffer,
-            host,
-            recipients,
-            identities,
-            keys,
-            headers,
-        ),
-        Call::Receive => call_lent(
-            call,
-            text,
-            w,
-            buffer,
-            host,
-            recipients,
-            identities,
-            keys,
-            headers,
-        ),
-        Call::Entry => Turn {
-            answer: call_look(
-                call,
-                text,
-                w,
-                host,
-                recipients,
-                identities,
-                keys,
-                headers,
-                out,
-                at,
-            ),
-            host: host,
-        },
-        Call::Show => Turn {
-            answer: call_look(
-                call,
-                text,
-                w,
-                host,
-                recipients,
-                identities,
-                keys,
-                headers,
-                out,
-                at,
-            ),
-            host: host,
-        },
-        _ => Turn {
+    let end = host.end;
+    let request = read_request(call, end, text, w);
+    match request {
+        Request::Plain => Turn {
             answer: call_plain(call, text, w, buffer, out, at),
+            host: host,
+        },
+        Request::Setting => call_set(call, text, w, host, recipients, identities, keys, headers),
+        Request::Talk(t) => call_talk(
+            t,
+            text,
+            w,
+            buffer,
+            host,
+            recipients,
+            identities,
+            keys,
+            headers,
+        ),
+        Request::Look(l) => Turn {
+            answer: call_look(l, host, recipients, identities, keys, headers, out, at),
+            host: host,
+        },
+        Request::Unopened => Turn {
+            answer: Answer::Unopened,
+            host: host,
+        },
+        Request::Bad => Turn {
+            answer: Answer::Bad,
             host: host,
         },
     }
 }
 
-// A line that opens a session or changes the lengths of its buffers.
+// A line that opens a session or sets the lengths of its buffers.
 fn call_set(
     call: Call,
     text: &[u8],
     w: Words,
     host: Host,
-    recipients: &mut [u8],
-    identities: &mut [u8],
-    keys: &mut [u8],
-    headers: &mut [u8],
+    recipients: &mut Buffer,
+    identities: &mut Buffer,
+    keys: &mut Buffer,
+    headers: &mut Buffer,
 ) -> Turn {
     let s = set(call, text, w, host);
     let kept = s.kept;
@@ -124,9 +96,9 @@ fn call_set(
     }
 }
 
-// A call that is lent the buffers at their lengths.
-fn call_lent(
-    call: Call,
+// A call that talks to the session, lent the buffers at their lengths.
+fn call_talk(
+    t: Talk,
     text: &[u8],
     w: Words,
     buffer: &mut [u8],
@@ -141,60 +113,48 @@ fn call_lent(
     let i = least(lengths[1], identities.len());
     let k = least(lengths[2], keys.len());
     let h = least(lengths[3], headers.len());
-    call_session(
-        read_request(call, text, w),
+    let talked = talk(
+        t,
         text,
         w,
         buffer,
-        host,
+        host.session,
         &mut recipients[..r],
         &mut identities[..i],
         &mut keys[..k],
         &mut headers[..h],
-    )
+    );
+    let answer = talked.answer;
+    let session = talked.session;
+    let mut after = host;
+    after.session = session;
+    Turn {
+        answer: answer,
+        host: after,
+    }
 }
 
-// A call that shows what is open.
+// A call that looks at the session, shown the buffers at their lengths.
 fn call_look<'a>(
-    call: Call,
-    text: &[u8],
-    w: Words,
+    l: Look,
     host: Host,
     recipients: &'a [u8],
     identities: &'a [u8],
     keys: &[u8],
     headers: &[u8],
-    out: &mut [u8],
+    out: &mut Output,
     at: usize,
 ) -> Answer {
-    let request = read_request(call, text, w);
-    let end = host.end;
-    if let End::Nothing = end {
-        return unopened(request);
-    }
-    let view = view_of(host);
     let lengths = host.lengths;
-    let r = front(recipients, lengths[0]);
-    let i = front(identities, lengths[1]);
-    match request {
-        Request::Entry(kind, n) => Answer::Printed(print_entry(
-            view.tables,
-            kind,
-            n,
-            r,
-            i,
-            out,
-            at,
-        )),
-        Request::Show => Answer::Printed(print_tables(
-            view,
-            r,
-            i,
-            front(keys, lengths[2]),
-            front(headers, lengths[3]),
-            out,
-            at,
-        )),
-        _ => Answer::Bad,
-    }
+    let session = host.session;
+    Answer::Printed(print_look(
+        l,
+        session,
+        front(recipients, lengths[0]),
+        front(identities, lengths[1]),
+        front(keys, lengths[2]),
+        front(headers, lengths[3]),
+        out,
+        at,
+    ))
 }

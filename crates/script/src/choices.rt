@@ -25,7 +25,7 @@ pub enum Kind {
     Other,
 }
 
-// The command that a line sends; a word that the table of no phase one names is sent too.
+// The command that a line sends; any other word can be sent too.
 pub enum Command {
     AddRecipient,
     AddIdentity,

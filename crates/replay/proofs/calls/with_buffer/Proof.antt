@@ -7,6 +7,7 @@ use borrow.Author.Needs.{needs}
 use Rattle.replay.proofs.calls.with_buffer.Statement.{statement}
 use Rattle.replay.proofs.calls.with_buffer.Tie as tie
 
+-- `with_buffer` is safe: the number that was read is at most the buffer's length.
 last-word-requires : tie.Need-last-word-requires
 last-word-requires c κs = search needs
 
@@ -24,11 +25,11 @@ returns c = search needs
 
 slice-relend-prefix-call-buffered : tie.Need-slice-relend-prefix-call-buffered
 slice-relend-prefix-call-buffered c =
-    number-below (now (c .before .before .before .before .last-word .result)) (length (now (c .before .before .before .before .before .before .before .before .args .buffer))) (c .before .before .before .read-number .result) (c .before .length .given .0 .0) (c .before .length .given .1) (c .before .before .before .read-number .ensures)
+    number-below (now (c .before .before .before .before .last-word .result)) (length (now (c .before .before .before .before .before .before .before .args .buffer))) (c .before .before .before .read-number .result) (c .before .length .given .0 .0) (c .before .length .given .1) (c .before .before .before .read-number .ensures)
 
 slice-aggregate-call-buffered : tie.Need-slice-aggregate-call-buffered
 slice-aggregate-call-buffered c =
-    let h = number-below (now (c .before .before .before .before .before .last-word .result)) (length (now (c .before .before .before .before .before .before .before .before .before .args .buffer))) (c .before .before .before .before .read-number .result) (c .before .before .length .given .0 .0) (c .before .before .length .given .1) (c .before .before .before .before .read-number .ensures) in
+    let h = number-below (now (c .before .before .before .before .before .last-word .result)) (length (now (c .before .before .before .before .before .before .before .before .args .buffer))) (c .before .before .before .before .read-number .result) (c .before .before .length .given .0 .0) (c .before .before .length .given .1) (c .before .before .before .before .read-number .ensures) in
     simp length-take (omega (arith, h))
 
 call-buffered-requires : tie.Need-call-buffered-requires
@@ -36,9 +37,6 @@ call-buffered-requires c κs = search needs
 
 same-length : tie.Need-same-length
 same-length c = search needs
-
-same-length-2 : tie.Need-same-length-2
-same-length-2 c = search needs
 
 returns-2 : tie.Need-returns-2
 returns-2 c = search needs
@@ -56,5 +54,4 @@ with-buffer-spec =
     slice-aggregate-call-buffered
     call-buffered-requires
     same-length
-    same-length-2
     returns-2)

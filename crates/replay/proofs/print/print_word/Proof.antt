@@ -1,13 +1,13 @@
 -- `print_word` is safe and ends: each turn passes at least one byte.
 use Prim.Native.Nat.{_-_, _≤_}
-use mathlib.Core.Path.{_≡_}
 use lib.ListN.{length}
 use borrow.Author.Needs.{needs}
 use Rattle.replay.proofs.print.print_word.Statement.{statement}
 use Rattle.replay.proofs.print.print_word.Tie as tie
 
+-- `print_word` is safe and ends: each turn passes at least one byte.
 abbrev Inv-loop : tie.InvT-loop
-Inv-loop bytes out₀ at next₀ i₀ out next i = (i ≤ length bytes) × (length out ≡ length out₀)
+Inv-loop bytes out₀ at next₀ i₀ out next i = (i ≤ length bytes)
 
 abbrev μ-loop : tie.MeasureT-loop
 μ-loop bytes out₀ at next₀ i₀ out next i = length bytes - i
@@ -18,11 +18,14 @@ slice-aggregate-print-bytes c = search needs
 print-bytes-requires : tie.Need-print-bytes-requires Inv-loop μ-loop
 print-bytes-requires c κs = search needs
 
-same-length : tie.Need-same-length Inv-loop μ-loop
-same-length c = search needs
-
 returns : tie.Need-returns Inv-loop μ-loop
 returns c = search needs
+
+slice-aggregate-print-bytes-2 : tie.Need-slice-aggregate-print-bytes-2 Inv-loop μ-loop
+slice-aggregate-print-bytes-2 c = search needs
+
+print-bytes-requires-2 : tie.Need-print-bytes-requires-2 Inv-loop μ-loop
+print-bytes-requires-2 c κs = search needs
 
 loop-holds : tie.Need-loop-holds Inv-loop μ-loop
 loop-holds c = search needs
@@ -54,9 +57,6 @@ loop-less c = search needs
 loop-again : tie.Need-loop-again Inv-loop μ-loop
 loop-again c = search needs
 
-same-length-2 : tie.Need-same-length-2 Inv-loop μ-loop
-same-length-2 c = search needs
-
 returns-2 : tie.Need-returns-2 Inv-loop μ-loop
 returns-2 c = search needs
 
@@ -68,8 +68,9 @@ print-word-spec =
     μ-loop
     slice-aggregate-print-bytes
     print-bytes-requires
-    same-length
     returns
+    slice-aggregate-print-bytes-2
+    print-bytes-requires-2
     loop-holds
     sub-least
     least-requires
@@ -80,5 +81,4 @@ print-word-spec =
     print-piece-requires
     loop-less
     loop-again
-    same-length-2
     returns-2)

@@ -1,13 +1,10 @@
+-- `read_lengths` is safe and ends. The invariant: k is at most 7, and there are seven lengths.
 use Prim.Native.Nat.{_-_, _≤_}
 use mathlib.Core.Path.{_≡_}
-use lib.ListN.{length, length-set}
+use lib.ListN.{length}
 use borrow.Author.Needs.{needs}
 use Rattle.replay.proofs.settings.read_lengths.Statement.{statement}
 use Rattle.replay.proofs.settings.read_lengths.Tie as tie
-use Rattle.replay.proofs.settings.read_lengths.Reads as reads
-use Rattle.replay.proofs.settings.read_lengths.Lts as lts
-use Rattle.replay.proofs.words.word.Reads as word-reads
-use Rattle.script.proofs.read_number.Reads as read-number-reads
 
 abbrev Inv-loop : tie.InvT-loop
 Inv-loop text w given₀ count first k₀ given k = (k ≤ 7) × (length given ≡ 7)
@@ -15,59 +12,45 @@ Inv-loop text w given₀ count first k₀ given k = (k ≤ 7) × (length given �
 abbrev μ-loop : tie.MeasureT-loop
 μ-loop text w given₀ count first k₀ given k = 7 - k
 
--- src/settings.rt:43:9
 returns : tie.Need-returns Inv-loop μ-loop
 returns c = search needs
 
--- src/settings.rt:47:5
 loop-holds : tie.Need-loop-holds Inv-loop μ-loop
 loop-holds c = search needs
 
--- src/settings.rt:48:56
 add-word : tie.Need-add-word Inv-loop μ-loop
 add-word c = search needs
 
--- src/settings.rt:48:42
 word-requires : tie.Need-word-requires Inv-loop μ-loop
 word-requires c κs = search needs
 
--- src/settings.rt:48:13
 read-number-requires : tie.Need-read-number-requires Inv-loop μ-loop
 read-number-requires c κs = search needs
 
--- src/settings.rt:49:27
 enum-known-length : tie.Need-enum-known-length Inv-loop μ-loop
 enum-known-length c = search needs
 
--- src/settings.rt:50:43
 enum-told : tie.Need-enum-told Inv-loop μ-loop
 enum-told c = search needs
 
--- src/settings.rt:50:13
 returns-2 : tie.Need-returns-2 Inv-loop μ-loop
 returns-2 c = search needs
 
--- src/settings.rt:52:9
 mul-given : tie.Need-mul-given Inv-loop μ-loop
 mul-given c = search needs
 
--- src/settings.rt:52:9
 array-write-given : tie.Need-array-write-given Inv-loop μ-loop
 array-write-given c = search needs
 
--- src/settings.rt:53:9
 add-k : tie.Need-add-k Inv-loop μ-loop
 add-k c = search needs
 
--- src/settings.rt:47:5
 loop-less : tie.Need-loop-less Inv-loop μ-loop
 loop-less c = search needs
 
--- src/settings.rt:47:5
 loop-again : tie.Need-loop-again Inv-loop μ-loop
 loop-again c = search needs
 
--- src/settings.rt:39:1
 returns-3 : tie.Need-returns-3 Inv-loop μ-loop
 returns-3 c = search needs
 

@@ -1,15 +1,10 @@
+-- `read_words` is safe and ends. The invariant: k is at most the count, and the buffer and the table keep their lengths.
 use Prim.Native.Nat.{_-_, _≤_}
 use mathlib.Core.Path.{_≡_}
 use lib.ListN.{length}
 use borrow.Author.Needs.{needs}
 use Rattle.replay.proofs.words.read_words.Statement.{statement}
 use Rattle.replay.proofs.words.read_words.Tie as tie
-use Rattle.replay.proofs.words.read_words.Reads as reads
-use Rattle.replay.proofs.words.read_words.Lts as lts
-use Rattle.replay.proofs.words.no_words.Reads as no-words-reads
-use Rattle.replay.proofs.words.read_word.Reads as read-word-reads
-use Rattle.stanza.proofs.argument.Reads as argument-reads
-use Rattle.stanza.proofs.count.Reads as count-reads
 
 -- `read_words` is safe and ends. The invariant: k is at most the count, and the buffer and the table keep their lengths.
 abbrev Inv-loop : tie.InvT-loop
@@ -21,7 +16,6 @@ abbrev μ-loop : tie.MeasureT-loop
 count-requires : tie.Need-count-requires Inv-loop μ-loop
 count-requires c κs = search needs
 
--- src/words.rt:76:9
 no-words-requires : tie.Need-no-words-requires Inv-loop μ-loop
 no-words-requires c κs = search needs
 
@@ -43,7 +37,6 @@ enum-known-e c = search needs
 enum-told : tie.Need-enum-told Inv-loop μ-loop
 enum-told c = search needs
 
--- src/words.rt:84:13
 no-words-requires-2 : tie.Need-no-words-requires-2 Inv-loop μ-loop
 no-words-requires-2 c κs = search needs
 
