@@ -2,5 +2,14 @@
 pub mod Session
 pub mod Receiving
 pub mod Sending
+pub mod CommandsTwo
+pub mod PhaseTwo
+pub mod Kinds
+pub mod TurnsTwo
+pub mod ReceivingTwo
+pub mod Replying
+pub mod SendingTwo
+pub mod Responding
 pub mod Calls
 pub mod Phases
+pub mod Allowed

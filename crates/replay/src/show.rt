@@ -61,6 +61,7 @@ fn place_of(phase: Phase) -> usize {
     match phase {
         Phase::One => 0,
         Phase::Two => 1,
+        Phase::Awaiting(_) => 1,
         Phase::Ended => 2,
         Phase::Closed => 3,
     }

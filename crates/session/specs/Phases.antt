@@ -5,12 +5,13 @@ use lib.Dec.{leb, eqb}
 use Rattle.refusal.specs.Pick.{pick}
 use Rattle.session.specs.Commands.{Command, recipient, identity, key, header, done, other, bad}
 use Rattle.session.specs.declared.phases.Phase.{Phase}
-use Rattle.session.specs.declared.phases.Phase.the-variants.{One, Two, Ended, Closed}
+use Rattle.session.specs.declared.phases.Phase.the-variants.{One, Two, Awaiting, Ended, Closed}
 
 -- a call of phase one: No. 13, the session is closed or has ended; No. 14, a call of the other phase
 abbrev pub turnOne : Phase → ℕ
 turnOne One = 0
 turnOne Two = 14
+turnOne (Awaiting w) = 14
 turnOne Ended = 13
 turnOne Closed = 13
 

@@ -7,11 +7,14 @@ ghost use Rattle.session.specs.Phases.{turnOne, closes, phaseAfter, phas
 use crate::commands::Command;
 use crate::phase_one::Verdict;
 use refusal::Refusal;
+use responses::WordTwo;
 
-// Phase one is the client's to speak, phase two the plugin's. A session ends with the second done, or is closed by a refusal.
+// Phase one is the client's to speak, phase two the plugin's. In phase two a command may await its response. A session ends with the second done, or is closed
+// by a refusal.
 pub enum Phase {
     One,
     Two,
+    Awaiting(WordTwo),
     Ended,
     Closed,
 }
@@ -23,6 +26,7 @@ pub fn turn_one(phase: Phase) -> Verdict
     match phase {
         Phase::One => Verdict::Accepted,
         Phase::Two => Verdict::Refused(Refusal::OutOfTurn),
+        Phase::Awaiting(_) => Verdict::Refused(Refusal::OutOfTurn),
         Phase::Ended => Verdict::Refused(Refusal::SessionOver),
         Phase::Closed => Verdict::Refused(Refusal::SessionOver),
     }

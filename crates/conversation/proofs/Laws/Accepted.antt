@@ -20,7 +20,7 @@ use Rattle.session.specs.PhaseOne.{Buffers, commandIn, payloadIn, decided, appl
 use Rattle.session.specs.Phases.{turnOne, phaseAfter}
 use Rattle.session.specs.Views.{Kind, viewOf, rowsOf}
 use Rattle.session.specs.declared.phases.Phase.{Phase}
-use Rattle.session.specs.declared.phases.Phase.the-variants.{One, Two, Ended, Closed}
+use Rattle.session.specs.declared.phases.Phase.the-variants.{One, Two, Awaiting, Ended, Closed}
 use Rattle.session.proofs.Laws.PhaseOne.{accepted-one}
 use Rattle.session.proofs.Laws.Views.{Reached, applied-view, first-zero}
 use Rattle.conversation.specs.Session.{Session, moved}
@@ -39,6 +39,7 @@ pub record Applied (s : Session) (b : Buffers) (line body : List ℕ) (after : S
 turn-one : (p : Phase) → turnOne p ≡ 0 → p ≡ One
 turn-one One h = refl
 turn-one Two h = absurd (omega arith)
+turn-one (Awaiting w) h = absurd (omega arith)
 turn-one Ended h = absurd (omega arith)
 turn-one Closed h = absurd (omega arith)
 

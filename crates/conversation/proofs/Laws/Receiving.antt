@@ -12,7 +12,7 @@ use Rattle.session.specs.PhaseOne.{Tables, Buffers, buffersOf, applied, filledB
 use Rattle.session.specs.Phases.{turnOne, closes, phaseAfter, phaseRefused, phaseReceived}
 use Rattle.session.specs.declared.commands.Machine.{Machine}
 use Rattle.session.specs.declared.phases.Phase.{Phase}
-use Rattle.session.specs.declared.phases.Phase.the-variants.{One, Two, Ended, Closed}
+use Rattle.session.specs.declared.phases.Phase.the-variants.{One, Two, Awaiting, Ended, Closed}
 use Rattle.conversation.specs.Session.{Session, closed}
 use Rattle.conversation.specs.Receiving.{Taking, took, declined, answerOf, Received, receivedStanza, receivedAs, received, refusedReceipt}
 
@@ -70,6 +70,7 @@ module _ (m : Machine) (g : List ℕ) (x : Bool) (t : Tables) (b : Buffers) wher
 pub turn-first : (p : Phase) → turnOne p ≡ 0 → p ≡ One
 turn-first One e = refl
 turn-first Two e = absurd (omega arith)
+turn-first (Awaiting w) e = absurd (omega arith)
 turn-first Ended e = absurd (omega arith)
 turn-first Closed e = absurd (omega arith)
 
@@ -77,6 +78,7 @@ turn-first Closed e = absurd (omega arith)
 turn-keeps : (p : Phase) → eqb (turnOne p) 0 ≡ false → closes (turnOne p) ≡ false
 turn-keeps One e = absurd (false≢true (sym e))
 turn-keeps Two e = refl
+turn-keeps (Awaiting w) e = refl
 turn-keeps Ended e = refl
 turn-keeps Closed e = refl
 

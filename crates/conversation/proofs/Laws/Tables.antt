@@ -67,7 +67,7 @@ tables-opened k machine name screen b cs = tables-from-empty k (opened machine n
 -- a kind's count is the number of its rows, whatever the buffers
 pub count-rows : (k : Kind) (s : Session) (b : Buffers) → ReachedSession s → tableOf k (s .tables) .count ≡ length (viewOf k (s .tables) b)
 unfolding Reached
-count-rows k s b r = sym (view-count (tableOf k (s .tables)) (bufferOf k b) (r .tables k))
+count-rows k s b r = sym (view-count (tableOf k (s .tables)) (bufferOf k b) (r .tables k .kept-so))
 
 -- so a kind's count grows by the number of its accepted commands
 pub count-after : (k : Kind) (s : Session) (b : Buffers) (cs : List Call) → ReachedSession s → tableOf k (after s b cs .session .tables) .count ≡ tableOf k (s .tables) .count + length (acceptedRows k s b cs)

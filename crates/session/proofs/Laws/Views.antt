@@ -21,18 +21,18 @@ use Rattle.tables.specs.Tables.{Table, fits, entered, kept, view}
 use Rattle.session.specs.declared.commands.Machine.{Machine}
 use Rattle.session.specs.PhaseOne.{Tables, Buffers, openedTables, falls, decided, applied, filledBy, firstOf, commandIn, payloadIn, numberOne, tablesOne, buffersOne}
 use Rattle.session.specs.Views.{Kind, recipients, identities, keys, headers, tableOf, viewOf, rowsOf}
-use Rattle.tables.proofs.Laws.Tables.{Kept, opened-kept, entered-kept, entered-view}
+use Rattle.tables.proofs.Laws.Tables.{Kept, Filled, opened-filled, entered-filled, entered-view}
 
 -- tables that an opening and calls can reach
 unfoldable pub Reached : Tables → Type 0
-Reached t = (k : Kind) → Kept (tableOf k t)
+Reached t = (k : Kind) → Filled (tableOf k t)
 
 pub opened-reached : Reached openedTables
 unfolding Reached
-opened-reached recipients = opened-kept 64
-opened-reached identities = opened-kept 64
-opened-reached keys = opened-kept 64
-opened-reached headers = opened-kept 256
+opened-reached recipients = opened-filled 64
+opened-reached identities = opened-filled 64
+opened-reached keys = opened-filled 64
+opened-reached headers = opened-filled 256
 
 -- the payload of a command that makes an entry is not empty
 abbrev pub Stored : Command → List ℕ → Type 0
@@ -47,22 +47,22 @@ Stored (bad n) p = Unit
 -- commands keep them so
 pub applied-reached : (t : Tables) (b : Buffers) (c : Command) (p : List ℕ) → Stored c p → Reached t → Reached (applied t b c p)
 unfolding Reached
-applied-reached t b (recipient m) p h r recipients = entered-kept (t .recipients) (length p) 0 m (length (b .recipients)) (r recipients) h
+applied-reached t b (recipient m) p h r recipients = entered-filled (t .recipients) (length p) 0 m (length (b .recipients)) (r recipients) h
 applied-reached t b (recipient m) p h r identities = r identities
 applied-reached t b (recipient m) p h r keys = r keys
 applied-reached t b (recipient m) p h r headers = r headers
 applied-reached t b (identity m) p h r recipients = r recipients
-applied-reached t b (identity m) p h r identities = entered-kept (t .identities) (length p) 0 m (length (b .identities)) (r identities) h
+applied-reached t b (identity m) p h r identities = entered-filled (t .identities) (length p) 0 m (length (b .identities)) (r identities) h
 applied-reached t b (identity m) p h r keys = r keys
 applied-reached t b (identity m) p h r headers = r headers
 applied-reached t b key p h r recipients = r recipients
 applied-reached t b key p h r identities = r identities
-applied-reached t b key p h r keys = entered-kept (t .keys) (length p) 0 0 (length (b .keys)) (r keys) h
+applied-reached t b key p h r keys = entered-filled (t .keys) (length p) 0 0 (length (b .keys)) (r keys) h
 applied-reached t b key p h r headers = r headers
 applied-reached t b (header i m) p h r recipients = r recipients
 applied-reached t b (header i m) p h r identities = r identities
 applied-reached t b (header i m) p h r keys = r keys
-applied-reached t b (header i m) p h r headers = entered-kept (t .headers) (length p) i m (length (b .headers)) (r headers) h
+applied-reached t b (header i m) p h r headers = entered-filled (t .headers) (length p) i m (length (b .headers)) (r headers) h
 applied-reached t b done p h r k = r k
 applied-reached t b other p h r k = r k
 applied-reached t b (bad n) p h r k = r k
@@ -87,7 +87,7 @@ module _ (t : Tables) (b : Buffers) (p : List ℕ) (r : Reached t) where
 
   kept-of : (k : Kind) → Kept (tableOf k t)
   unfolding Reached
-  kept-of k = r k
+  kept-of k = r k .kept-so
 
   pub applied-view : (c : Command) → decided t b c (length p) ≡ 0 → (k : Kind) → viewOf k (applied t b c p) (filledBy t b c p) ≡ viewOf k t b ++ rowsOf c k p
   applied-view (recipient m) h recipients = own (t .recipients) p (b .recipients) 0 m (kept-of recipients) (space (fits (t .recipients) (length p) (length (b .recipients))) h)

@@ -11,7 +11,7 @@ use borrow.Author.Tests.{lt-ltb, le-ltb, le-leb, lt-leb}
 use Rattle.tables.specs.Tables.{Table, empty, rowOf, view, found, partOf, shown}
 use Rattle.tables.specs.declared.tables.Entry.{Entry}
 use Rattle.tables.specs.declared.tables.Found.the-variants as the
-use Rattle.tables.proofs.Laws.Tables.{AllSome, Kept}
+use Rattle.tables.proofs.Laws.Tables.{AllSome, Kept, Filled}
 
 -- ---- the entry of a number
 
@@ -52,7 +52,6 @@ some-at (e ∷ es) (suc n) a h = some-at es n (a .1) (omega arith)
 -- below the count there is an entry: its row is the view's of that number, and its part of a buffer that is long enough for it is that row's payload
 pub record Looked (t : Table) (buffer : List ℕ) (n : ℕ) : Type 0 where
   pub there : found t n ≡ the.Entry (slotOf t n)
-  pub some : 0 < slotOf t n .length
   pub row : getD (view t buffer) n (rowOf buffer empty) ≡ rowOf buffer (slotOf t n)
   pub part : slotOf t n .start + slotOf t n .length ≤ length buffer → shown (found t n) buffer ≡ getD (view t buffer) n (rowOf buffer empty) .payload
 
@@ -64,10 +63,16 @@ looked t buffer n k h =
     let r : getD (view t buffer) n (rowOf buffer empty) ≡ rowOf buffer (slotOf t n) = List·getD-map (rowOf buffer) es n empty ∙ ap (rowOf buffer) g in
     record {
       there = f;
-      some = subst (λ e. 0 < e .length) g (some-at es n (k .some) (omega (arith, length-take-le (t .count) (t .slots) (omega (arith, k .counted, k .wide)))));
       row = r;
       part = λ l. ap (λ x. shown x buffer) f ∙ rw (le-leb (slotOf t n .start + slotOf t n .length) (length buffer) l) (sym (ap (λ x. x .payload) r));
     }
+
+-- where no payload is empty, its payload is not
+looked-some : (t : Table) (n : ℕ) → Filled t → n < t .count → 0 < slotOf t n .length
+looked-some t n k h =
+    let es = take (t .count) (t .slots) in
+    let l = length-take-le (t .count) (t .slots) (omega (arith, k .kept-so .counted, k .kept-so .wide)) in
+    subst (λ e. 0 < e .length) (getD-take (t .count) (t .slots) n empty h) (some-at es n (k .some) (omega arith))
 
 -- a part that is not of length 0 is empty exactly if the buffer is too short for it
 part-empty : (start n : ℕ) (b : List ℕ) → 0 < n → (partOf start n b ≡ []) ↔ (length b < start + n)
@@ -77,12 +82,12 @@ part-empty start n b s = (λ e. elim (decLt (length b) (start + n)) [ yes h ↦ 
     long h = rw (le-leb (start + n) (length b) h) (simp (length-take, length-drop) (omega arith))
 
 -- what is shown is empty exactly if there is no entry of that number or the buffer is too short for it
-pub shown-empty : (t : Table) (buffer : List ℕ) (n : ℕ) → Kept t → (shown (found t n) buffer ≡ []) ↔ ((t .count ≤ n) ⊎ (length buffer < slotOf t n .start + slotOf t n .length))
+pub shown-empty : (t : Table) (buffer : List ℕ) (n : ℕ) → Filled t → (shown (found t n) buffer ≡ []) ↔ ((t .count ≤ n) ⊎ (length buffer < slotOf t n .start + slotOf t n .length))
 shown-empty t buffer n k =
     elim (decLt n (t .count)) [
       | yes h ↦
-          let w = looked t buffer n k h in
-          let p = part-empty (slotOf t n .start) (slotOf t n .length) buffer (w .some) in
+          let w = looked t buffer n (k .kept-so) h in
+          let p = part-empty (slotOf t n .start) (slotOf t n .length) buffer (looked-some t n k h) in
           (λ e. inr (p .0 (ap (λ x. shown x buffer) (sym (w .there)) ∙ e)), λ o. ap (λ x. shown x buffer) (w .there) ∙ p .1 (⊎-elim (λ l. absurd (omega arith)) (λ l. l) o))
       | no h ↦ (λ e. inl (omega arith), λ o. ap (λ x. shown x buffer) (sym (find-none t n (omega arith))))
     ]

@@ -49,13 +49,21 @@ pub record Kept (t : Table) : Type 0 where
   pub counted : t .count ≤ t .width
   pub wide : length (t .slots) ≡ t .width
   pub chained : Chained 0 (take (t .count) (t .slots)) (t .used)
-  pub some : AllSome (take (t .count) (t .slots))
   pub rest : drop (t .count) (t .slots) ≡ replicate (t .width - t .count) empty
+
+-- the same with no empty payload: every kind but errors, whose messages may be empty
+pub record Filled (t : Table) : Type 0 where
+  pub kept-so : Kept t
+  pub some : AllSome (take (t .count) (t .slots))
 
 -- an opened table is one, and shows nothing
 pub opened-kept : (n : ℕ) → Kept (opened n)
-unfolding Chained AllSome
-opened-kept n = record { counted = omega arith; wide = length-replicate n empty; chained = refl; some = tt; rest = ap (λ k. replicate k empty) (sym (sub-zero n)) }
+unfolding Chained
+opened-kept n = record { counted = omega arith; wide = length-replicate n empty; chained = refl; rest = ap (λ k. replicate k empty) (sym (sub-zero n)) }
+
+pub opened-filled : (n : ℕ) → Filled (opened n)
+unfolding AllSome
+opened-filled n = record { kept-so = opened-kept n; some = tt }
 
 pub opened-view : (n : ℕ) (buffer : List ℕ) → view (opened n) buffer ≡ []
 opened-view n buffer = refl
@@ -83,17 +91,21 @@ slots-more t e k h =
     let n : t .count + 1 ≡ suc (t .count) = omega arith in
     ap (λ j. take j (set (t .slots) (t .count) e)) n ∙ take-suc-set (t .slots) (t .count) e (omega (arith, k .wide))
 
-pub appended-kept : (t : Table) (n index mark : ℕ) → Kept t → 0 < n → t .count < t .width → Kept (appended t n index mark)
-appended-kept t n index mark k g h =
+pub appended-kept : (t : Table) (n index mark : ℕ) → Kept t → t .count < t .width → Kept (appended t n index mark)
+appended-kept t n index mark k h =
     let e : Entry = record { start = t .used; length = n; index = index; mark = mark } in
     let w : t .width - t .count ≡ suc (t .width - (t .count + 1)) = omega arith in
     record {
       counted = omega arith;
       wide = length-set (t .slots) (t .count) e ∙ k .wide;
       chained = subst (λ l. Chained 0 l (t .used + n)) (sym (slots-more t e k h)) (chain-more (take (t .count) (t .slots)) e 0 (t .used) (k .chained) refl);
-      some = subst AllSome (sym (slots-more t e k h)) (some-more (take (t .count) (t .slots)) e (k .some) g);
       rest = drop-set-lt (t .count + 1) (t .slots) (t .count) e (omega arith) ∙ sym (drop-drop 1 (t .count) (t .slots)) ∙ ap (drop 1) (k .rest ∙ ap (λ j. replicate j empty) w);
     }
+
+appended-filled : (t : Table) (n index mark : ℕ) → Filled t → 0 < n → t .count < t .width → Filled (appended t n index mark)
+appended-filled t n index mark k g h =
+    let e : Entry = record { start = t .used; length = n; index = index; mark = mark } in
+    record { kept-so = appended-kept t n index mark (k .kept-so) h; some = subst AllSome (sym (slots-more t e (k .kept-so) h)) (some-more (take (t .count) (t .slots)) e (k .some) g) }
 
 -- what lies before u is not touched by what is written from u on
 part-same : (s l u : ℕ) (b x : List ℕ) → s + l ≤ u → u ≤ length b → take l (drop s (take u b ++ x)) ≡ take l (drop s b)
@@ -141,8 +153,11 @@ pub entered-view : (t : Table) (p b : List ℕ) (index mark : ℕ) → Kept t �
     view (entered t (length p) index mark (length b)) (kept t p b) ≡ pick (fits t (length p) (length b)) (view t b ++ (record { payload = p; index = index; mark = mark } ∷ [])) (view t b)
 entered-view t p b index mark k = cases (fits t (length p) (length b)) (λ f. rw f (appended-view t p b index mark k f)) (λ f. rw f)
 
-pub entered-kept : (t : Table) (n index mark capacity : ℕ) → Kept t → 0 < n → Kept (entered t n index mark capacity)
-entered-kept t n index mark capacity k g =
-    cases (fits t n capacity)
-    (λ f. rw f (appended-kept t n index mark k g (ltb-true (t .count) (t .width) (and-true (ltb (t .count) (t .width)) (leb (t .used + n) capacity) f .0))))
-    (λ f. rw f k)
+entered-slot : (t : Table) (n capacity : ℕ) → fits t n capacity ≡ true → t .count < t .width
+entered-slot t n capacity f = ltb-true (t .count) (t .width) (and-true (ltb (t .count) (t .width)) (leb (t .used + n) capacity) f .0)
+
+pub entered-kept : (t : Table) (n index mark capacity : ℕ) → Kept t → Kept (entered t n index mark capacity)
+entered-kept t n index mark capacity k = cases (fits t n capacity) (λ f. rw f (appended-kept t n index mark k (entered-slot t n capacity f))) (λ f. rw f k)
+
+pub entered-filled : (t : Table) (n index mark capacity : ℕ) → Filled t → 0 < n → Filled (entered t n index mark capacity)
+entered-filled t n index mark capacity k g = cases (fits t n capacity) (λ f. rw f (appended-filled t n index mark k g (entered-slot t n capacity f))) (λ f. rw f k)

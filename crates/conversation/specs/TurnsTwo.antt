@@ -1,0 +1,26 @@
+-- Whose turn it is in phase two (document 01, "Numbers given back": 13, 14).
+use Prim.Native.Nat.{ℕ}
+use Rattle.session.specs.declared.phases.Phase.{Phase}
+use Rattle.session.specs.declared.phases.Phase.the-variants.{One, Two, Awaiting, Ended, Closed}
+use Rattle.conversation.specs.CommandsTwo.{other}
+use Rattle.conversation.specs.Session.{Session, moved, closed}
+
+-- a command: No. 13, the session is closed or has ended; No. 14, a call of the other phase, or a command while an answer is due
+abbrev pub turnTwo : Phase → ℕ
+turnTwo One = 14
+turnTwo Two = 0
+turnTwo (Awaiting w) = 14
+turnTwo Ended = 13
+turnTwo Closed = 13
+
+-- a host's reply, or a response: No. 13; No. 14, an answer while none is due
+abbrev pub turnAnswer : Phase → ℕ
+turnAnswer One = 14
+turnAnswer Two = 14
+turnAnswer (Awaiting w) = 0
+turnAnswer Ended = 13
+turnAnswer Closed = 13
+
+-- the session, its tables as they were, with the answer given
+abbrev pub answered : Session → Session
+answered s = moved s Two (s .tables)

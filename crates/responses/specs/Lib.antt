@@ -1,0 +1,2 @@
+-- Responses.
+pub mod Responses
