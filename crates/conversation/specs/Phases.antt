@@ -3,6 +3,7 @@ use Prim.Native.Nat.{ℕ, _+_, _≤_}
 use mathlib.Core.Path.{_≡_}
 use mathlib.Core.Bool.{Bool, true, false, not, _||_}
 use mathlib.Core.List.{List, [], _∷_, _++_, map, List·Permᴰ}
+use mathlib.Core.Logic.{_↔_}
 use lib.Dec.{eqb}
 use lib.ListN.{length}
 use Rattle.refusal.specs.Pick.{pick}
@@ -18,7 +19,7 @@ use Rattle.session.specs.Commands.{Word, add-recipient, add-identity, wrap-file
 use Rattle.session.specs.PhaseOne as one
 use Rattle.session.specs.Views as one-kind
 use Rattle.session.specs.declared.commands.Machine.{Machine}
-use Rattle.conversation.specs.Calls.{Call, receive, send, receive-two, reply, send-two, respond, isClient, outcome, outputIn, writtenBy, State, stateOf, after, written, lineRead, bodyRead}
+use Rattle.conversation.specs.Calls.{Call, receive, send, receive-two, reply, send-two, respond, isClient, outcome, outputIn, writtenBy, State, after, written, lineRead, bodyRead, Accepted}
 use Rattle.conversation.specs.CommandsTwo as two-command
 use Rattle.conversation.specs.CommandsTwo.{CommandTwo}
 use Rattle.conversation.specs.Kinds.{Kind, first, second, Buffers, viewOf, ofFile}
@@ -306,3 +307,13 @@ pub record SameTables (x y : State) : Type 0 where
   pub errors : viewOf (second two.errors) (x .session .tables) (x .buffers) ≡ viewOf (second two.errors) (y .session .tables) (y .buffers)
   pub stanzas : (f : ℕ) → ofFile f (viewOf (second two.stanzas) (x .session .tables) (x .buffers)) ≡ ofFile f (viewOf (second two.stanzas) (y .session .tables) (y .buffers))
   pub returned : (f : ℕ) → ofFile f (viewOf (second two.returned) (x .session .tables) (x .buffers)) ≡ ofFile f (viewOf (second two.returned) (y .session .tables) (y .buffers))
+
+-- what two rearrangements come to: both are accepted or both refused; and where they are accepted their tables are equal, and what each block's calls write is one
+-- function of settings and block, so equal blocks are answered alike wherever they stand
+pub record SameOutcome (part : Part) (x y : State) (p q : Phase) (outs outs′ : Supply) : Type 0 where
+  pub accepted : Accepted (x .session) (x .buffers) (callsOf part outs (blocksOf p)) ↔ Accepted (y .session) (y .buffers) (callsOf part outs′ (blocksOf q))
+  pub tables : Accepted (x .session) (x .buffers) (callsOf part outs (blocksOf p)) →
+      SameTables (after (x .session) (x .buffers) (callsOf part outs (blocksOf p))) (after (y .session) (y .buffers) (callsOf part outs′ (blocksOf q)))
+  pub responses : Accepted (x .session) (x .buffers) (callsOf part outs (blocksOf p)) →
+      (writtenIn part (x .session) (x .buffers) outs (blocksOf p) ≡ map (responsesTo part (x .session .machine) (x .session .screen)) (blocksOf p))
+      × (writtenIn part (y .session) (y .buffers) outs′ (blocksOf q) ≡ map (responsesTo part (x .session .machine) (x .session .screen)) (blocksOf q))
