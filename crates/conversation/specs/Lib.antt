@@ -11,5 +11,6 @@ pub mod Replying
 pub mod SendingTwo
 pub mod Responding
 pub mod Calls
+pub mod Answers
 pub mod Phases
 pub mod Allowed
