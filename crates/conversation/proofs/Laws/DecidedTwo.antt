@@ -1,0 +1,112 @@
+-- The decision of phase two, test by test: it finds no fault exactly if the command is right, what it names is there, and the sums of the tables with what it adds
+-- keep the limits.
+use Prim.Native.Nat.{ℕ, zero, suc, _+_, _<_, _≤_}
+use mathlib.Core.Path.{_≡_, refl, sym, ap, ap₂, _∙_, subst}
+use mathlib.Core.Bool.{Bool, true, false, not, _&&_, _||_, true≢false, false≢true}
+use mathlib.Core.Logic.{_⊎_, inl, inr, ⊎-elim, _↔_}
+use mathlib.Core.List.{List, [], _∷_, _++_, map, map-append}
+use lib.Dec.{ltb, leb, eqb}
+use lib.ListN.{length, take}
+use native.Mathlib.Omega.{arith}
+use borrow.Author.Tests.{ltb-true, ltb-false, leb-true, leb-false, lt-ltb, le-ltb, le-leb, lt-leb, eqb-true, eqb-false, eq-eqb}
+use Rattle.refusal.specs.Pick.{pick}
+use Rattle.refusal.proofs.Laws.Booleans.{and-true, true-and, cases}
+use Rattle.tables.specs.declared.tables.Entry.{Entry}
+use Rattle.tables.specs.Tables.{Table, Row, fits, entered, rowOf, view, kept, appended}
+use Rattle.tables.proofs.Laws.Tables.{Kept, appended-view, view-count, entered-view}
+use Rattle.session.specs.PhaseOne.{Tables, firstOf}
+use Rattle.conversation.specs.CommandsTwo.{Named, internal, identity, recipient, header, CommandTwo, ask, stanza, key, error, done, other, bad}
+use Rattle.conversation.specs.PhaseTwo.{Kind, errors, stanzas, returned, Buffers, tableOf, bufferOf, viewOf, Label, labelOf, labels, howMany, isAny, passes, isFile, namesFile, belongs, stanzasFor, mostStanzas, hasKey, markOf, indexOf, isAbout, hasErrorFor, isMissing, isSecondKey, isTooMany, isAgainstKey, isClashing, isSpaceless, isHeldBack, when, faultOf, decided, applied, filledBy, rowsOf}
+use Rattle.conversation.specs.Allowed.{isRightTwo, isKeyFor, isErrorFor, isKind, Said, Sum, keys-for, stanzas-for, errors-for, entries, bytes, weight, slotsTwo, Limits}
+use Rattle.conversation.specs.Phases.{isStanzaFor}
+
+-- ---- the first fault
+
+pub first-iff : (n late : ℕ) → (firstOf n late ≡ 0) ↔ ((n ≡ 0) × (late ≡ 0))
+first-iff n late = cases (eqb n 0) (λ e. let z = eqb-true n 0 e in (λ h. (z, rw e at h), λ h. rw e (h .1))) (λ e. (λ h. absurd (eqb-false n 0 e (rw e at h)), λ h. absurd (eqb-false n 0 e (h .0))))
+
+when-iff : (f : Bool) (n : ℕ) → 0 < n → (when f n ≡ 0) ↔ (f ≡ false)
+when-iff true n h = (λ e. absurd (omega arith), λ e. absurd (true≢false e))
+when-iff false n h = (λ e. refl, λ e. refl)
+
+test-iff : (f : Bool) (n late : ℕ) → 0 < n → (firstOf (when f n) late ≡ 0) ↔ ((f ≡ false) × (late ≡ 0))
+test-iff f n late h =
+    let a = first-iff (when f n) late in
+    let w = when-iff f n h in
+    (λ e. (w .0 (a .0 e .0), a .0 e .1), λ e. a .1 (w .1 (e .0), e .1))
+
+-- no test finds a fault
+pub record Faultless (own : Bool) (t : Tables) (b : Buffers) (c : CommandTwo) (n : ℕ) : Type 0 where
+  pub right : faultOf c ≡ 0
+  pub there : isMissing t c ≡ false
+  pub first-key : isSecondKey t c ≡ false
+  pub few : isTooMany t c ≡ false
+  pub apart : isClashing t c ≡ false
+  pub unheld : (own && isHeldBack t c) ≡ false
+  pub space : isSpaceless t b c n ≡ false
+
+pub decided-iff : (own : Bool) (t : Tables) (b : Buffers) (c : CommandTwo) (n : ℕ) → (decided own t b c n ≡ 0) ↔ Faultless own t b c n
+unfolding decided
+decided-iff own t b c n = (to, from)
+  where
+    to : decided own t b c n ≡ 0 → Faultless own t b c n
+    to h =
+        let a = first-iff (faultOf c) _ .0 h in
+        let a6 = test-iff (isMissing t c) 6 _ (omega arith) .0 (a .1) in
+        let a9 = test-iff (isSecondKey t c) 9 _ (omega arith) .0 (a6 .1) in
+        let a10 = test-iff (isTooMany t c) 10 _ (omega arith) .0 (a9 .1) in
+        let a11 = test-iff (isClashing t c) 11 _ (omega arith) .0 (a10 .1) in
+        let a19 = test-iff (own && isHeldBack t c) 19 _ (omega arith) .0 (a11 .1) in
+        record { right = a .0; there = a6 .0; first-key = a9 .0; few = a10 .0; apart = a11 .0; unheld = a19 .0; space = when-iff (isSpaceless t b c n) 8 (omega arith) .0 (a19 .1) }
+
+    from : Faultless own t b c n → decided own t b c n ≡ 0
+    from f =
+        first-iff (faultOf c) _ .1 (f .right,
+        test-iff (isMissing t c) 6 _ (omega arith) .1 (f .there,
+        test-iff (isSecondKey t c) 9 _ (omega arith) .1 (f .first-key,
+        test-iff (isTooMany t c) 10 _ (omega arith) .1 (f .few,
+        test-iff (isClashing t c) 11 _ (omega arith) .1 (f .apart,
+        test-iff (own && isHeldBack t c) 19 _ (omega arith) .1 (f .unheld, when-iff (isSpaceless t b c n) 8 (omega arith) .1 (f .space)))))))
+
+-- ---- labels: what is kept of an entry beside its payload is shown by its row
+
+-- of a row
+abbrev pub rowLabel : Row → Label
+rowLabel r = record { index = r .index; mark = r .mark }
+
+-- of rows
+abbrev pub rowLabels : List Row → List Label
+rowLabels rs = map rowLabel rs
+
+entry-labels : (es : List Entry) (b : List ℕ) → map labelOf es ≡ rowLabels (map (rowOf b) es)
+entry-labels [] b = refl
+entry-labels (e ∷ es) b = ap (λ l. labelOf e ∷ l) (entry-labels es b)
+
+-- whatever the buffer
+pub labels-view : (t : Table) (b : List ℕ) → labels t ≡ rowLabels (view t b)
+labels-view t b = entry-labels (take (t .count) (t .slots)) b
+
+-- one entry more
+pub labels-more : (t : Table) (p b : List ℕ) (index mark : ℕ) → Kept t → fits t (length p) (length b) ≡ true →
+    labels (entered t (length p) index mark (length b)) ≡ labels t ++ (record { index = index; mark = mark } ∷ [])
+labels-more t p b index mark k f =
+    labels-view (entered t (length p) index mark (length b)) (kept t p b)
+    ∙ ap rowLabels (entered-view t p b index mark k ∙ ap (λ x. pick x (view t b ++ (record { payload = p; index = index; mark = mark } ∷ [])) (view t b)) f)
+    ∙ map-append rowLabel (view t b) _
+    ∙ ap (λ l. l ++ (record { index = index; mark = mark } ∷ [])) (sym (labels-view t b))
+
+pub many-append : (q : Label → Bool) (a b : List Label) → howMany q (a ++ b) ≡ howMany q a + howMany q b
+unfolding howMany
+many-append q [] b = omega arith
+many-append q (l ∷ a) b = omega (arith, many-append q a b)
+
+pub many-one : (q : Label → Bool) (l : Label) → howMany q (l ∷ []) ≡ pick (q l) 1 0
+unfolding howMany
+many-one q l = omega arith
+
+-- the label of a number that is of one file is of another file exactly if they are the same
+pub passes-file : (ls : List Label) (f g i : ℕ) → passes (isFile f) ls i ≡ true → passes (isFile g) ls i ≡ eqb f g
+unfolding passes
+passes-file [] f g i e = absurd (false≢true e)
+passes-file (l ∷ ls) f g zero e = ap (λ j. eqb j g) (eqb-true (l .index) f e)
+passes-file (l ∷ ls) f g (suc i) e = passes-file ls f g i e
