@@ -4,6 +4,7 @@ pub mod Agreement
 pub mod Allowed
 pub mod Examples
 pub mod Limits
+pub mod Lists
 pub mod Order
 pub mod Reached
 pub mod Receiving
