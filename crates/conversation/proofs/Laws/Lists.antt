@@ -1,6 +1,6 @@
 -- Lists of anything: a property of each member, the members that a test keeps, the sum of a weight over them, and what a permutation keeps.
 use Prim.Native.Nat.{ℕ, _+_, _≤_}
-use mathlib.Core.Path.{_≡_, refl, sym, ap, ap₂, _∙_, subst, fun-ext}
+use mathlib.Core.Path.{_≡_, refl, ap, _∙_, subst, fun-ext}
 use mathlib.Core.Bool.{Bool, true, false, _&&_}
 use mathlib.Core.Logic.{_↔_}
 use mathlib.Core.List.{List, [], _∷_, _++_, map, append-nil, append-assoc, List·Permᴰ, List·Permᴰ·nil, List·Permᴰ·cons, List·Permᴰ·swap, List·Permᴰ·trans}
@@ -76,11 +76,6 @@ module _ {X : Type 0} (w : X → ℕ) where
   sum-permuted (List·Permᴰ·cons e d) = omega (arith, ap w e, sum-permuted d)
   sum-permuted (List·Permᴰ·swap e₁ e₂) = omega (arith, ap w e₁, ap w e₂)
   sum-permuted (List·Permᴰ·trans d₁ d₂) = sum-permuted d₁ ∙ sum-permuted d₂
-
-  sum-pick : (x : X) (f : Bool) → sumOf w (pick f (x ∷ []) []) ≡ pick f (w x) 0
-  unfolding sumOf
-  sum-pick x true = omega arith
-  sum-pick x false = refl
 
   -- over those kept, where the others weigh nothing
   pub sum-kept : (test : X → Bool) → ((x : X) → test x ≡ false → w x ≡ 0) → (xs : List X) → sumOf w xs ≡ sumOf w (keep test xs)

@@ -6,7 +6,7 @@ use mathlib.Core.Logic.{_↔_}
 use mathlib.Core.List.{List, [], _∷_, _++_, map, map-append, append-assoc, Permᴰ·symm}
 use lib.ListN.{length}
 use Rattle.refusal.specs.Pick.{pick}
-use Rattle.tables.specs.Tables.{Row, view}
+use Rattle.tables.specs.Tables.{view}
 use Rattle.session.specs.declared.commands.Machine.{Machine}
 use Rattle.session.specs.Commands.{Word, add-recipient, add-identity, wrap-file-key, recipient-stanza, done-word, other-word, wordIn, rowCommand}
 use Rattle.session.specs.PhaseOne.{Buffers as OneBuffers, buffersOf, openedTables}
@@ -15,7 +15,7 @@ use Rattle.conversation.specs.Session.{Session, openedSession}
 use Rattle.conversation.specs.Kinds.{Buffers, second, viewOf, ofFile}
 use Rattle.conversation.specs.PhaseTwo as two
 use Rattle.conversation.specs.Calls.{receive, outcome, written, State, stateOf, after, Accepted}
-use Rattle.conversation.specs.Phases.{All, keep, lineIn, bodyIn, wordOf, isNamed, commandOf, rowsFrom, isOf, one-part, Block, Phase, blocksOf, Quiet, IsPhase, Supply, skip, replyCalls, callsOf, writtenIn, responsesTo, Starts, SameLengths, SameStart, isKept, of-kind, isIn, Rearranged, SameTables, SameOutcome}
+use Rattle.conversation.specs.Phases.{All, keep, lineIn, bodyIn, wordOf, isNamed, commandOf, rowsFrom, isOf, one-part, Block, Phase, blocksOf, Quiet, IsPhase, Supply, skip, replyCalls, callsOf, writtenIn, responsesTo, Starts, SameLengths, SameStart, isKept, of-kind, isIn, Rearranged, SameOutcome}
 use Rattle.conversation.specs.Allowed.{isRight, rowsIn, slotsOf, bytesOf, Rising, Allowed}
 use Rattle.conversation.proofs.Laws.Lists.{all-append, all-permuted, all-kept, all-map, keep-map}
 use Rattle.conversation.proofs.Laws.Limits.{grown-rows}
