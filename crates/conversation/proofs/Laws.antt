@@ -1,10 +1,11 @@
 -- What is shown of calls and lists of calls.
 pub mod Accepted
 pub mod Agreement
-pub mod Allowed
+pub mod AllowedOne
 pub mod Examples
 pub mod Limits
-pub mod Order
+pub mod Lists
+pub mod OrderOne
 pub mod Reached
 pub mod Receiving
 pub mod Refusals

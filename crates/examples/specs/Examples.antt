@@ -11,9 +11,11 @@ use Rattle.stanza.specs.Grammar.{stanzaText}
 use Rattle.stanza.specs.Index as index
 use Rattle.stanza.specs.Reading.{Reading, stanza, refused, readFirst}
 use Rattle.session.specs.Commands.{recipientStanza}
-use Rattle.session.specs.PhaseOne.{Buffers, buffersOf}
+use Rattle.session.specs.PhaseOne as one
 use Rattle.session.specs.declared.commands.Machine.the-variants.{IdentityV1}
 use Rattle.conversation.specs.Calls.{Call, receive, numbers}
+use Rattle.conversation.specs.Kinds.{Buffers, buffersOf}
+use Rattle.conversation.specs.PhaseTwo as two
 use Rattle.conversation.specs.Session.{openedSession}
 
 -- an example: a text is read so; arguments and a body make so many bytes; so many body bytes make a line of so many characters and then these
@@ -31,7 +33,7 @@ headerOf file = receive (stanzaText (recipientStanza ++ 32 ∷ index.decimal fil
 
 -- space for header stanzas alone
 abbrev pub buffers : Buffers
-buffers = buffersOf [] [] [] (replicate 16 0)
+buffers = buffersOf (one.buffersOf [] [] [] (replicate 16 0)) (two.buffersOf [] [] [])
 
 -- what the definitions say of it
 abbrev pub Holds : Row → Type 0

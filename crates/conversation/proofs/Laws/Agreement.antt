@@ -2,16 +2,15 @@
 use Prim.Native.Nat.{ℕ, _+_, _≤_}
 use mathlib.Core.Path.{_≡_, refl, sym, ap, ap₂, _∙_, subst}
 use mathlib.Core.Bool.{Bool, true, false}
-use mathlib.Core.List.{List, _++_}
+use mathlib.Core.List.{List, [], _++_}
 use lib.Dec.{eqb, leb, ltb}
 use lib.ListN.{length, take, drop, take-append-drop}
 use lib.Pow.{areBytes}
 use lib.Seq.{take-append-seam}
-use native.Mathlib.Omega.{arith}
-use borrow.Author.Tests.{eqb-true, eqb-false, eq-eqb, le-leb}
-use Rattle.refusal.specs.Output.{bytes, overflows}
+use borrow.Author.Tests.{eq-eqb, le-leb}
+use Rattle.refusal.specs.Output.{bytes, overflows, filled}
 use Rattle.refusal.specs.Pick.{pick}
-use Rattle.refusal.proofs.Laws.Booleans.{cases, and-true, true-and}
+use Rattle.refusal.proofs.Laws.Booleans.{and-true, true-and}
 use Rattle.stanza.specs.Arguments.{isLine}
 use Rattle.stanza.specs.Grammar.{stanzaText}
 use Rattle.stanza.specs.Reading.{readFirst}
@@ -26,9 +25,11 @@ use Rattle.session.specs.declared.phases.Phase.the-variants.{One}
 use Rattle.session.proofs.Laws.Views.{Reached, space, header-space}
 use Rattle.conversation.specs.Session.{Session}
 use Rattle.conversation.specs.Receiving.{took, Received, refusedReceipt, receivedStanza, receivedAs, received}
-use Rattle.conversation.specs.Sending.{Sent, shortness, sentStanza, sentLine, sent}
-use Rattle.conversation.specs.Calls.{sentNumber, send}
-use Rattle.conversation.proofs.Laws.Accepted.{Applied, applied-rows, branch, one-applied, accepted}
+use Rattle.conversation.specs.Sending.{Sent, sent}
+use Rattle.conversation.specs.Kinds as kinds
+use Rattle.conversation.specs.PhaseTwo as two
+use Rattle.conversation.specs.Calls.{sentNumber, sentSize, sentOutcome, send}
+use Rattle.conversation.proofs.Laws.Accepted.{Applied, AppliedOne, applied-rows, one-applied, accepted}
 
 -- the two ends' sessions, but for the screen
 pub record Alike (s s′ : Session) : Type 0 where
@@ -68,43 +69,6 @@ module _ (t : Tables) (b b′ : Buffers) (p : List ℕ) where
   again other h r = (refl, refl)
   again (bad n) h r = (h, refl)
 
--- ---- the client's side: what it wrote
-
-late-zero : (n late : ℕ) → firstOf n late ≡ 0 → late ≡ 0
-late-zero n late h = cases (eqb n 0) (λ e. sym (ap (λ f. pick f late n) e) ∙ h) (λ e. absurd (eqb-false n 0 e (sym (ap (λ f. pick f late n) e) ∙ h)))
-
-not-short : (f : Bool) → _≡_ {A = ℕ} (pick f 15 0) 0 → f ≡ false
-not-short true h = absurd (omega arith)
-not-short false h = refl
-
--- a stanza that can be written, at the front of the output buffer
-record Wrote (line body : List ℕ) (r : Sent) : Type 0 where
-  writable : isWritable line body ≡ true
-  answer : r .answer ≡ bytes (length (stanzaText line body))
-  output : take (length (stanzaText line body)) (r .output) ≡ stanzaText line body
-
-module _ (s : Session) (b : Buffers) where
-  line-wrote : (line body out : List ℕ) → sentNumber (sentLine s b line body out .answer) ≡ 0 → Wrote line body (sentLine s b line body out)
-  unfolding sentStanza
-  line-wrote line body out =
-      let late = shortness (stanzaText line body) out in
-      let d = decided (s .tables) b (commandIn (s .machine) (s .name) line body) (length (payloadIn (s .machine) (s .name) line body)) in
-      branch (Wrote line body) (λ r. sentNumber (r .answer)) (isWritable line body) _ _
-      (λ w. branch (Wrote line body) (λ r. sentNumber (r .answer)) (eqb (firstOf d late) 0) _ _
-      (λ f h. let e = not-short (overflows (stanzaText line body) out) (late-zero d late (eqb-true (firstOf d late) 0 f)) in
-      record {
-        writable = w;
-        answer = refl;
-        output = ap (λ x. take (length (stanzaText line body)) (pick x out (stanzaText line body ++ drop (length (stanzaText line body)) out))) e ∙ take-append-seam (stanzaText line body) (drop (length (stanzaText line body)) out);
-      })
-      (λ f. eqb-false (firstOf d late) 0 f))
-      (λ w h. omega arith)
-
-  sent-wrote : (word : Word) (arguments body out : List ℕ) → sentNumber (sent s word arguments body b out .answer) ≡ 0 → Wrote (lineSent word arguments) body (sent s word arguments body b out)
-  unfolding sent
-  sent-wrote word arguments body out =
-      branch (Wrote (lineSent word arguments) body) (λ r. sentNumber (r .answer)) (eqb (turnOne (s .phase)) 0) _ _ (λ f. line-wrote (lineSent word arguments) body out) (λ f. eqb-false (turnOne (s .phase)) 0 f)
-
 -- ---- the plugin's side: what it reads
 
 module _ (s : Session) (b : Buffers) (line body : List ℕ) where
@@ -134,6 +98,10 @@ module _ (s : Session) (b : Buffers) (line body : List ℕ) where
 
 -- ---- both
 
+-- phase one's buffers, with none of phase two's beside them
+abbrev lent : Buffers → kinds.Buffers
+lent b = kinds.buffersOf b (two.buffersOf [] [] [])
+
 -- a sending r by the client's session s, and a receipt r′ by the plugin's s′: n bytes are written, the stanza's text; all of them are taken, as the same
 -- command; the sessions are alike again, and views that were equal are equal again
 pub record Agreed (s s′ : Session) (b b′ : Buffers) (line body : List ℕ) (n : ℕ) (r : Sent) (r′ : Received) : Type 0 where
@@ -146,21 +114,26 @@ pub record Agreed (s s′ : Session) (b b′ : Buffers) (line body : List ℕ) (
 alike-is : (s s′ : Session) → Alike s s′ → _≡_ {A = Session} (record { machine = s .machine; name = s .name; screen = s′ .screen; phase = s .phase; tables = s .tables }) s′
 alike-is s s′ a = rw (a .machine, a .name, a .phase, a .tables)
 
-module _ (s : Session) (b b′ : Buffers) (line body : List ℕ) (n : ℕ) (r : Sent) where
-  agreed-like : (screen : Bool) (rest : List ℕ) → areBytes body ≡ true → Applied s b line body (r .session) (r .buffers) → Wrote line body r → r .answer ≡ bytes n →
+-- the client's side: a stanza's text at the front of the output buffer
+front : (text out : List ℕ) → overflows text out ≡ false → take (length text) (filled text out) ≡ text
+front text out e = ap (λ f. take (length text) (pick f out (text ++ drop (length text) out))) e ∙ take-append-seam text (drop (length text) out)
+
+module _ (s : Session) (b b′ : Buffers) (line body out : List ℕ) (n : ℕ) (r : Sent) where
+  agreed-like : (screen : Bool) (rest : List ℕ) → areBytes body ≡ true → AppliedOne s (lent b) line body (stanzaText line body) out (sentOutcome (lent b .second) r) → r .answer ≡ bytes n →
       ((k : Kind) → tableOf k (r .session .tables) .used ≤ length (bufferOf k b′)) →
       let s′ : Session = record { machine = s .machine; name = s .name; screen = screen; phase = s .phase; tables = s .tables } in
       Agreed s s′ b b′ line body n r (received s′ (stanzaText line body ++ rest) b′)
-  agreed-like screen rest a p w q l =
+  agreed-like screen rest a w q l =
       let s′ : Session = record { machine = s .machine; name = s .name; screen = screen; phase = s .phase; tables = s .tables } in
       let r′ : Received = received s′ (stanzaText line body ++ rest) b′ in
-      let m : n ≡ length (stanzaText line body) = cc (w .answer) in
+      let p : Applied s b line body (r .session) (r .buffers) = w .applied in
+      let m : n ≡ length (stanzaText line body) = sym (ap sentSize q) ∙ w .written .size in
       let g = again (s .tables) b b′ (payloadIn (s .machine) (s .name) line body) (commandIn (s .machine) (s .name) line body) (p .faultless) (λ k. subst (λ x. tableOf k (x .tables) .used ≤ length (bufferOf k b′)) (p .session) (l k)) in
       let h : TookAs s′ b′ line body (length (stanzaText line body)) r′ =
       subst (TookAs s′ b′ line body (length (stanzaText line body))) (sym (text-received s′ b′ line body rest (p .turn) (w .writable) a)) (stanza-took s′ b′ line body (length (stanzaText line body)) (p .turn) (p .argued) (g .0)) in
       let p′ = h .1 in
       record {
-        written = ap (λ k. take k (r .output)) m ∙ w .output;
+        written = ap₂ take m (w .written .output) ∙ front (stanzaText line body) out (w .written .fits);
         answer = h .0 ∙ ap (took (wordOf (commandIn (s .machine) (s .name) line body))) (sym m);
         alike = record {
           machine = ap (λ x. x .machine) (p .session) ∙ sym (ap (λ x. x .machine) (p′ .session));
@@ -182,8 +155,6 @@ pub agreement : (s s′ : Session) (b b′ : Buffers) (word : Word) (arguments b
 agreement s s′ b b′ word arguments body out text n a y q e l =
     let r = sent s word arguments body b out in
     let line = lineSent word arguments in
-    let z : sentNumber (r .answer) ≡ 0 = ap sentNumber q in
-    let w = sent-wrote s b word arguments body out z in
-    let g = agreed-like s b b′ line body n r (s′ .screen) (drop n text) y (accepted s b (send word arguments body out) z) w q l in
+    let g = agreed-like s b b′ line body out n r (s′ .screen) (drop n text) y (accepted s (lent b) (send word arguments body out) (ap sentNumber q)) q l in
     let f : stanzaText line body ++ drop n text ≡ text = ap (λ x. x ++ drop n text) (sym (e ∙ g .written)) ∙ take-append-drop n text in
     subst (λ x. Agreed s s′ b b′ line body n r (received s′ x b′)) f (subst (λ x. Agreed s x b b′ line body n r (received x (stanzaText line body ++ drop n text) b′)) (alike-is s s′ a) g)

@@ -1,4 +1,4 @@
--- The order theorem is not empty: a phase of four commands and a rearrangement of it with an unknown command more.
+-- The order theorem of phase one is not empty: a phase of four commands and a rearrangement of it with an unknown command more.
 use Prim.Native.Nat.{ℕ, _≤_}
 use mathlib.Core.Path.{_≡_, refl, ap}
 use mathlib.Core.Bool.{false}
@@ -16,14 +16,18 @@ use Rattle.stanza.specs.Automaton.{next, verdict, scan}
 use Rattle.stanza.specs.Grammar.{stanzaText}
 use Rattle.stanza.specs.Reading.{found}
 use Rattle.session.specs.Commands.{add-recipient, add-identity, wrap-file-key, done-word, lineSent}
-use Rattle.session.specs.PhaseOne.{Buffers, buffersOf}
-use Rattle.session.specs.Views.{Kind, recipients, identities, keys, headers, bufferOf, viewOf}
+use Rattle.session.specs.PhaseOne.{buffersOf}
+use Rattle.session.specs.Views.{Kind, recipients, identities, keys, headers, bufferOf}
 use Rattle.session.specs.declared.commands.Machine.the-variants.{RecipientV1}
 use Rattle.conversation.specs.Session.{Session, openedSession}
-use Rattle.conversation.specs.Calls.{after, Accepted}
-use Rattle.conversation.specs.Phases.{All, keep, Whole, isOf, Phase, textsOf, IsPhase, callsOf, rowsIn, slotsOf, bytesOf, Rising, Allowed, Rearranged, SameTables}
-use Rattle.conversation.proofs.Laws.Allowed.{accepted-iff, accepted-tables}
-use Rattle.conversation.proofs.Laws.Order.{order-one}
+use Rattle.conversation.specs.Kinds as kinds
+use Rattle.conversation.specs.Kinds.{Buffers, first, viewOf}
+use Rattle.conversation.specs.PhaseTwo as two
+use Rattle.conversation.specs.Calls.{Call, stateOf, after, Accepted}
+use Rattle.conversation.specs.Phases.{All, keep, Whole, one-part, Block, Phase, blocksOf, IsPhase, Supply, callsOf, Strand, of-kind, of-errors, of-file, isIn, Rearranged, SameTables, SameOutcome}
+use Rattle.conversation.specs.Allowed.{rowsIn, slotsOf, bytesOf, Rising, Allowed}
+use Rattle.conversation.proofs.Laws.AllowedOne.{textsOf, accepted-iff, accepted-tables}
+use Rattle.conversation.proofs.Laws.OrderOne.{order-one}
 
 -- "-> add-recipient a", and the same with b
 abbrev recipientA : List ℕ
@@ -52,56 +56,67 @@ end = stanzaText (lineSent done-word []) []
 abbrev pub plugin : List ℕ
 plugin = 120 ∷ []
 
+-- a text by itself
+abbrev alone : List ℕ → Block
+alone t = record { text = t; replies = [] }
+
 -- a phase, and the same commands in another order with an unknown one among them
 abbrev pub given : Phase
-given = record { ahead = recipientA ∷ fileKey ∷ recipientB ∷ identityC ∷ []; last = end }
+given = record { ahead = alone recipientA ∷ alone fileKey ∷ alone recipientB ∷ alone identityC ∷ []; last = alone end }
 
 abbrev pub turned : Phase
-turned = record { ahead = identityC ∷ unknown ∷ recipientA ∷ recipientB ∷ fileKey ∷ []; last = end }
+turned = record { ahead = alone identityC ∷ alone unknown ∷ alone recipientA ∷ alone recipientB ∷ alone fileKey ∷ []; last = alone end }
 
 -- ---- both are phases, and rearrangements of each other: by computation
 
-given-whole : All Whole (textsOf given)
+given-whole : All (λ x. Whole (x .text)) (blocksOf given)
 unfolding All isCharacter valueOf characterOf encoded decoded endsWell wrapped unwrapped run isGraphic next verdict scan found
 given-whole = (record { line = 18; body = 0; read = refl }, (record { line = 16; body = 16; read = refl }, (record { line = 18; body = 0; read = refl }, (record { line = 17; body = 0; read = refl }, (record { line = 7; body = 0; read = refl }, tt)))))
 
 -- the first is a phase
-pub given-phase : IsPhase given
+pub given-phase : IsPhase one-part given
 unfolding All isCharacter valueOf characterOf encoded decoded endsWell wrapped unwrapped run isGraphic next verdict scan found isWordByte before words same
-given-phase = record { whole = given-whole; done-once = (refl, (refl, (refl, (refl, tt)))); done-last = refl }
+given-phase = record { whole = given-whole; quiet = (refl, (refl, (refl, (refl, (refl, tt))))); done-once = (refl, (refl, (refl, (refl, tt)))); done-last = refl }
 
 unknown-whole : Whole unknown
 unfolding isCharacter valueOf characterOf encoded decoded endsWell wrapped unwrapped run isGraphic next verdict scan found
 unknown-whole = record { line = 4; body = 0; read = refl }
 
 -- the second is one
-pub turned-phase : IsPhase turned
+pub turned-phase : IsPhase one-part turned
 unfolding All isCharacter valueOf characterOf encoded decoded endsWell wrapped unwrapped run isGraphic next verdict scan found isWordByte before words same
 turned-phase =
     let w = given-whole in
-    record { whole = (w .1 .1 .1 .0, (unknown-whole, (w .0, (w .1 .1 .0, (w .1 .0, (w .1 .1 .1 .1 .0, tt)))))); done-once = (refl, (refl, (refl, (refl, (refl, tt))))); done-last = refl }
+    record {
+      whole = (w .1 .1 .1 .0, (unknown-whole, (w .0, (w .1 .1 .0, (w .1 .0, (w .1 .1 .1 .1 .0, tt))))));
+      quiet = (refl, (refl, (refl, (refl, (refl, (refl, tt))))));
+      done-once = (refl, (refl, (refl, (refl, (refl, tt)))));
+      done-last = refl;
+    }
 
 -- each kind's own order is kept
-pub rearranged : Rearranged RecipientV1 plugin given turned
+pub rearranged : Rearranged one-part RecipientV1 plugin given turned
 unfolding keep isCharacter valueOf characterOf encoded decoded endsWell wrapped unwrapped run isGraphic next verdict scan found isWordByte before words same
 rearranged = record {
   same-last = refl;
-  permuted = List·Permᴰ·trans (Permᴰ·middle identityC (recipientA ∷ fileKey ∷ recipientB ∷ []) []) (List·Permᴰ·cons refl (List·Permᴰ·cons refl (List·Permᴰ·swap refl refl)));
+  permuted = List·Permᴰ·trans (Permᴰ·middle (alone identityC) (alone recipientA ∷ alone fileKey ∷ alone recipientB ∷ []) []) (List·Permᴰ·cons refl (List·Permᴰ·cons refl (List·Permᴰ·swap refl refl)));
   same-order = same-order;
 }
   where
-    same-order : (k : Kind) → keep (isOf RecipientV1 plugin k) (given .ahead) ≡ keep (isOf RecipientV1 plugin k) (turned .ahead)
-    same-order recipients = refl
-    same-order identities = refl
-    same-order keys = refl
-    same-order headers = refl
+    same-order : (k : Strand) → keep (isIn one-part RecipientV1 plugin k) (given .ahead) ≡ keep (isIn one-part RecipientV1 plugin k) (turned .ahead)
+    same-order (of-kind recipients) = refl
+    same-order (of-kind identities) = refl
+    same-order (of-kind keys) = refl
+    same-order (of-kind headers) = refl
+    same-order of-errors = refl
+    same-order (of-file f) = refl
 
 -- ---- with buffers of 2, 1, 16 and 0 bytes they are allowed
 
 abbrev pub lent : Buffers
-lent = buffersOf (0 ∷ 0 ∷ []) (0 ∷ []) (replicate 16 0) []
+lent = kinds.buffersOf (buffersOf (0 ∷ 0 ∷ []) (0 ∷ []) (replicate 16 0) []) (two.buffersOf [] [] [])
 
-allowed : Allowed RecipientV1 plugin lent (textsOf given)
+allowed : Allowed RecipientV1 plugin (lent .first) (textsOf given)
 unfolding All rowsIn bytesOf Rising isCharacter valueOf characterOf encoded decoded endsWell wrapped unwrapped run isGraphic next verdict scan found isWordByte before words same
 allowed = record { right = (refl, (refl, (refl, (refl, (refl, tt))))); slots = slots; bytes = bytes; rising = tt }
   where
@@ -111,7 +126,7 @@ allowed = record { right = (refl, (refl, (refl, (refl, (refl, tt))))); slots = s
     slots keys = lit≤ tt
     slots headers = lit≤ tt
 
-    bytes : (k : Kind) → bytesOf (rowsIn RecipientV1 plugin k (textsOf given)) ≤ length (bufferOf k lent)
+    bytes : (k : Kind) → bytesOf (rowsIn RecipientV1 plugin k (textsOf given)) ≤ length (bufferOf k (lent .first))
     bytes recipients = lit≤ tt
     bytes identities = lit≤ tt
     bytes keys = lit≤ tt
@@ -121,28 +136,42 @@ allowed = record { right = (refl, (refl, (refl, (refl, (refl, tt))))); slots = s
 abbrev pub start : Session
 start = openedSession RecipientV1 plugin false
 
+-- phase one lends no output buffers
+abbrev none : Supply
+none = λ i. []
+
+-- the calls of a phase
+abbrev pub calls : Phase → List Call
+calls p = callsOf one-part none (blocksOf p)
+
+-- the theorem, for the same buffers
+ordered : (b : Buffers) → SameOutcome one-part (stateOf start b) (stateOf start b) given turned none none
+ordered b =
+    order-one (stateOf start b) (stateOf start b) refl refl (record { machine = refl; name = refl; screen = refl; views = λ k. refl; lengths = λ k. refl })
+    given turned given-phase turned-phase rearranged none none
+
 -- so both are accepted
-pub both-accepted : Accepted start lent (callsOf given) × Accepted start lent (callsOf turned)
+pub both-accepted : Accepted start lent (calls given) × Accepted start lent (calls turned)
 both-accepted =
-    let a = accepted-iff RecipientV1 plugin false lent given given-phase .1 allowed in
-    (a, order-one RecipientV1 plugin lent given turned given-phase turned-phase rearranged .0 .0 a)
+    let a = accepted-iff RecipientV1 plugin false lent none given given-phase .1 allowed in
+    (a, ordered lent .accepted .0 a)
 
 -- and leave equal tables
-pub same-tables : SameTables (after start lent (callsOf given)) (after start lent (callsOf turned))
-same-tables = order-one RecipientV1 plugin lent given turned given-phase turned-phase rearranged .1 (both-accepted .0)
+pub same-tables : SameTables (after start lent (calls given)) (after start lent (calls turned))
+same-tables = ordered lent .tables (both-accepted .0)
 
 -- in which the recipients are a and b
-pub two-recipients : map (λ r. r .payload) (viewOf recipients (after start lent (callsOf turned) .session .tables) (after start lent (callsOf turned) .buffers)) ≡ (97 ∷ []) ∷ (98 ∷ []) ∷ []
+pub two-recipients : map (λ r. r .payload) (viewOf (first recipients) (after start lent (calls turned) .session .tables) (after start lent (calls turned) .buffers)) ≡ (97 ∷ []) ∷ (98 ∷ []) ∷ []
 unfolding rowsIn isCharacter valueOf characterOf encoded decoded endsWell wrapped unwrapped run isGraphic next verdict scan found isWordByte before words same
-two-recipients = ap (map (λ r. r .payload)) (accepted-tables RecipientV1 plugin false lent turned turned-phase (both-accepted .1) .views recipients)
+two-recipients = ap (map (λ r. r .payload)) (accepted-tables RecipientV1 plugin false lent none turned turned-phase (both-accepted .1) .views recipients)
 
 -- a recipients' buffer of 1 byte
 abbrev pub short : Buffers
-short = buffersOf (0 ∷ []) (0 ∷ []) (replicate 16 0) []
+short = kinds.buffersOf (buffersOf (0 ∷ []) (0 ∷ []) (replicate 16 0) []) (two.buffersOf [] [] [])
 
 -- with it both are refused
-pub both-refused : (Accepted start short (callsOf given) → ⊥) × (Accepted start short (callsOf turned) → ⊥)
+pub both-refused : (Accepted start short (calls given) → ⊥) × (Accepted start short (calls turned) → ⊥)
 unfolding rowsIn bytesOf isCharacter valueOf characterOf encoded decoded endsWell wrapped unwrapped run isGraphic next verdict scan found isWordByte before words same
 both-refused =
-    let no : Accepted start short (callsOf given) → ⊥ = λ a. omega (arith, accepted-iff RecipientV1 plugin false short given given-phase .0 a .bytes recipients) in
-    (no, λ a. no (order-one RecipientV1 plugin short given turned given-phase turned-phase rearranged .0 .1 a))
+    let no : Accepted start short (calls given) → ⊥ = λ a. omega (arith, accepted-iff RecipientV1 plugin false short none given given-phase .0 a .bytes recipients) in
+    (no, λ a. no (ordered short .accepted .1 a))

@@ -13,11 +13,11 @@ use Rattle.refusal.specs.Pick.{pick}
 use Rattle.refusal.proofs.Laws.Booleans.{and-true, true-and, cases}
 use Rattle.tables.specs.declared.tables.Entry.{Entry}
 use Rattle.tables.specs.Tables.{Table, Row, empty, fits, entered, rowOf, view, placed, kept}
-use Rattle.tables.proofs.Laws.Tables.{Kept, Chained, view-count}
+use Rattle.tables.proofs.Laws.Tables.{Kept, Filled, Chained, view-count}
 use Rattle.session.specs.PhaseOne.{falls}
 use Rattle.session.proofs.Laws.PhaseOne.{falls-none, falls-is}
 use Rattle.session.specs.Views.{Kind, recipients, identities, keys, headers}
-use Rattle.conversation.specs.Phases.{slotsOf, bytesOf, Rising}
+use Rattle.conversation.specs.Allowed.{slotsOf, bytesOf, Rising}
 
 -- ---- the limits of a list of rows
 
@@ -120,7 +120,7 @@ no-fall t i b k =
 -- ---- a kind's table and its buffer between calls
 
 pub record Held (k : Kind) (t : Table) (b : List ℕ) : Type 0 where
-  pub reached : Kept t
+  pub reached : Filled t
   pub wide : t .width ≡ slotsOf k
   pub room : t .used ≤ length b
   pub ordered : Ordered k (view t b)
@@ -154,16 +154,16 @@ module _ (t : Table) (b : List ℕ) (r : Row) where
   fits-within k h f p =
       let a = and-true (ltb (t .count) (t .width)) (leb (t .used + length (r .payload)) (length b)) f in
       record {
-        slots = omega (arith, ltb-true (t .count) (t .width) (a .0), view-count t b (h .reached), length-append (view t b) (r ∷ []), h .wide);
-        bytes = omega (arith, leb-true (t .used + length (r .payload)) (length b) (a .1), view-bytes t b (h .reached) (h .room), one-bytes);
-        ordered = passes-ordered k (h .reached) (h .ordered) p;
+        slots = omega (arith, ltb-true (t .count) (t .width) (a .0), view-count t b (h .reached .kept-so), length-append (view t b) (r ∷ []), h .wide);
+        bytes = omega (arith, leb-true (t .used + length (r .payload)) (length b) (a .1), view-bytes t b (h .reached .kept-so) (h .room), one-bytes);
+        ordered = passes-ordered k (h .reached .kept-so) (h .ordered) p;
       }
 
   pub within-fits : (k : Kind) → Held k t b → Within k (length b) (view t b ++ (r ∷ [])) → (fits t (length (r .payload)) (length b) ≡ true) × Passes k t (r .index)
   within-fits k h w =
-      let s : t .count < t .width = omega (arith, w .slots, view-count t b (h .reached), length-append (view t b) (r ∷ []), h .wide) in
-      let u : t .used + length (r .payload) ≤ length b = omega (arith, w .bytes, view-bytes t b (h .reached) (h .room), one-bytes) in
-      (true-and (ltb (t .count) (t .width)) (leb (t .used + length (r .payload)) (length b)) (lt-ltb (t .count) (t .width) s) (le-leb (t .used + length (r .payload)) (length b) u), ordered-passes k (h .reached) (w .ordered))
+      let s : t .count < t .width = omega (arith, w .slots, view-count t b (h .reached .kept-so), length-append (view t b) (r ∷ []), h .wide) in
+      let u : t .used + length (r .payload) ≤ length b = omega (arith, w .bytes, view-bytes t b (h .reached .kept-so) (h .room), one-bytes) in
+      (true-and (ltb (t .count) (t .width)) (leb (t .used + length (r .payload)) (length b)) (lt-ltb (t .count) (t .width) s) (le-leb (t .used + length (r .payload)) (length b) u), ordered-passes k (h .reached .kept-so) (w .ordered))
 
 -- ---- what one command does to a kind's table and buffer, where the decision is the number d: nothing, or one entry more
 
@@ -174,8 +174,8 @@ pub data Grown (k : Kind) (t : Table) (b : List ℕ) (d : ℕ) : List Row → Ta
 
 held-within : {k : Kind} {t : Table} {b : List ℕ} → Held k t b → Within k (length b) (view t b)
 held-within {t = t} {b = b} h = record {
-  slots = omega (arith, h .reached .counted, view-count t b (h .reached), h .wide);
-  bytes = omega (arith, view-bytes t b (h .reached) (h .room), h .room);
+  slots = omega (arith, h .reached .kept-so .counted, view-count t b (h .reached .kept-so), h .wide);
+  bytes = omega (arith, view-bytes t b (h .reached .kept-so) (h .room), h .room);
   ordered = h .ordered;
 }
 
@@ -200,7 +200,7 @@ module _ {k : Kind} {t : Table} {b : List ℕ} {d : ℕ} where
   grown-length same z = refl
   grown-length (more p i m f) z = let q = f z .0 in rw q (placed-length t p b q)
 
-  pub grown-held : {rs : List Row} {t′ : Table} {b′ : List ℕ} → Grown k t b d rs t′ b′ → d ≡ 0 → Held k t b → Kept t′ → view t′ b′ ≡ view t b ++ rs → Held k t′ b′
+  pub grown-held : {rs : List Row} {t′ : Table} {b′ : List ℕ} → Grown k t b d rs t′ b′ → d ≡ 0 → Held k t b → Filled t′ → view t′ b′ ≡ view t b ++ rs → Held k t′ b′
   grown-held same z h x e = h
   grown-held (more p i m f) z h x e =
       let q = f z .0 in

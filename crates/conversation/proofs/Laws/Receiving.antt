@@ -8,7 +8,7 @@ use lib.Dec.{eqb}
 use Rattle.refusal.specs.Pick.{pick}
 use Rattle.stanza.specs.Reading.{readFirst}
 use Rattle.session.specs.Commands.{Command, wordOf}
-use Rattle.session.specs.PhaseOne.{Tables, Buffers, buffersOf, applied, filledBy, commandIn, payloadIn, numberOne, tablesOne, buffersOne}
+use Rattle.session.specs.PhaseOne.{Tables, Buffers, applied, filledBy, commandIn, payloadIn, numberOne, tablesOne, buffersOne}
 use Rattle.session.specs.Phases.{turnOne, closes, phaseAfter, phaseRefused, phaseReceived}
 use Rattle.session.specs.declared.commands.Machine.{Machine}
 use Rattle.session.specs.declared.phases.Phase.{Phase}

@@ -1,12 +1,12 @@
 -- Sending, by what one step of phase one came to: for the code of the client end.
 use Prim.Native.Nat.{ℕ}
 use mathlib.Core.Path.{_≡_, refl, sym, ap, ap₂, _∙_}
-use mathlib.Core.Bool.{Bool, true, false, false≢true}
+use mathlib.Core.Bool.{Bool, true, false}
 use mathlib.Core.List.{List}
 use lib.Dec.{eqb}
 use lib.ListN.{length}
 use native.Mathlib.Omega.{arith}
-use borrow.Author.Tests.{eqb-true, eqb-false, eq-eqb}
+use borrow.Author.Tests.{eqb-true, eqb-false}
 use Rattle.refusal.specs.Output.{Answer, bytes, refused, overflows, answered, filled}
 use Rattle.refusal.specs.Pick.{pick}
 use Rattle.refusal.proofs.Laws.Booleans.{cases}

@@ -33,7 +33,10 @@ use Rattle.session.specs.Phases.{phaseAfter}
 use Rattle.conversation.specs.Session.{Session, moved, openedSession}
 use Rattle.conversation.specs.Receiving.{Received, took, refusedReceipt, receivedStanza, receivedAs, received}
 use Rattle.conversation.specs.Calls.{receive, takingNumber, outcome, lineRead, bodyRead}
-use Rattle.conversation.specs.Phases.{Whole, lineIn, bodyIn, isDone, commandOf, rowsFrom, isRight}
+use Rattle.conversation.specs.Phases.{Whole, lineIn, bodyIn, isDone, commandOf, rowsFrom}
+use Rattle.conversation.specs.Allowed.{isRight}
+use Rattle.conversation.specs.Kinds.{buffersOf}
+use Rattle.conversation.specs.PhaseTwo as two
 use Rattle.conversation.proofs.Laws.Limits.{Within, Held, Grown, same as unchanged, more, within-fits, grown-within, grown-length, grown-held}
 
 -- ---- a command that was read: only the word done makes done, and no fault has the number 0
@@ -215,7 +218,8 @@ module _ (machine : Machine) (name : List ℕ) where
   abbrev pub going : Bool → Tables → Session
   going screen t = moved (openedSession machine name screen) One t
 
-  module _ (screen : Bool) (t : Tables) (b : Buffers) where
+  -- phase two's buffers are lent beside and stay
+  module _ (screen : Bool) (t : Tables) (b : Buffers) (later : two.Buffers) where
     abbrev now : Session
     now = going screen t
 
@@ -236,7 +240,7 @@ module _ (machine : Machine) (name : List ℕ) where
       read-as = subst (λ r. receivedAs r now x b ≡ receivedStanza now b (lineRead r x) (bodyRead r x) (length x)) (sym (w .read)) refl
 
       -- the number of the call is the decision
-      pub number-received : outcome now b (receive x) .number ≡ judged t b x
+      pub number-received : outcome now (buffersOf b later) (receive x) .number ≡ judged t b x
       unfolding receivedStanza
       number-received =
           let n = firstOf (judged t b x) 0 in
@@ -249,14 +253,14 @@ module _ (machine : Machine) (name : List ℕ) where
             let n = firstOf (judged t b x) 0 in
             read-as ∙ ap (λ f. pick f (left x f) (refusedReceipt n now b)) (eq-eqb n 0 (first-same (judged t b x) ∙ z))
 
-        pub tables-received : outcome now b (receive x) .session .tables ≡ tablesWith t b x
+        pub tables-received : outcome now (buffersOf b later) (receive x) .session .tables ≡ tablesWith t b x
         tables-received = ap (λ r. r .session .tables) leaves
 
-        pub buffers-received : outcome now b (receive x) .buffers ≡ buffersWith t b x
-        buffers-received = ap (λ r. r .buffers) leaves
+        pub buffers-received : outcome now (buffersOf b later) (receive x) .buffers ≡ buffersOf (buffersWith t b x) later
+        buffers-received = ap (λ r. buffersOf (r .buffers) later) leaves
 
         -- it stays in phase one if it is not done
-        pub session-received : isDone x ≡ false → outcome now b (receive x) .session ≡ moved now One (tablesWith t b x)
+        pub session-received : isDone x ≡ false → outcome now (buffersOf b later) (receive x) .session ≡ moved now One (tablesWith t b x)
         session-received d =
             let p : Proper false (commandOf machine name x) = subst (λ f. Proper f (commandOf machine name x)) d (proper x) in
             ap (λ r. r .session) leaves ∙ ap (λ q. moved now q (tablesWith t b x)) (proper-phase (commandOf machine name x) p)
