@@ -2,6 +2,7 @@
 pub mod Accepted
 pub mod Agreement
 pub mod Allowed
+pub mod Answers
 pub mod Examples
 pub mod Limits
 pub mod Order
