@@ -6,6 +6,7 @@ use mathlib.Core.Bool.{Bool, true, false, _&&_, _||_}
 use mathlib.Core.List.{List, [], _∷_, _++_, append-assoc, append-nil}
 use lib.Dec.{leb, eqb}
 use lib.ListN.{length}
+use borrow.Author.Tests.{eqb-true, eqb-false}
 use Rattle.refusal.specs.Pick.{pick}
 use Rattle.refusal.specs.Same.{same}
 use Rattle.refusal.proofs.Laws.Booleans.{and-true, cases}
@@ -18,18 +19,22 @@ use Rattle.responses.specs.declared.WordTwo.{WordTwo}
 use Rattle.responses.specs.declared.WordTwo.the-variants.{Msg, Confirm, RequestPublic, RequestSecret, RecipientStanza, FileKey, Error, Other, Done}
 use Rattle.session.specs.Commands as one-command
 use Rattle.session.specs.Commands.{isBare}
+use Rattle.session.specs.PhaseOne as one
 use Rattle.session.specs.Phases.{phaseAfter, phaseOpened, closes}
 use Rattle.session.specs.declared.commands.Machine.{Machine}
 use Rattle.session.specs.declared.commands.Machine.the-variants.{RecipientV1, IdentityV1}
 use Rattle.session.specs.declared.phases.Phase.{Phase}
 use Rattle.session.specs.declared.phases.Phase.the-variants.{One, Two, Awaiting, Ended, Closed}
-use Rattle.conversation.specs.Answers.{Event, asked, responded, askedBy, answeredBy, eventsOf, events, Paired}
+use Rattle.conversation.specs.Answers.{Event, asked, responded, askedBy, answeredBy, respondedBy, eventsOf, events, Paired}
 use Rattle.conversation.specs.Calls.{Call, receive, send, receive-two, reply, send-two, respond, outcome, sessionAfter, after}
-use Rattle.conversation.specs.CommandsTwo.{Named, internal, identity, recipient, CommandTwo, ask, stanza, key, error, done, other, bad, areLabels, internalWord, identityWord, recipientWord, stanzaWord, stanzaAt, keyAt, errorAt, headerAt, errorOf, errorCommand, rowTwo, wordTwo, commandTwo}
+use Rattle.conversation.specs.CommandsTwo.{Named, internal, identity, recipient, CommandTwo, ask, stanza, key, error, done, other, bad, areLabels, internalWord, identityWord, recipientWord, stanzaWord, stanzaAt, keyAt, errorAt, headerAt, errorOf, errorCommand, rowTwo, wordTwo, commandTwo, lineSent}
 use Rattle.conversation.specs.Kinds.{Buffers}
+use Rattle.conversation.specs.Phases.{lineIn, bodyIn, commandIn}
 use Rattle.conversation.specs.ReceivingTwo.{atOnce, phaseReceived}
 use Rattle.conversation.specs.SendingTwo.{phaseSent}
 use Rattle.conversation.specs.Session.{Session, closed, opened}
+use Rattle.conversation.proofs.Laws.Accepted.{Applied, accepted}
+use Rattle.conversation.proofs.Laws.Refusals.{refusal}
 
 -- ---- a command that waits for an answer can be answered fail
 
@@ -160,3 +165,62 @@ refused-so-far s (receive-two text out) n es i = closed-or (closes n) s es i
 refused-so-far s (reply r body out) n es i = i
 refused-so-far s (send-two word arguments body out) n es i = i
 refused-so-far s (respond text out) n es i = closed-or (closes n) s es i
+
+one-step : (s : Session) (b : one.Buffers) (line body : List ℕ) (after : Session) (buffers-after : one.Buffers) (es : List Event) → Applied s b line body after buffers-after → SoFar (s .phase) es → SoFar (after .phase) (es ++ [])
+one-step s b line body after buffers-after es a i =
+    subst (λ x. SoFar (x .phase) (es ++ [])) (sym (a .session)) (one-so-far (one.commandIn (s .machine) (s .name) line body) es (subst (λ p. SoFar p es) (a .turn) i))
+
+-- an accepted one
+accepted-so-far : (s : Session) (b : Buffers) (c : Call) (es : List Event) → outcome s b c .number ≡ 0 → SoFar (s .phase) es → SoFar (outcome s b c .session .phase) (es ++ eventsOf s c)
+accepted-so-far s b (receive text) es h i = one-step s (b .first) _ _ _ _ es (accepted s b (receive text) h .applied) i
+accepted-so-far s b (send word arguments body out) es h i = one-step s (b .first) _ _ _ _ es (accepted s b (send word arguments body out) h .applied) i
+accepted-so-far s b (receive-two text out) es h i =
+    let a = accepted s b (receive-two text out) h in
+    let c = commandIn (s .machine) text in
+    subst (λ x. SoFar (x .phase) (es ++ (askedBy c ++ answeredBy (atOnce (s .screen) c)))) (sym (a .session))
+    (received-so-far (s .screen) c es (command-proper (lineIn text) (s .machine) (bodyIn text)) (subst (λ p. SoFar p es) (a .turn) i))
+accepted-so-far s b (reply r body out) es h i =
+    let a = accepted s b (reply r body out) h in
+    subst (λ x. SoFar (x .phase) (es ++ (responded r ∷ []))) (sym (a .session)) (answered-so-far (a .awaited) r body es (a .fitting) (subst (λ p. SoFar p es) (a .turn) i))
+accepted-so-far s b (send-two word arguments body out) es h i =
+    let a = accepted s b (send-two word arguments body out) h in
+    let c = commandTwo (s .machine) (lineSent word arguments) body in
+    subst (λ x. SoFar (x .phase) (es ++ askedBy c)) (sym (a .session)) (sent-so-far c es (subst (λ p. SoFar p es) (a .turn) i))
+accepted-so-far s b (respond text out) es h i =
+    let a = accepted s b (respond text out) h in
+    subst (λ q. SoFar (outcome s b (respond text out) .session .phase) (es ++ respondedBy q)) (sym (a .1 .named))
+    (subst (λ x. SoFar (x .phase) (es ++ (responded (a .0) ∷ []))) (sym (a .1 .session)) (answered-so-far (a .1 .awaited) (a .0) (bodyIn text) es (a .1 .fitting) (subst (λ p. SoFar p es) (a .1 .turn) i)))
+
+-- any call
+call-so-far : (s : Session) (b : Buffers) (c : Call) (es : List Event) → SoFar (s .phase) es →
+    SoFar (outcome s b c .session .phase) (es ++ pick (eqb (outcome s b c .number) 0) (eventsOf s c) [])
+call-so-far s b c es i =
+    cases (eqb (outcome s b c .number) 0)
+    (λ f. subst (λ z. SoFar (outcome s b c .session .phase) (es ++ pick z (eventsOf s c) [])) (sym f) (accepted-so-far s b c es (eqb-true (outcome s b c .number) 0 f) i))
+    (λ f.
+    subst (λ z. SoFar (outcome s b c .session .phase) (es ++ pick z (eventsOf s c) [])) (sym f)
+    (subst (λ x. SoFar (outcome s b c .session .phase) x) (sym (append-nil es))
+    (subst (λ x. SoFar (x .phase) es) (sym (refusal s b c (eqb-false (outcome s b c .number) 0 f) .session)) (refused-so-far s c (outcome s b c .number) es i))))
+
+calls-so-far : (s : Session) (b : Buffers) (cs : List Call) (es : List Event) → SoFar (s .phase) es → SoFar (after s b cs .session .phase) (es ++ events s b cs)
+unfolding after events
+calls-so-far s b [] es i = subst (SoFar (s .phase)) (sym (append-nil es)) i
+calls-so-far s b (c ∷ cs) es i =
+    let o = outcome s b c in
+    let x : List Event = pick (eqb (o .number) 0) (eventsOf s c) [] in
+    subst (SoFar (after (o .session) (o .buffers) cs .session .phase)) (append-assoc es x (events (o .session) (o .buffers) cs))
+    (calls-so-far (o .session) (o .buffers) cs (es ++ x) (call-so-far s b c es i))
+
+-- where the phase has ended, each accepted command but done has its response directly behind it, and the response fits: whatever calls, from phase one on
+pub answers : (s : Session) (b : Buffers) (cs : List Call) → s .phase ≡ One → after s b cs .session .phase ≡ Ended → Paired (events s b cs)
+answers s b cs h e = subst (λ p. SoFar p (events s b cs)) e (calls-so-far s b cs [] (subst (λ p. SoFar p []) (sym h) refl))
+
+-- of a session just opened; a refused opening leaves a closed one, which never ends
+pub answers-opened : (machine name : List ℕ) (screen : Bool) (b : Buffers) (cs : List Call) → after (opened machine name screen .session) b cs .session .phase ≡ Ended →
+    Paired (events (opened machine name screen .session) b cs)
+answers-opened machine name screen b cs e =
+    subst (λ p. SoFar p (events (opened machine name screen .session) b cs)) e (calls-so-far (opened machine name screen .session) b cs [] (start (eqb (opened machine name screen .number) 0)))
+  where
+    start : (f : Bool) → SoFar (pick f One Closed) []
+    start true = refl
+    start false = tt
