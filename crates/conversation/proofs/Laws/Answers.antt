@@ -20,14 +20,14 @@ use Rattle.responses.specs.declared.WordTwo.the-variants.{Msg, Confirm, Request
 use Rattle.session.specs.Commands as one-command
 use Rattle.session.specs.Commands.{isBare}
 use Rattle.session.specs.PhaseOne as one
-use Rattle.session.specs.Phases.{phaseAfter, phaseOpened, closes}
+use Rattle.session.specs.Phases.{phaseAfter, closes}
 use Rattle.session.specs.declared.commands.Machine.{Machine}
 use Rattle.session.specs.declared.commands.Machine.the-variants.{RecipientV1, IdentityV1}
 use Rattle.session.specs.declared.phases.Phase.{Phase}
 use Rattle.session.specs.declared.phases.Phase.the-variants.{One, Two, Awaiting, Ended, Closed}
 use Rattle.conversation.specs.Answers.{Event, asked, responded, askedBy, answeredBy, respondedBy, eventsOf, events, Paired}
 use Rattle.conversation.specs.Calls.{Call, receive, send, receive-two, reply, send-two, respond, outcome, sessionAfter, after}
-use Rattle.conversation.specs.CommandsTwo.{Named, internal, identity, recipient, CommandTwo, ask, stanza, key, error, done, other, bad, areLabels, internalWord, identityWord, recipientWord, stanzaWord, stanzaAt, keyAt, errorAt, headerAt, errorOf, errorCommand, rowTwo, wordTwo, commandTwo, lineSent}
+use Rattle.conversation.specs.CommandsTwo.{Named, internal, identity, recipient, CommandTwo, ask, stanza, key, error, done, other, bad, areLabels, internalWord, identityWord, recipientWord, stanzaWord, stanzaAt, keyAt, errorAt, headerAt, errorOf, rowTwo, wordTwo, commandTwo, lineSent}
 use Rattle.conversation.specs.Kinds.{Buffers}
 use Rattle.conversation.specs.Phases.{lineIn, bodyIn, commandIn}
 use Rattle.conversation.specs.ReceivingTwo.{atOnce, phaseReceived}
@@ -166,11 +166,12 @@ refused-so-far s (reply r body out) n es i = i
 refused-so-far s (send-two word arguments body out) n es i = i
 refused-so-far s (respond text out) n es i = closed-or (closes n) s es i
 
+-- an accepted call: of phase one
 one-step : (s : Session) (b : one.Buffers) (line body : List ℕ) (after : Session) (buffers-after : one.Buffers) (es : List Event) → Applied s b line body after buffers-after → SoFar (s .phase) es → SoFar (after .phase) (es ++ [])
 one-step s b line body after buffers-after es a i =
     subst (λ x. SoFar (x .phase) (es ++ [])) (sym (a .session)) (one-so-far (one.commandIn (s .machine) (s .name) line body) es (subst (λ p. SoFar p es) (a .turn) i))
 
--- an accepted one
+-- .. of either phase
 accepted-so-far : (s : Session) (b : Buffers) (c : Call) (es : List Event) → outcome s b c .number ≡ 0 → SoFar (s .phase) es → SoFar (outcome s b c .session .phase) (es ++ eventsOf s c)
 accepted-so-far s b (receive text) es h i = one-step s (b .first) _ _ _ _ es (accepted s b (receive text) h .applied) i
 accepted-so-far s b (send word arguments body out) es h i = one-step s (b .first) _ _ _ _ es (accepted s b (send word arguments body out) h .applied) i

@@ -87,7 +87,7 @@ response-back r body text h = record { back = h; same-response = λ rest. ap res
 -- ---- what one end writes, the other end parses
 
 -- what was written to the output buffer
-front : (text out : List ℕ) (o : Outcome) → Written text out o → take (o .size) (o .output) ≡ text
+pub front : (text out : List ℕ) (o : Outcome) → Written text out o → take (o .size) (o .output) ≡ text
 front text out o w =
     ap₂ take (w .size) (w .output) ∙ ap (λ f. take (length text) (pick f out (text ++ drop (length text) out))) (w .fits) ∙ take-append-seam text (drop (length text) out)
 
@@ -135,6 +135,7 @@ pub record ReceivedAgain (t : List ℕ) (k : ℕ) : Type 0 where
   pub again : take k t ≡ stanzaText (lineIn t) (bodyIn t)
   pub as-response : (r : Response) → responseOf (lineIn t) ≡ response r → take k t ≡ stanzaText (responseLine r) (bodyIn t)
 
+-- a text that is received is the text that would be written for it, whether it is a command or a response
 pub received-again : (t : List ℕ) (e n k : ℕ) → readFirst t ≡ stanza e n k → ReceivedAgain t k
 received-again t e n k q =
     let w = written-read t e n k q in
