@@ -179,7 +179,7 @@ held-within {t = t} {b = b} h = record {
   ordered = h .ordered;
 }
 
-placed-length : (t : Table) (p b : List ℕ) → fits t (length p) (length b) ≡ true → length (placed t p b) ≡ length b
+pub placed-length : (t : Table) (p b : List ℕ) → fits t (length p) (length b) ≡ true → length (placed t p b) ≡ length b
 placed-length t p b f =
     let u = leb-true (t .used + length p) (length b) (and-true (ltb (t .count) (t .width)) (leb (t .used + length p) (length b)) f .1) in
     simp (length-append, length-take, length-drop) (omega arith)

@@ -254,8 +254,8 @@ module _ (s : Session) (t : Tables) (b : Buffers) where
 
   -- and only those are
   replies-to : (c : CommandTwo) (f : Bool) (outs : Supply) (rs : List Reply) → Accepted (at s (phaseReceived f c) t) b (replyCalls outs rs) → LongEnough (at s (phaseReceived f c) t) b (replyCalls outs rs) →
-      Settled (after (at s (phaseReceived f c) t) b (replyCalls outs rs) .session .phase) → Answered f c rs
-  replies-to (ask w) f outs rs a l h = ask-to w f outs rs a l h
+      ((w : WordTwo) → c ≡ ask w → Settled (after (at s (phaseReceived f c) t) b (replyCalls outs rs) .session .phase)) → Answered f c rs
+  replies-to (ask w) f outs rs a l h = ask-to w f outs rs a l (h w refl)
   replies-to (stanza x) f outs rs a l h = none-to outs rs a
   replies-to (key x) f outs rs a l h = none-to outs rs a
   replies-to (error n) f outs rs a l h = none-to outs rs a
@@ -300,8 +300,8 @@ module _ (s : Session) (t : Tables) (b : Buffers) (x : Block) (w : Whole (x .tex
           texts = ap₂ (λ y ys. y ∷ ys) (text-written s t b (x .text) w (outs 0) enough z) (ap₂ (λ s b. written s b (replyCalls (skip 1 outs) (x .replies))) es eb ∙ r .texts);
         }
 
-    -- and nowhere else, if nothing is awaited behind it
-    pub block-to : Accepted (at s Two t) b (blockCalls two-part outs x) → Settled (after (at s Two t) b (blockCalls two-part outs x) .session .phase) → (judged s t b (x .text) w ≡ 0) × Answered (s .screen) c′ (x .replies)
+    -- and nowhere else, if nothing is awaited behind a command that asks
+    pub block-to : Accepted (at s Two t) b (blockCalls two-part outs x) → ((v : WordTwo) → c′ ≡ ask v → Settled (after (at s Two t) b (blockCalls two-part outs x) .session .phase)) → (judged s t b (x .text) w ≡ 0) × Answered (s .screen) c′ (x .replies)
     unfolding AllZero numbers after
     block-to a h =
         let z = text-iff s t b (x .text) w (outs 0) enough .0 (a .0) in
@@ -310,4 +310,4 @@ module _ (s : Session) (t : Tables) (b : Buffers) (x : Block) (w : Whole (x .tex
         (z,
         replies-to s (tablesWith s t b (x .text) w) (buffersWith s t b (x .text) w) c′ (s .screen) (skip 1 outs) (x .replies)
         (subst (λ n. AllZero n) (ap₂ (λ s b. numbers s b (replyCalls (skip 1 outs) (x .replies))) es eb) (a .1)) (rest-enough z)
-        (subst (λ y. Settled (y .session .phase)) (ap₂ (λ s b. after s b (replyCalls (skip 1 outs) (x .replies))) es eb) h))
+        (λ v e. subst (λ y. Settled (y .session .phase)) (ap₂ (λ s b. after s b (replyCalls (skip 1 outs) (x .replies))) es eb) (h v e)))

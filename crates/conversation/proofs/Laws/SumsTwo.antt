@@ -228,6 +228,10 @@ module _ (t : Tables) (b : Buffers) (g : Going t) (p : List ℕ) where
   space-by other l = refl
   space-by (bad n) l = refl
 
+  -- where the limits hold with what a command adds, no test of the sums finds a fault
+  pub tests-by : (c : CommandTwo) → With t b c p → (isSecondKey t c ≡ false) × (isTooMany t c ≡ false) × (isClashing t c ≡ false) × (isSpaceless t b c (length p) ≡ false)
+  tests-by c l = (first-key-by c l, few-by c l, apart-by c l, space-by c l)
+
 -- ---- an accepted command adds its weight
 
 module _ (t : Tables) (b : Buffers) (g : Going t) (p : List ℕ) where
