@@ -11,3 +11,4 @@ pub mod Refusals
 pub mod Sending
 pub mod Steps
 pub mod Tables
+pub mod ViewsTwo

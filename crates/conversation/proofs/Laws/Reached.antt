@@ -14,14 +14,14 @@ use Rattle.bech32.specs.Text.{isName}
 use Rattle.tables.specs.Tables.{Table, fits, appended, entered}
 use Rattle.tables.proofs.Laws.Tables.{Filled}
 use Rattle.session.specs.Commands.{Command, recipient, identity, key, header, done, other, bad, Word, lineSent}
-use Rattle.session.specs.Opening.{Named, named, nameless, machineNamed, Settings, refusedSettings, settingsOf, settings}
+use Rattle.session.specs.Opening.{Named, named, nameless, machineNamed, refusedSettings, settingsOf, settings}
 use Rattle.session.specs.PhaseOne as one
 use Rattle.session.specs.PhaseOne.{Tables, openedTables, commandIn, payloadIn}
 use Rattle.session.specs.Phases.{closes, phaseAfter, phaseOpened}
 use Rattle.session.specs.Views as one-kind
 use Rattle.session.specs.Views.{recipients, identities, keys, headers}
 use Rattle.session.specs.declared.phases.Phase.{Phase}
-use Rattle.session.specs.declared.phases.Phase.the-variants.{One, Two, Awaiting, Ended, Closed}
+use Rattle.session.specs.declared.phases.Phase.the-variants.{One, Two, Closed}
 use Rattle.session.specs.declared.commands.Machine.{Machine}
 use Rattle.session.proofs.Laws.Views.{Reached, opened-reached, applied-reached, payload-stored}
 use Rattle.conversation.specs.Session.{Session, moved, closed, openedSession, opened}

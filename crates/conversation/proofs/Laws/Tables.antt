@@ -6,15 +6,13 @@ use mathlib.Core.List.{List, [], _∷_, _++_, append-nil, append-assoc}
 use lib.Dec.{eqb}
 use lib.ListN.{length, getD, length-append}
 use lib.Seq.{getD-at}
-use borrow.Author.Tests.{eqb-true, eqb-false, eq-eqb}
+use borrow.Author.Tests.{eqb-true, eqb-false, eq-eqb, ne-eqb}
 use Rattle.refusal.specs.Pick.{pick}
 use Rattle.refusal.proofs.Laws.Booleans.{cases}
 use Rattle.stanza.specs.Reading.{readFirst}
-use Rattle.responses.specs.declared.Response.{Response}
 use Rattle.responses.specs.declared.WordTwo.the-variants.{Other}
 use Rattle.tables.specs.Tables.{Row, view}
-use Rattle.tables.proofs.Laws.Tables.{Kept, view-count}
-use Rattle.session.specs.Commands as one-command
+use Rattle.tables.proofs.Laws.Tables.{view-count}
 use Rattle.session.specs.Commands.{Command, recipient, identity, key, header, done, other, bad}
 use Rattle.session.specs.PhaseOne as one
 use Rattle.session.specs.PhaseOne.{Tables, openedTables, commandIn, payloadIn}
@@ -33,7 +31,7 @@ use Rattle.conversation.specs.PhaseTwo.{errors, stanzas, returned}
 use Rattle.conversation.specs.ReceivingTwo.{phaseReceived}
 use Rattle.conversation.specs.SendingTwo.{phaseSent}
 use Rattle.conversation.specs.Calls.{Call, receive, send, receive-two, reply, send-two, respond, Outcome, outcome, after, lineRead, bodyRead, Brought, in-one, in-two, no-command, broughtBy, rowsOne, rowsTwo, rowsBrought, acceptedRows}
-use Rattle.conversation.proofs.Laws.Accepted.{Applied, AppliedOne, AppliedTwo, Answered, commandAt, payloadAt, applied-rows, AcceptedBy, accepted}
+use Rattle.conversation.proofs.Laws.Accepted.{AppliedOne, AppliedTwo, commandAt, payloadAt, applied-rows, AcceptedBy, accepted}
 use Rattle.conversation.proofs.Laws.Reached.{ReachedSession, empty-reached, opening-tables, call-reached, after-reached}
 use Rattle.conversation.proofs.Laws.Refusals.{refusal}
 use Rattle.conversation.proofs.Laws.ViewsTwo.{kept-two, applied-view-two, one-leaves, two-leaves}
@@ -171,6 +169,14 @@ numbered-in-file s b c k f row r z q e =
     let v : ofFile f (viewOf k (outcome s b c .session .tables) (outcome s b c .buffers)) ≡ ofFile f (viewOf k (s .tables) b) ++ (row ∷ []) =
     ap (ofFile f) (numbered s b c k row r z q .rows) ∙ of-file-append f (viewOf k (s .tables) b) (row ∷ []) ∙ ap (λ l. ofFile f (viewOf k (s .tables) b) ++ l) (own-file f row e) in
     record { rows = v; entry = λ d. ap (λ l. getD l (length (ofFile f (viewOf k (s .tables) b))) d) v ∙ getD-at (ofFile f (viewOf k (s .tables) b)) row [] d (length (ofFile f (viewOf k (s .tables) b))) refl }
+
+-- another file's rows stay
+pub other-file : (s : Session) (b : Buffers) (c : Call) (k : Kind) (f : ℕ) (row : Row) → ReachedSession s → outcome s b c .number ≡ 0 →
+    rowsBrought s (broughtBy c) k ≡ row ∷ [] → (row .index ≡ f → ⊥) → ofFile f (viewOf k (outcome s b c .session .tables) (outcome s b c .buffers)) ≡ ofFile f (viewOf k (s .tables) b)
+unfolding ofFile
+other-file s b c k f row r z q h =
+    ap (ofFile f) (numbered s b c k row r z q .rows) ∙ of-file-append f (viewOf k (s .tables) b) (row ∷ [])
+    ∙ ap (λ x. ofFile f (viewOf k (s .tables) b) ++ (pick x (row ∷ []) [] ++ [])) (ne-eqb (row .index) f h) ∙ append-nil (ofFile f (viewOf k (s .tables) b))
 
 -- ---- what a command leaves
 
