@@ -2,6 +2,7 @@
 pub mod Accepted
 pub mod Agreement
 pub mod AllowedOne
+pub mod AllowedTwo
 pub mod Answers
 pub mod CommandsTwo
 pub mod DecidedTwo
@@ -19,4 +20,5 @@ pub mod Steps
 pub mod StepsTwo
 pub mod SumsTwo
 pub mod Tables
+pub mod ViewsTwo
 pub mod WrittenRead

@@ -4,37 +4,70 @@ use mathlib.Core.Path.{_≡_, refl, sym, ap, subst, _∙_}
 use mathlib.Core.Bool.{Bool, true, false}
 use mathlib.Core.List.{List, [], _∷_}
 use lib.Dec.{eqb}
+use lib.ListN.{length}
 use native.Mathlib.Omega.{arith}
 use borrow.Author.Tests.{eqb-true, eqb-false}
 use Rattle.refusal.specs.Pick.{pick}
 use Rattle.refusal.proofs.Laws.Booleans.{cases}
+use Rattle.stanza.specs.Reading.{readFirst}
 use Rattle.bech32.specs.Text.{isName}
-use Rattle.session.specs.Commands.{Command, recipient, identity, key, header, done, other, bad}
-use Rattle.session.specs.Opening.{Named, named, nameless, machineNamed, Settings, refusedSettings, settingsOf, settings}
-use Rattle.session.specs.PhaseOne.{Tables, Buffers, openedTables, applied}
-use Rattle.session.specs.Phases.{closes, phaseOpened}
-use Rattle.session.specs.declared.phases.Phase.the-variants.{One}
+use Rattle.tables.specs.Tables.{Table, fits, appended, entered}
+use Rattle.tables.proofs.Laws.Tables.{Filled}
+use Rattle.session.specs.Commands.{Command, recipient, identity, key, header, done, other, bad, Word, lineSent}
+use Rattle.session.specs.Opening.{Named, named, nameless, machineNamed, refusedSettings, settingsOf, settings}
+use Rattle.session.specs.PhaseOne as one
+use Rattle.session.specs.PhaseOne.{Tables, openedTables, commandIn, payloadIn}
+use Rattle.session.specs.Phases.{closes, phaseAfter, phaseOpened}
+use Rattle.session.specs.Views as one-kind
+use Rattle.session.specs.Views.{recipients, identities, keys, headers}
+use Rattle.session.specs.declared.phases.Phase.{Phase}
+use Rattle.session.specs.declared.phases.Phase.the-variants.{One, Two, Closed}
 use Rattle.session.specs.declared.commands.Machine.{Machine}
 use Rattle.session.proofs.Laws.Views.{Reached, opened-reached, applied-reached, payload-stored}
-use Rattle.conversation.specs.Session.{Session, closed, openedSession, opened}
-use Rattle.conversation.specs.Calls.{Call, receive, send, outcome, sessionAfter, after, lineIn, bodyIn, commandOf, payloadOf}
-use Rattle.conversation.proofs.Laws.Accepted.{accepted}
+use Rattle.conversation.specs.Session.{Session, moved, closed, openedSession, opened}
+use Rattle.conversation.specs.Kinds.{Kind, first, second, Buffers, tableOf}
+use Rattle.conversation.specs.CommandsTwo as two-command
+use Rattle.conversation.specs.CommandsTwo.{CommandTwo}
+use Rattle.conversation.specs.PhaseTwo as two
+use Rattle.conversation.specs.PhaseTwo.{errors, stanzas, returned}
+use Rattle.conversation.specs.TurnsTwo.{answered}
+use Rattle.conversation.specs.ReceivingTwo.{phaseReceived}
+use Rattle.conversation.specs.SendingTwo.{phaseSent}
+use Rattle.conversation.specs.Calls.{Call, receive, send, receive-two, reply, send-two, respond, Outcome, outcome, sessionAfter, after, lineRead, bodyRead}
+use Rattle.conversation.specs.Phases.{Lent, afterLent, JustDone}
+use Rattle.conversation.proofs.Laws.Accepted.{Applied, AppliedTwo, commandAt, payloadAt, AcceptedBy, accepted}
 use Rattle.conversation.proofs.Laws.Refusals.{refusal}
+use Rattle.conversation.proofs.Laws.ViewsTwo.{ReachedTwo, opened-reached-two, applied-reached-two, payload-stored-two, one-leaves, two-leaves, KeptAs}
 
 -- phase two's tables are as opened
 abbrev pub LaterOpened : Tables → Type 0
 LaterOpened t = (t .errors ≡ openedTables .errors) × (t .stanzas ≡ openedTables .stanzas) × (t .returned ≡ openedTables .returned)
 
--- each kind of phase one has its entries in the first slots, one behind the other, none empty, and the rest is as opened; in phase one, phase two's tables are as opened
+-- each table has the slots that it was opened with: 64, 64, 64 and 256; 384, 256 and 256
+abbrev pub Wide : Tables → Type 0
+Wide t = (k : Kind) → tableOf k t .width ≡ tableOf k openedTables .width
+
+-- each kind has its entries in the first slots, one behind the other, no payload empty but an error's, and the rest is as opened; each table has its slots; in
+-- phase one, phase two's tables are as opened
 pub record ReachedSession (s : Session) : Type 0 where
   pub tables : Reached (s .tables)
+  pub later-tables : ReachedTwo (s .tables)
+  pub wide : Wide (s .tables)
   pub later : s .phase ≡ One → LaterOpened (s .tables)
 
 -- ---- openings
 
+opened-wide : Wide openedTables
+opened-wide k = refl
+
 -- a session whose tables are as opened is one
 pub empty-reached : (s : Session) → s .tables ≡ openedTables → ReachedSession s
-empty-reached s e = record { tables = subst Reached (sym e) opened-reached; later = λ o. subst LaterOpened (sym e) (refl, refl, refl) }
+empty-reached s e = record {
+  tables = subst Reached (sym e) opened-reached;
+  later-tables = subst ReachedTwo (sym e) opened-reached-two;
+  wide = subst Wide (sym e) opened-wide;
+  later = λ o. subst LaterOpened (sym e) (refl, refl, refl);
+}
 
 -- a session just opened is one
 pub opened-session : (machine : Machine) (name : List ℕ) (screen : Bool) → ReachedSession (openedSession machine name screen)
@@ -72,36 +105,154 @@ opening-accepted machine name screen e = any (machineNamed machine) refl
         })
         (λ f. let z : _≡_ {A = ℕ} 17 0 = sym (ap (λ x. settingsOf x name .number) q ∙ ap (λ x. pick x (record { number = 0; machine = m; name = name }) (refusedSettings 17) .number) f) ∙ e in absurd (omega arith))
 
+-- ---- what a command leaves so: of phase one
+
+-- an entry adds no slot
+entered-width : (t : Table) (n index mark capacity : ℕ) → entered t n index mark capacity .width ≡ t .width
+entered-width t n index mark capacity = either (fits t n capacity)
+  where
+    either : (f : Bool) → pick f (appended t n index mark) t .width ≡ t .width
+    either true = refl
+    either false = refl
+
+module _ (t : Tables) (b : one.Buffers) (p : List ℕ) where
+  widths : (c : Command) (k : one-kind.Kind) → one-kind.tableOf k (one.applied t b c p) .width ≡ one-kind.tableOf k t .width
+  widths (recipient m) recipients = entered-width (t .recipients) (length p) 0 m (length (b .recipients))
+  widths (recipient m) identities = refl
+  widths (recipient m) keys = refl
+  widths (recipient m) headers = refl
+  widths (identity m) recipients = refl
+  widths (identity m) identities = entered-width (t .identities) (length p) 0 m (length (b .identities))
+  widths (identity m) keys = refl
+  widths (identity m) headers = refl
+  widths key recipients = refl
+  widths key identities = refl
+  widths key keys = entered-width (t .keys) (length p) 0 0 (length (b .keys))
+  widths key headers = refl
+  widths (header i m) recipients = refl
+  widths (header i m) identities = refl
+  widths (header i m) keys = refl
+  widths (header i m) headers = entered-width (t .headers) (length p) i m (length (b .headers))
+  widths done k = refl
+  widths other k = refl
+  widths (bad n) k = refl
+
+  applied-wide : (c : Command) → Wide t → Wide (one.applied t b c p)
+  applied-wide c w (first k) = widths c k ∙ w (first k)
+  applied-wide c w (second k) = ap (λ x. x .width) (one-leaves t p b c k) ∙ w (second k)
+
+  applied-later-tables : (c : Command) → ReachedTwo t → ReachedTwo (one.applied t b c p)
+  unfolding ReachedTwo
+  applied-later-tables c r k = subst (KeptAs k) (sym (one-leaves t p b c k)) (r k)
+
+  applied-later : (c : Command) → LaterOpened t → LaterOpened (one.applied t b c p)
+  applied-later c l = (one-leaves t p b c errors ∙ l .0, one-leaves t p b c stanzas ∙ l .1, one-leaves t p b c returned ∙ l .2)
+
+-- .. of phase two
+module _ (t : Tables) (b : two.Buffers) (p : List ℕ) where
+  widths-two : (c : CommandTwo) (k : two.Kind) → two.tableOf k (two.applied t b c p) .width ≡ two.tableOf k t .width
+  widths-two (two-command.ask w) k = refl
+  widths-two (two-command.stanza f) errors = refl
+  widths-two (two-command.stanza f) stanzas = entered-width (t .stanzas) (length p) f 0 (length (b .stanzas))
+  widths-two (two-command.stanza f) returned = refl
+  widths-two (two-command.key f) errors = refl
+  widths-two (two-command.key f) stanzas = refl
+  widths-two (two-command.key f) returned = entered-width (t .returned) (length p) f 0 (length (b .returned))
+  widths-two (two-command.error n) errors = entered-width (t .errors) (length p) (two.indexOf n) (two.markOf n) (length (b .errors))
+  widths-two (two-command.error n) stanzas = refl
+  widths-two (two-command.error n) returned = refl
+  widths-two two-command.done k = refl
+  widths-two two-command.other k = refl
+  widths-two (two-command.bad n) k = refl
+
+  applied-wide-two : (c : CommandTwo) → Wide t → Wide (two.applied t b c p)
+  applied-wide-two c w (first k) = ap (λ x. x .width) (two-leaves t p b c k) ∙ w (first k)
+  applied-wide-two c w (second k) = widths-two c k ∙ w (second k)
+
+  applied-tables-two : (c : CommandTwo) → Reached t → Reached (two.applied t b c p)
+  unfolding Reached
+  applied-tables-two c r k = subst Filled (sym (two-leaves t p b c k)) (r k)
+
 -- ---- calls
 
-applied-later : (t : Tables) (b : Buffers) (c : Command) (p : List ℕ) → LaterOpened t → LaterOpened (applied t b c p)
-applied-later t b (recipient m) p l = l
-applied-later t b (identity m) p l = l
-applied-later t b key p l = l
-applied-later t b (header i m) p l = l
-applied-later t b done p l = l
-applied-later t b other p l = l
-applied-later t b (bad n) p l = l
+-- no call of phase two leads back
+received-on : (screen : Bool) (c : CommandTwo) → phaseReceived screen c ≡ One → ⊥
+received-on true (two-command.ask w) e = let z : _≡_ {A = ℕ} 0 1 = cc in omega arith
+received-on false (two-command.ask w) e = let z : _≡_ {A = ℕ} 0 1 = cc in omega arith
+received-on screen (two-command.stanza f) e = let z : _≡_ {A = ℕ} 0 1 = cc in omega arith
+received-on screen (two-command.key f) e = let z : _≡_ {A = ℕ} 0 1 = cc in omega arith
+received-on screen (two-command.error n) e = let z : _≡_ {A = ℕ} 0 1 = cc in omega arith
+received-on screen two-command.done e = let z : _≡_ {A = ℕ} 0 1 = cc in omega arith
+received-on screen two-command.other e = let z : _≡_ {A = ℕ} 0 1 = cc in omega arith
+received-on screen (two-command.bad n) e = let z : _≡_ {A = ℕ} 0 1 = cc in omega arith
+
+sent-on : (c : CommandTwo) → phaseSent c ≡ One → ⊥
+sent-on (two-command.ask w) e = let z : _≡_ {A = ℕ} 0 1 = cc in omega arith
+sent-on (two-command.stanza f) e = let z : _≡_ {A = ℕ} 0 1 = cc in omega arith
+sent-on (two-command.key f) e = let z : _≡_ {A = ℕ} 0 1 = cc in omega arith
+sent-on (two-command.error n) e = let z : _≡_ {A = ℕ} 0 1 = cc in omega arith
+sent-on two-command.done e = let z : _≡_ {A = ℕ} 0 1 = cc in omega arith
+sent-on two-command.other e = let z : _≡_ {A = ℕ} 0 1 = cc in omega arith
+sent-on (two-command.bad n) e = let z : _≡_ {A = ℕ} 0 1 = cc in omega arith
 
 module _ (s : Session) (r : ReachedSession s) where
+  -- another phase that is not the first
+  moved-reached : (p : Phase) → (p ≡ One → ⊥) → ReachedSession (moved s p (s .tables))
+  moved-reached p h = record { tables = r .tables; later-tables = r .later-tables; wide = r .wide; later = λ e. absurd (h e) }
+
   closed-reached : (f : Bool) → ReachedSession (pick f (closed s) s)
-  closed-reached true = record { tables = r .tables; later = λ e. let z : _≡_ {A = ℕ} 0 1 = cc in absurd (omega arith) }
+  closed-reached true = moved-reached Closed (λ e. let z : _≡_ {A = ℕ} 0 1 = cc in omega arith)
   closed-reached false = r
 
   left-reached : (c : Call) (n : ℕ) → ReachedSession (sessionAfter c n s)
   left-reached (receive text) n = closed-reached (closes n)
   left-reached (send word arguments body out) n = r
+  left-reached (receive-two text out) n = closed-reached (closes n)
+  left-reached (reply x body out) n = r
+  left-reached (send-two word arguments body out) n = r
+  left-reached (respond text out) n = closed-reached (closes n)
+
+  -- an accepted command of phase one
+  applied-so : (b b′ : one.Buffers) (line body : List ℕ) (s′ : Session) → Applied s b line body s′ b′ → ReachedSession s′
+  applied-so b b′ line body s′ a =
+      let c = commandIn (s .machine) (s .name) line body in
+      let p = payloadIn (s .machine) (s .name) line body in
+      subst ReachedSession (sym (a .session)) record {
+        tables = applied-reached (s .tables) b c p (payload-stored (s .name) line body (a .argued) (s .machine)) (r .tables);
+        later-tables = applied-later-tables (s .tables) b p c (r .later-tables);
+        wide = applied-wide (s .tables) b p c (r .wide);
+        later = λ e. applied-later (s .tables) b p c (r .later (a .turn));
+      }
+
+  -- .. of phase two
+  applied-two-so : (own : Bool) (b : Buffers) (line body : List ℕ) (phase : Phase) (text out : List ℕ) (o : Outcome) → AppliedTwo own s b line body phase text out o → (phase ≡ One → ⊥) → ReachedSession (o .session)
+  applied-two-so own b line body phase text out o a h =
+      let c = commandAt s line body in
+      let p = payloadAt s line body in
+      subst ReachedSession (sym (a .session)) record {
+        tables = applied-tables-two (s .tables) (b .second) p c (r .tables);
+        later-tables = applied-reached-two (s .tables) (b .second) c p (payload-stored-two line body (s .machine)) (r .later-tables);
+        wide = applied-wide-two (s .tables) (b .second) p c (r .wide);
+        later = λ e. absurd (h e);
+      }
+
+  -- .. an answer
+  answered-so : (s′ : Session) → s′ ≡ answered s → ReachedSession s′
+  answered-so s′ e = subst ReachedSession (sym e) (moved-reached Two (λ q. let z : _≡_ {A = ℕ} 0 1 = cc in omega arith))
+
+  accepted-reached : (b : Buffers) (c : Call) → AcceptedBy s b c → ReachedSession (outcome s b c .session)
+  accepted-reached b (receive text) a = applied-so (b .first) (outcome s b (receive text) .buffers .first) _ _ _ (a .applied)
+  accepted-reached b (send word arguments body out) a = applied-so (b .first) (outcome s b (send word arguments body out) .buffers .first) _ _ _ (a .applied)
+  accepted-reached b (receive-two text out) a = applied-two-so false b _ _ _ _ _ _ a (received-on (s .screen) (commandAt s (lineRead (readFirst text) text) (bodyRead (readFirst text) text)))
+  accepted-reached b (reply x body out) a = answered-so _ (a .session)
+  accepted-reached b (send-two word arguments body out) a = applied-two-so true b _ _ _ _ _ _ a (sent-on (commandAt s (two-command.lineSent word arguments) body))
+  accepted-reached b (respond text out) a = answered-so _ (a .1 .session)
 
 -- each call keeps a session so, accepted or refused
 pub call-reached : (s : Session) (b : Buffers) (c : Call) → ReachedSession s → ReachedSession (outcome s b c .session)
 call-reached s b c r =
     cases (eqb (outcome s b c .number) 0)
-    (λ f.
-    let a = accepted s b c (eqb-true (outcome s b c .number) 0 f) in
-    subst ReachedSession (sym (a .session)) record {
-      tables = applied-reached (s .tables) b (commandOf s c) (payloadOf s c) (payload-stored (s .name) (lineIn c) (bodyIn c) (a .argued) (s .machine)) (r .tables);
-      later = λ e. applied-later (s .tables) b (commandOf s c) (payloadOf s c) (r .later (a .turn));
-    })
+    (λ f. accepted-reached s r b c (accepted s b c (eqb-true (outcome s b c .number) 0 f)))
     (λ f. subst ReachedSession (sym (refusal s b c (eqb-false (outcome s b c .number) 0 f) .session)) (left-reached s r c (outcome s b c .number)))
 
 -- and so does every list of calls
@@ -109,3 +260,37 @@ pub after-reached : (s : Session) (b : Buffers) (cs : List Call) → ReachedSess
 unfolding after
 after-reached s b [] r = r
 after-reached s b (c ∷ cs) r = after-reached (outcome s b c .session) (outcome s b c .buffers) cs (call-reached s b c r)
+
+-- also where each call is lent its own buffers
+pub lent-reached : (s : Session) (cs : List Lent) → ReachedSession s → ReachedSession (afterLent s cs)
+unfolding afterLent
+lent-reached s [] r = r
+lent-reached s (c ∷ cs) r = lent-reached (outcome s (c .buffers) (c .call) .session) cs (call-reached s (c .buffers) (c .call) r)
+
+-- ---- a client session that has just sent done
+
+-- it is in phase two, and has nothing of it yet
+pub record JustReached (s : Session) : Type 0 where
+  pub turn : s .phase ≡ Two
+  pub later-opened : LaterOpened (s .tables)
+  pub reached : ReachedSession s
+
+just-from : (s₀ s : Session) (b : Buffers) (word : Word) (arguments body out : List ℕ) → ReachedSession s₀ →
+    commandIn (s .machine) (s .name) (lineSent word arguments) body ≡ done → outcome s₀ b (send word arguments body out) .number ≡ 0 → s ≡ outcome s₀ b (send word arguments body out) .session → JustReached s
+just-from s₀ s b word arguments body out r d z e =
+    let line = lineSent word arguments in
+    let a = accepted s₀ b (send word arguments body out) z .applied in
+    let c = commandIn (s₀ .machine) (s₀ .name) line body in
+    let p = payloadIn (s₀ .machine) (s₀ .name) line body in
+    let q : s ≡ moved s₀ (phaseAfter c) (one.applied (s₀ .tables) (b .first) c p) = e ∙ a .session in
+    let d₀ : c ≡ done = sym (ap (λ x. commandIn (x .machine) (x .name) line body) q) ∙ d in
+    record {
+      turn = ap (λ x. x .phase) q ∙ ap phaseAfter d₀;
+      later-opened = subst (λ x. LaterOpened (x .tables)) (sym q) (applied-later (s₀ .tables) (b .first) p c (r .later (a .turn)));
+      reached = subst ReachedSession (sym e) (call-reached s₀ b (send word arguments body out) r);
+    }
+
+pub just-done : (s : Session) → JustDone s → JustReached s
+just-done s j =
+    just-from (afterLent (opened (j .machine) (j .name) (j .screen) .session) (j .before)) s (j .buffers) (j .word) (j .arguments) (j .body) (j .out)
+    (lent-reached (opened (j .machine) (j .name) (j .screen) .session) (j .before) (opening-reached (j .machine) (j .name) (j .screen))) (j .is-done) (j .accepted) (j .reached)

@@ -1,39 +1,84 @@
 -- Tables: of any list of calls, refused ones included, at both ends, each kind's table is exactly the list's accepted commands of that kind, in order.
 use Prim.Native.Nat.{ℕ, _+_}
 use mathlib.Core.Path.{_≡_, refl, sym, ap, ap₂, _∙_}
-use mathlib.Core.Bool.{Bool}
+use mathlib.Core.Bool.{Bool, true, false}
 use mathlib.Core.List.{List, [], _∷_, _++_, append-nil, append-assoc}
 use lib.Dec.{eqb}
 use lib.ListN.{length, getD, length-append}
 use lib.Seq.{getD-at}
-use borrow.Author.Tests.{eqb-true, eqb-false}
+use borrow.Author.Tests.{eqb-true, eqb-false, eq-eqb, ne-eqb}
 use Rattle.refusal.specs.Pick.{pick}
 use Rattle.refusal.proofs.Laws.Booleans.{cases}
-use Rattle.tables.specs.Tables.{Row}
+use Rattle.stanza.specs.Reading.{readFirst}
+use Rattle.responses.specs.declared.WordTwo.the-variants.{Other}
+use Rattle.tables.specs.Tables.{Row, view}
 use Rattle.tables.proofs.Laws.Tables.{view-count}
 use Rattle.session.specs.Commands.{Command, recipient, identity, key, header, done, other, bad}
-use Rattle.session.specs.PhaseOne.{Tables, Buffers, openedTables, applied, filledBy}
-use Rattle.session.specs.Views.{Kind, recipients, identities, keys, headers, tableOf, bufferOf, viewOf, rowsOf}
-use Rattle.session.proofs.Laws.Views.{Reached}
+use Rattle.session.specs.PhaseOne as one
+use Rattle.session.specs.PhaseOne.{Tables, openedTables, commandIn, payloadIn}
 use Rattle.session.specs.Phases.{phaseAfter}
+use Rattle.session.specs.Views as one-kind
+use Rattle.session.specs.Views.{recipients, identities, keys, headers}
+use Rattle.session.specs.declared.phases.Phase.{Phase}
+use Rattle.session.specs.declared.phases.Phase.the-variants.{Awaiting}
+use Rattle.session.proofs.Laws.Views.{Reached}
 use Rattle.conversation.specs.Session.{Session, moved, opened}
-use Rattle.conversation.specs.Calls.{Call, outcome, after, lineIn, bodyIn, commandOf, payloadOf, acceptedRows}
-use Rattle.conversation.proofs.Laws.Accepted.{applied-rows, accepted}
+use Rattle.conversation.specs.Kinds.{Kind, first, second, Buffers, buffersOf, tableOf, viewOf, ofFile}
+use Rattle.conversation.specs.CommandsTwo as two-command
+use Rattle.conversation.specs.CommandsTwo.{CommandTwo}
+use Rattle.conversation.specs.PhaseTwo as two
+use Rattle.conversation.specs.PhaseTwo.{errors, stanzas, returned}
+use Rattle.conversation.specs.ReceivingTwo.{phaseReceived}
+use Rattle.conversation.specs.SendingTwo.{phaseSent}
+use Rattle.conversation.specs.Calls.{Call, receive, send, receive-two, reply, send-two, respond, Outcome, outcome, after, lineRead, bodyRead, Brought, in-one, in-two, no-command, broughtBy, rowsOne, rowsTwo, rowsBrought, acceptedRows}
+use Rattle.conversation.proofs.Laws.Accepted.{AppliedOne, AppliedTwo, commandAt, payloadAt, applied-rows, AcceptedBy, accepted}
 use Rattle.conversation.proofs.Laws.Reached.{ReachedSession, empty-reached, opening-tables, call-reached, after-reached}
 use Rattle.conversation.proofs.Laws.Refusals.{refusal}
+use Rattle.conversation.proofs.Laws.ViewsTwo.{kept-two, applied-view-two, one-leaves, two-leaves}
 
 -- ---- one call
 
-module _ (s : Session) (b : Buffers) (c : Call) (r : ReachedSession s) where
-  -- the rows that a call adds to a kind's table: those of its command if it is accepted, else none
-  pub call-view : (k : Kind) → viewOf k (outcome s b c .session .tables) (outcome s b c .buffers) ≡ viewOf k (s .tables) b ++ pick (eqb (outcome s b c .number) 0) (rowsOf (commandOf s c) k (payloadOf s c)) []
-  call-view k =
-      cases (eqb (outcome s b c .number) 0)
-      (λ f.
-      applied-rows s b (lineIn c) (bodyIn c) (outcome s b c .session) (outcome s b c .buffers) (accepted s b c (eqb-true (outcome s b c .number) 0 f)) (r .tables) k
-      ∙ ap (λ x. viewOf k (s .tables) b ++ pick x (rowsOf (commandOf s c) k (payloadOf s c)) []) (sym f))
-      (λ f. let w = refusal s b c (eqb-false (outcome s b c .number) 0 f) in
-      ap₂ (viewOf k) (w .tables) (w .buffers) ∙ sym (append-nil (viewOf k (s .tables) b)) ∙ ap (λ x. viewOf k (s .tables) b ++ pick x (rowsOf (commandOf s c) k (payloadOf s c)) []) (sym f))
+module _ (s : Session) (b : Buffers) where
+  same-rows : (o : Outcome) (k : Kind) → o .session .tables ≡ s .tables → o .buffers ≡ b → viewOf k (o .session .tables) (o .buffers) ≡ viewOf k (s .tables) b ++ []
+  same-rows o k t e = ap₂ (viewOf k) t e ∙ sym (append-nil (viewOf k (s .tables) b))
+
+module _ (s : Session) (b : Buffers) (r : ReachedSession s) where
+  -- the rows that an accepted command of phase one adds to a kind's table
+  one-rows : (line body text out : List ℕ) (o : Outcome) → AppliedOne s b line body text out o → (k : Kind) → viewOf k (o .session .tables) (o .buffers) ≡ viewOf k (s .tables) b ++ rowsOne s line body k
+  one-rows line body text out o a (first k) = applied-rows s (b .first) line body (o .session) (o .buffers .first) (a .applied) (r .tables) k
+  one-rows line body text out o a (second k) =
+      ap₂ (λ t x. view t (two.bufferOf k x))
+      (ap (λ x. two.tableOf k (x .tables)) (a .applied .session) ∙ one-leaves (s .tables) (payloadIn (s .machine) (s .name) line body) (b .first) (commandIn (s .machine) (s .name) line body) k) (a .second)
+      ∙ sym (append-nil (viewOf (second k) (s .tables) b))
+
+  -- .. one of phase two
+  two-rows : (own : Bool) (line body : List ℕ) (phase : Phase) (text out : List ℕ) (o : Outcome) → AppliedTwo own s b line body phase text out o →
+      (k : Kind) → viewOf k (o .session .tables) (o .buffers) ≡ viewOf k (s .tables) b ++ rowsTwo s line body k
+  two-rows own line body phase text out o a (first k) =
+      ap₂ (λ t x. view t (one-kind.bufferOf k x))
+      (ap (λ x. one-kind.tableOf k (x .tables)) (a .session) ∙ two-leaves (s .tables) (payloadAt s line body) (b .second) (commandAt s line body) k) (ap (λ x. x .first) (a .buffers))
+      ∙ sym (append-nil (viewOf (first k) (s .tables) b))
+  two-rows own line body phase text out o a (second k) =
+      ap₂ (two.viewOf k) (ap (λ x. x .tables) (a .session)) (ap (λ x. x .second) (a .buffers))
+      ∙ applied-view-two own (s .tables) (b .second) (payloadAt s line body) (r .later-tables) (commandAt s line body) (a .faultless) k
+
+  -- .. an accepted call
+  pub accepted-view : (c : Call) → AcceptedBy s b c → (k : Kind) → viewOf k (outcome s b c .session .tables) (outcome s b c .buffers) ≡ viewOf k (s .tables) b ++ rowsBrought s (broughtBy c) k
+  accepted-view (receive text) a k = one-rows _ _ _ _ (outcome s b (receive text)) a k
+  accepted-view (send word arguments body out) a k = one-rows _ _ _ _ (outcome s b (send word arguments body out)) a k
+  accepted-view (receive-two text out) a k = two-rows false _ _ _ _ _ (outcome s b (receive-two text out)) a k
+  accepted-view (reply x body out) a k = same-rows s b (outcome s b (reply x body out)) k (ap (λ x. x .tables) (a .session)) (a .buffers)
+  accepted-view (send-two word arguments body out) a k = two-rows true _ _ _ _ _ (outcome s b (send-two word arguments body out)) a k
+  accepted-view (respond text out) a k = same-rows s b (outcome s b (respond text out)) k (ap (λ x. x .tables) (a .1 .session)) (a .1 .buffers)
+
+-- the rows that a call adds to a kind's table: those of its command if it is accepted, else none
+pub call-view : (s : Session) (b : Buffers) (c : Call) → ReachedSession s → (k : Kind) →
+    viewOf k (outcome s b c .session .tables) (outcome s b c .buffers) ≡ viewOf k (s .tables) b ++ pick (eqb (outcome s b c .number) 0) (rowsBrought s (broughtBy c) k) []
+call-view s b c r k =
+    cases (eqb (outcome s b c .number) 0)
+    (λ f. accepted-view s b r c (accepted s b c (eqb-true (outcome s b c .number) 0 f)) k ∙ ap (λ x. viewOf k (s .tables) b ++ pick x (rowsBrought s (broughtBy c) k) []) (sym f))
+    (λ f. let w = refusal s b c (eqb-false (outcome s b c .number) 0 f) in
+    same-rows s b (outcome s b c) k (w .tables) (w .buffers) ∙ ap (λ x. viewOf k (s .tables) b ++ pick x (rowsBrought s (broughtBy c) k) []) (sym f))
 
 -- ---- lists of calls
 
@@ -47,10 +92,13 @@ tables-after k s b (c ∷ cs) r =
     ∙ append-assoc (viewOf k (s .tables) b) _ _
 
 empty-view : (k : Kind) (b : Buffers) → viewOf k openedTables b ≡ []
-empty-view recipients b = refl
-empty-view identities b = refl
-empty-view keys b = refl
-empty-view headers b = refl
+empty-view (first recipients) b = refl
+empty-view (first identities) b = refl
+empty-view (first keys) b = refl
+empty-view (first headers) b = refl
+empty-view (second errors) b = refl
+empty-view (second stanzas) b = refl
+empty-view (second returned) b = refl
 
 -- where the tables were as opened, each kind's table afterwards is exactly the list's accepted commands of that kind, in order
 pub tables-from-empty : (k : Kind) (s : Session) (b : Buffers) (cs : List Call) → s .tables ≡ openedTables →
@@ -64,10 +112,16 @@ tables-opened k machine name screen b cs = tables-from-empty k (opened machine n
 
 -- ---- counts and numbers
 
+-- a kind's buffer
+abbrev pub bufferOf : Kind → Buffers → List ℕ
+bufferOf (first k) b = one-kind.bufferOf k (b .first)
+bufferOf (second k) b = two.bufferOf k (b .second)
+
 -- a kind's count is the number of its rows, whatever the buffers
 pub count-rows : (k : Kind) (s : Session) (b : Buffers) → ReachedSession s → tableOf k (s .tables) .count ≡ length (viewOf k (s .tables) b)
 unfolding Reached
-count-rows k s b r = sym (view-count (tableOf k (s .tables)) (bufferOf k b) (r .tables k .kept-so))
+count-rows (first k) s b r = sym (view-count (one-kind.tableOf k (s .tables)) (one-kind.bufferOf k (b .first)) (r .tables k .kept-so))
+count-rows (second k) s b r = sym (view-count (two.tableOf k (s .tables)) (two.bufferOf k (b .second)) (kept-two (s .tables) (r .later-tables) k))
 
 -- so a kind's count grows by the number of its accepted commands
 pub count-after : (k : Kind) (s : Session) (b : Buffers) (cs : List Call) → ReachedSession s → tableOf k (after s b cs .session .tables) .count ≡ tableOf k (s .tables) .count + length (acceptedRows k s b cs)
@@ -81,10 +135,9 @@ pub record Numbered (s : Session) (b : Buffers) (c : Call) (k : Kind) (row : Row
   pub entry : (d : Row) → getD (viewOf k (outcome s b c .session .tables) (outcome s b c .buffers)) (tableOf k (s .tables) .count) d ≡ row
   pub rows : viewOf k (outcome s b c .session .tables) (outcome s b c .buffers) ≡ viewOf k (s .tables) b ++ (row ∷ [])
 
-pub numbered : (s : Session) (b : Buffers) (c : Call) (k : Kind) (row : Row) → ReachedSession s → outcome s b c .number ≡ 0 → rowsOf (commandOf s c) k (payloadOf s c) ≡ row ∷ [] → Numbered s b c k row
+pub numbered : (s : Session) (b : Buffers) (c : Call) (k : Kind) (row : Row) → ReachedSession s → outcome s b c .number ≡ 0 → rowsBrought s (broughtBy c) k ≡ row ∷ [] → Numbered s b c k row
 numbered s b c k row r z q =
-    let v : viewOf k (outcome s b c .session .tables) (outcome s b c .buffers) ≡ viewOf k (s .tables) b ++ (row ∷ []) =
-    call-view s b c r k ∙ ap (λ n. viewOf k (s .tables) b ++ pick (eqb n 0) (rowsOf (commandOf s c) k (payloadOf s c)) []) z ∙ ap (λ l. viewOf k (s .tables) b ++ l) q in
+    let v : viewOf k (outcome s b c .session .tables) (outcome s b c .buffers) ≡ viewOf k (s .tables) b ++ (row ∷ []) = accepted-view s b r c (accepted s b c z) k ∙ ap (λ l. viewOf k (s .tables) b ++ l) q in
     record {
       count =
           count-rows k (outcome s b c .session) (outcome s b c .buffers) (call-reached s b c r) ∙ ap length v ∙ length-append (viewOf k (s .tables) b) (row ∷ [])
@@ -93,8 +146,43 @@ numbered s b c k row r z q =
       rows = v;
     }
 
+-- ---- numbers within a file
+
+-- the rows of one file, of two lists together
+pub of-file-append : (f : ℕ) (a b : List Row) → ofFile f (a ++ b) ≡ ofFile f a ++ ofFile f b
+unfolding ofFile
+of-file-append f [] b = refl
+of-file-append f (x ∷ a) b = ap (λ l. pick (eqb (x .index) f) (x ∷ []) [] ++ l) (of-file-append f a b) ∙ sym (append-assoc (pick (eqb (x .index) f) (x ∷ []) []) (ofFile f a) (ofFile f b))
+
+own-file : (f : ℕ) (row : Row) → row .index ≡ f → ofFile f (row ∷ []) ≡ row ∷ []
+unfolding ofFile
+own-file f row e = ap (λ x. pick x (row ∷ []) [] ++ []) (eq-eqb (row .index) f e)
+
+-- an accepted command for the file f, a stanza or a key: its number there is the count of that file's before it, and its row stands there
+pub record NumberedInFile (s : Session) (b : Buffers) (c : Call) (k : Kind) (f : ℕ) (row : Row) : Type 0 where
+  pub rows : ofFile f (viewOf k (outcome s b c .session .tables) (outcome s b c .buffers)) ≡ ofFile f (viewOf k (s .tables) b) ++ (row ∷ [])
+  pub entry : (d : Row) → getD (ofFile f (viewOf k (outcome s b c .session .tables) (outcome s b c .buffers))) (length (ofFile f (viewOf k (s .tables) b))) d ≡ row
+
+pub numbered-in-file : (s : Session) (b : Buffers) (c : Call) (k : Kind) (f : ℕ) (row : Row) → ReachedSession s → outcome s b c .number ≡ 0 →
+    rowsBrought s (broughtBy c) k ≡ row ∷ [] → row .index ≡ f → NumberedInFile s b c k f row
+numbered-in-file s b c k f row r z q e =
+    let v : ofFile f (viewOf k (outcome s b c .session .tables) (outcome s b c .buffers)) ≡ ofFile f (viewOf k (s .tables) b) ++ (row ∷ []) =
+    ap (ofFile f) (numbered s b c k row r z q .rows) ∙ of-file-append f (viewOf k (s .tables) b) (row ∷ []) ∙ ap (λ l. ofFile f (viewOf k (s .tables) b) ++ l) (own-file f row e) in
+    record { rows = v; entry = λ d. ap (λ l. getD l (length (ofFile f (viewOf k (s .tables) b))) d) v ∙ getD-at (ofFile f (viewOf k (s .tables) b)) row [] d (length (ofFile f (viewOf k (s .tables) b))) refl }
+
+-- another file's rows stay
+pub other-file : (s : Session) (b : Buffers) (c : Call) (k : Kind) (f : ℕ) (row : Row) → ReachedSession s → outcome s b c .number ≡ 0 →
+    rowsBrought s (broughtBy c) k ≡ row ∷ [] → (row .index ≡ f → ⊥) → ofFile f (viewOf k (outcome s b c .session .tables) (outcome s b c .buffers)) ≡ ofFile f (viewOf k (s .tables) b)
+unfolding ofFile
+other-file s b c k f row r z q h =
+    ap (ofFile f) (numbered s b c k row r z q .rows) ∙ of-file-append f (viewOf k (s .tables) b) (row ∷ [])
+    ∙ ap (λ x. ofFile f (viewOf k (s .tables) b) ++ (pick x (row ∷ []) [] ++ [])) (ne-eqb (row .index) f h) ∙ append-nil (ofFile f (viewOf k (s .tables) b))
+
+-- ---- what a command leaves
+
 -- a command makes no entry of a kind: the kind's table and its buffer stay
-applied-elsewhere : (t : Tables) (b : Buffers) (c : Command) (k : Kind) (p : List ℕ) → rowsOf c k p ≡ [] → (tableOf k (applied t b c p) ≡ tableOf k t) × (bufferOf k (filledBy t b c p) ≡ bufferOf k b)
+applied-elsewhere : (t : Tables) (b : one.Buffers) (c : Command) (k : one-kind.Kind) (p : List ℕ) → one-kind.rowsOf c k p ≡ [] →
+    (one-kind.tableOf k (one.applied t b c p) ≡ one-kind.tableOf k t) × (one-kind.bufferOf k (one.filledBy t b c p) ≡ one-kind.bufferOf k b)
 applied-elsewhere t b (recipient m) recipients p h = (cc, cc)
 applied-elsewhere t b (recipient m) identities p h = (refl, refl)
 applied-elsewhere t b (recipient m) keys p h = (refl, refl)
@@ -115,17 +203,101 @@ applied-elsewhere t b done k p h = (refl, refl)
 applied-elsewhere t b other k p h = (refl, refl)
 applied-elsewhere t b (bad n) k p h = (refl, refl)
 
--- an accepted command of another kind, or of none, changes neither a kind's table nor its buffer
-pub elsewhere : (s : Session) (b : Buffers) (c : Call) (k : Kind) → outcome s b c .number ≡ 0 → rowsOf (commandOf s c) k (payloadOf s c) ≡ [] →
-    (tableOf k (outcome s b c .session .tables) ≡ tableOf k (s .tables)) × (bufferOf k (outcome s b c .buffers) ≡ bufferOf k b)
-elsewhere s b c k z q =
-    let a = accepted s b c z in
-    let w = applied-elsewhere (s .tables) b (commandOf s c) k (payloadOf s c) q in
-    (ap (λ x. tableOf k (x .tables)) (a .session) ∙ w .0, ap (bufferOf k) (a .buffers) ∙ w .1)
+two-elsewhere : (t : Tables) (b : two.Buffers) (c : CommandTwo) (k : two.Kind) (p : List ℕ) → two.rowsOf c k p ≡ [] →
+    (two.tableOf k (two.applied t b c p) ≡ two.tableOf k t) × (two.bufferOf k (two.filledBy t b c p) ≡ two.bufferOf k b)
+two-elsewhere t b (two-command.ask w) k p h = (refl, refl)
+two-elsewhere t b (two-command.stanza f) errors p h = (refl, refl)
+two-elsewhere t b (two-command.stanza f) stanzas p h = (cc, cc)
+two-elsewhere t b (two-command.stanza f) returned p h = (refl, refl)
+two-elsewhere t b (two-command.key f) errors p h = (refl, refl)
+two-elsewhere t b (two-command.key f) stanzas p h = (refl, refl)
+two-elsewhere t b (two-command.key f) returned p h = (cc, cc)
+two-elsewhere t b (two-command.error n) errors p h = (cc, cc)
+two-elsewhere t b (two-command.error n) stanzas p h = (refl, refl)
+two-elsewhere t b (two-command.error n) returned p h = (refl, refl)
+two-elsewhere t b two-command.done k p h = (refl, refl)
+two-elsewhere t b two-command.other k p h = (refl, refl)
+two-elsewhere t b (two-command.bad n) k p h = (refl, refl)
 
--- an ignored command changes nothing
-pub ignored : (s : Session) (b : Buffers) (c : Call) → outcome s b c .number ≡ 0 → commandOf s c ≡ other →
-    (outcome s b c .session ≡ s) × (outcome s b c .buffers ≡ b)
-ignored s b c z q =
-    let a = accepted s b c z in
-    (a .session ∙ ap (λ x. moved s (phaseAfter x) (applied (s .tables) b x (payloadOf s c))) q ∙ ap (λ p. moved s p (s .tables)) (sym (a .turn)), a .buffers ∙ ap (λ x. filledBy (s .tables) b x (payloadOf s c)) q)
+module _ (s : Session) (b : Buffers) where
+  abbrev Stays : Outcome → Kind → Type 0
+  Stays o k = (tableOf k (o .session .tables) ≡ tableOf k (s .tables)) × (bufferOf k (o .buffers) ≡ bufferOf k b)
+
+  one-stays : (line body text out : List ℕ) (o : Outcome) → AppliedOne s b line body text out o → (k : Kind) → rowsOne s line body k ≡ [] → Stays o k
+  one-stays line body text out o a (first k) q =
+      let w = applied-elsewhere (s .tables) (b .first) (commandIn (s .machine) (s .name) line body) k (payloadIn (s .machine) (s .name) line body) q in
+      (ap (λ x. one-kind.tableOf k (x .tables)) (a .applied .session) ∙ w .0, ap (one-kind.bufferOf k) (a .applied .buffers) ∙ w .1)
+  one-stays line body text out o a (second k) q = (
+    ap (λ x. two.tableOf k (x .tables)) (a .applied .session) ∙ one-leaves (s .tables) (payloadIn (s .machine) (s .name) line body) (b .first) (commandIn (s .machine) (s .name) line body) k,
+    ap (two.bufferOf k) (a .second),
+  )
+
+  two-stays : (own : Bool) (line body : List ℕ) (phase : Phase) (text out : List ℕ) (o : Outcome) → AppliedTwo own s b line body phase text out o → (k : Kind) → rowsTwo s line body k ≡ [] → Stays o k
+  two-stays own line body phase text out o a (first k) q = (
+    ap (λ x. one-kind.tableOf k (x .tables)) (a .session) ∙ two-leaves (s .tables) (payloadAt s line body) (b .second) (commandAt s line body) k,
+    ap (λ x. one-kind.bufferOf k (x .first)) (a .buffers),
+  )
+  two-stays own line body phase text out o a (second k) q =
+      let w = two-elsewhere (s .tables) (b .second) (commandAt s line body) k (payloadAt s line body) q in
+      (ap (λ x. two.tableOf k (x .tables)) (a .session) ∙ w .0, ap (λ x. two.bufferOf k (x .second)) (a .buffers) ∙ w .1)
+
+  -- an accepted call whose command makes no entry of a kind, or that has no command, changes neither the kind's table nor its buffer
+  pub elsewhere : (c : Call) (k : Kind) → outcome s b c .number ≡ 0 → rowsBrought s (broughtBy c) k ≡ [] →
+      (tableOf k (outcome s b c .session .tables) ≡ tableOf k (s .tables)) × (bufferOf k (outcome s b c .buffers) ≡ bufferOf k b)
+  elsewhere c k z = by c (accepted s b c z)
+    where
+      by : (c : Call) → AcceptedBy s b c → rowsBrought s (broughtBy c) k ≡ [] → Stays (outcome s b c) k
+      by (receive text) a q = one-stays _ _ _ _ (outcome s b (receive text)) a k q
+      by (send word arguments body out) a q = one-stays _ _ _ _ (outcome s b (send word arguments body out)) a k q
+      by (receive-two text out) a q = two-stays false _ _ _ _ _ (outcome s b (receive-two text out)) a k q
+      by (reply x body out) a q = (ap (λ x. tableOf k (x .tables)) (a .session), ap (bufferOf k) (a .buffers))
+      by (send-two word arguments body out) a q = two-stays true _ _ _ _ _ (outcome s b (send-two word arguments body out)) a k q
+      by (respond text out) a q = (ap (λ x. tableOf k (x .tables)) (a .1 .session), ap (bufferOf k) (a .1 .buffers))
+
+-- a call brings an ignored command, one that is not named for the machine in its phase's table
+abbrev pub Ignored : Session → Brought → Type 0
+Ignored s (in-one line body) = commandIn (s .machine) (s .name) line body ≡ other
+Ignored s (in-two line body) = commandAt s line body ≡ two-command.other
+Ignored s no-command = ⊥
+
+-- the phase behind it: the same, but at the plugin's sending it awaits its response
+abbrev pub phaseIgnored : Session → Call → Phase
+phaseIgnored s (receive text) = s .phase
+phaseIgnored s (send word arguments body out) = s .phase
+phaseIgnored s (receive-two text out) = s .phase
+phaseIgnored s (reply r body out) = s .phase
+phaseIgnored s (send-two word arguments body out) = Awaiting Other
+phaseIgnored s (respond text out) = s .phase
+
+module _ (s : Session) (b : Buffers) where
+  abbrev Unchanged : Phase → Outcome → Type 0
+  Unchanged p o = (o .session ≡ moved s p (s .tables)) × (o .buffers ≡ b)
+
+  one-ignored : (line body text out : List ℕ) (o : Outcome) → AppliedOne s b line body text out o → commandIn (s .machine) (s .name) line body ≡ other → Unchanged (s .phase) o
+  one-ignored line body text out o a q =
+      let p = payloadIn (s .machine) (s .name) line body in (
+        a .applied .session ∙ ap (λ x. moved s (phaseAfter x) (one.applied (s .tables) (b .first) x p)) q ∙ ap (λ h. moved s h (s .tables)) (sym (a .applied .turn)),
+        ap₂ buffersOf (a .applied .buffers ∙ ap (λ x. one.filledBy (s .tables) (b .first) x p) q) (a .second),
+      )
+
+  two-ignored : (own : Bool) (line body : List ℕ) (phase : CommandTwo → Phase) (text out : List ℕ) (o : Outcome) → AppliedTwo own s b line body (phase (commandAt s line body)) text out o →
+      commandAt s line body ≡ two-command.other → Unchanged (phase two-command.other) o
+  two-ignored own line body phase text out o a q =
+      let p = payloadAt s line body in (
+        a .session ∙ ap (λ x. moved s (phase x) (two.applied (s .tables) (b .second) x p)) q,
+        a .buffers ∙ ap (λ x. buffersOf (b .first) (two.filledBy (s .tables) (b .second) x p)) q,
+      )
+
+  -- it changes nothing else
+  pub ignored : (c : Call) → outcome s b c .number ≡ 0 → Ignored s (broughtBy c) → (outcome s b c .session ≡ moved s (phaseIgnored s c) (s .tables)) × (outcome s b c .buffers ≡ b)
+  ignored c z = by c (accepted s b c z)
+    where
+      by : (c : Call) → AcceptedBy s b c → Ignored s (broughtBy c) → Unchanged (phaseIgnored s c) (outcome s b c)
+      by (receive text) a q = one-ignored _ _ _ _ (outcome s b (receive text)) a q
+      by (send word arguments body out) a q = one-ignored _ _ _ _ (outcome s b (send word arguments body out)) a q
+      by (receive-two text out) a q =
+          let w = two-ignored false (lineRead (readFirst text) text) (bodyRead (readFirst text) text) (phaseReceived (s .screen)) _ out (outcome s b (receive-two text out)) a q in
+          (w .0 ∙ ap (λ h. moved s h (s .tables)) (sym (a .turn)), w .1)
+      by (reply x body out) a q = absurd q
+      by (send-two word arguments body out) a q = two-ignored true (two-command.lineSent word arguments) body phaseSent _ out (outcome s b (send-two word arguments body out)) a q
+      by (respond text out) a q = absurd q

@@ -24,8 +24,8 @@ use Rattle.session.specs.Views as one-kind
 use Rattle.session.specs.declared.commands.Machine.{Machine}
 use Rattle.session.specs.declared.commands.Machine.the-variants.{RecipientV1, IdentityV1}
 use Rattle.session.proofs.Laws.Views.{first-zero}
-use Rattle.conversation.specs.CommandsTwo.{Named, identity, recipient, CommandTwo, ask, stanza, key, error, done, other, bad, internalWord, identityWord, recipientWord, stanzaWord, areLabels, stanzaAt, keyAt, errorAt, headerAt, errorOf, errorCommand, rowTwo, commandTwo, wordTwo, payloadOf}
-use Rattle.conversation.specs.PhaseTwo.{Kind, errors, stanzas, returned, Buffers, tableOf, bufferOf, viewOf, isMissing, isSecondKey, isTooMany, isClashing, isSpaceless, isHeldBack, faultOf, when, decided, applied, filledBy, rowsOf}
+use Rattle.conversation.specs.CommandsTwo.{Named, identity, recipient, CommandTwo, ask, stanza, key, error, done, other, bad, internalWord, identityWord, recipientWord, stanzaWord, areLabels, stanzaAt, keyAt, errorAt, headerAt, errorOf, rowTwo, commandTwo, wordTwo, payloadOf}
+use Rattle.conversation.specs.PhaseTwo.{Kind, errors, stanzas, returned, Buffers, tableOf, viewOf, isMissing, isSecondKey, isTooMany, isClashing, isSpaceless, isHeldBack, faultOf, when, decided, applied, filledBy, rowsOf}
 use Rattle.conversation.proofs.Laws.Accepted.{second-zero}
 
 -- ---- no fault
@@ -68,6 +68,20 @@ faultless own t b c n h =
       unheld = when-zero (own && isHeldBack t c) 19 (omega arith) (first-zero held full h5);
       space = when-zero (isSpaceless t b c n) 8 (omega arith) (second-zero held full h5);
     }
+
+first-none : (n late : ℕ) → n ≡ 0 → late ≡ 0 → firstOf n late ≡ 0
+first-none n late p q = ap (λ x. firstOf x late) p ∙ q
+
+-- and one that finds no fault gives 0
+pub faultless-zero : (own : Bool) (t : Tables) (b : Buffers) (c : CommandTwo) (n : ℕ) → Faultless own t b c n → decided own t b c n ≡ 0
+unfolding decided
+faultless-zero own t b c n h =
+    first-none (faultOf c) _ (h .right)
+    (first-none (when (isMissing t c) 6) _ (ap (λ x. when x 6) (h .present))
+    (first-none (when (isSecondKey t c) 9) _ (ap (λ x. when x 9) (h .first-key))
+    (first-none (when (isTooMany t c) 10) _ (ap (λ x. when x 10) (h .few))
+    (first-none (when (isClashing t c) 11) _ (ap (λ x. when x 11) (h .apart))
+    (first-none (when (own && isHeldBack t c) 19) _ (ap (λ x. when x 19) (h .unheld)) (ap (λ x. when x 8) (h .space)))))))
 
 -- ---- tables that an opening and calls can reach
 
