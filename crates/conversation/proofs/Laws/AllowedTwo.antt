@@ -35,10 +35,11 @@ use Rattle.conversation.proofs.Laws.Accepted.{accepted}
 use Rattle.conversation.proofs.Laws.CommandsTwo.{Proper, command-proper}
 use Rattle.conversation.proofs.Laws.DecidedTwo.{decided-iff, Faultless}
 use Rattle.conversation.proofs.Laws.Limits.{placed-length}
-use Rattle.conversation.proofs.Laws.PresentTwo.{Shows, applied-first, applied-shows, most-is, present-iff}
+use Rattle.conversation.proofs.Laws.PresentTwo.{Shows, applied-shows, most-is, present-iff}
 use Rattle.conversation.proofs.Laws.Runs.{after-append, accepted-append, enough-append}
 use Rattle.conversation.proofs.Laws.StepsTwo.{at, judged, tablesWith, buffersWith, Settled, phaseBehind, BlockDone, block-from, block-to}
 use Rattle.conversation.proofs.Laws.SumsTwo.{sumsIn, said, Going, With, Kept-limits, limits-with, tests-by, adds}
+use Rattle.conversation.proofs.Laws.ViewsTwo.{two-leaves, applied-view-two}
 
 -- ---- limits: smaller sums keep them
 
@@ -126,7 +127,7 @@ filled-length t b other p k = refl
 filled-length t b (bad n) p k = refl
 
 most-same : (t : Tables) (b : two.Buffers) (c : CommandTwo) (p : List ℕ) → mostStanzas t ≡ mostStanzas (applied t b c p)
-most-same t b c p = ap₂ (λ x y. x .count + y .count) (sym (applied-first t b c p recipients)) (sym (applied-first t b c p identities))
+most-same t b c p = ap₂ (λ x y. x .count + y .count) (sym (two-leaves t p b c recipients)) (sym (two-leaves t p b c identities))
 
 -- behind an accepted command
 pub standing-with : (own : Bool) (left : Left) (t : Tables) (b : two.Buffers) (c : CommandTwo) (p : List ℕ) → Standing left t b → Faultless own t b c (length p) → Standing left (applied t b c p) (filledBy t b c p)

@@ -29,66 +29,13 @@ use Rattle.conversation.specs.Answers.{Event, asked, responded, askedBy,
 use Rattle.conversation.specs.Calls.{Call, receive, send, receive-two, reply, send-two, respond, outcome, sessionAfter, after}
 use Rattle.conversation.specs.CommandsTwo.{Named, internal, identity, recipient, CommandTwo, ask, stanza, key, error, done, other, bad, areLabels, internalWord, identityWord, recipientWord, stanzaWord, stanzaAt, keyAt, errorAt, headerAt, errorOf, rowTwo, wordTwo, commandTwo, lineSent}
 use Rattle.conversation.specs.Kinds.{Buffers}
-use Rattle.conversation.specs.Phases.{lineIn, bodyIn, commandIn}
+use Rattle.conversation.specs.Phases.{lineIn, bodyIn, isDone, commandIn}
 use Rattle.conversation.specs.ReceivingTwo.{atOnce, phaseReceived}
 use Rattle.conversation.specs.SendingTwo.{phaseSent}
 use Rattle.conversation.specs.Session.{Session, closed, opened}
+use Rattle.conversation.proofs.Laws.CommandsTwo.{Proper, command-proper}
 use Rattle.conversation.proofs.Laws.Accepted.{Applied, accepted}
 use Rattle.conversation.proofs.Laws.Refusals.{refusal}
-
--- ---- a command that waits for an answer can be answered fail
-
-abbrev Proper : CommandTwo → Type 0
-Proper (ask w) = fitting w Fail ≡ true
-Proper (stanza f) = Unit
-Proper (key f) = Unit
-Proper (error n) = Unit
-Proper done = Unit
-Proper other = Unit
-Proper (bad n) = Unit
-
-either : (f : Bool) (c d : CommandTwo) → Proper c → Proper d → Proper (pick f c d)
-either true c d p q = p
-either false c d p q = q
-
-stanza-proper : (r : Reading) → Proper (stanzaAt r)
-stanza-proper (number f) = tt
-stanza-proper (refused n) = tt
-
-key-proper : (r : Reading) → Proper (keyAt r)
-key-proper (number f) = tt
-key-proper (refused n) = tt
-
-error-proper : (name : ℕ → Named) (r : Reading) → Proper (errorAt name r)
-error-proper name (number i) = tt
-error-proper name (refused n) = tt
-
-header-proper : (q r : Reading) → Proper (headerAt q r)
-header-proper (number f) (number i) = tt
-header-proper (number f) (refused n) = tt
-header-proper (refused n) r = tt
-
-module _ (line : List ℕ) where
-  error-of : (m : Machine) → Proper (errorOf m line)
-  error-of RecipientV1 = either (same (argumentOf line 1) recipientWord && eqb (countOf line) 3) _ (bad 4) (error-proper recipient (readIndex (argumentOf line 2))) tt
-  error-of IdentityV1 = either (same (argumentOf line 1) stanzaWord && eqb (countOf line) 4) _ (bad 4) (header-proper (readIndex (argumentOf line 2)) (readIndex (argumentOf line 3))) tt
-
-  row-proper : (w : WordTwo) (m : Machine) (n : ℕ) → Proper (rowTwo w m line n)
-  row-proper Msg m n = either (eqb (countOf line) 1) (ask Msg) (bad 4) refl tt
-  row-proper Confirm m n = either (areLabels line) (ask Confirm) (bad 4) refl tt
-  row-proper RequestPublic m n = either (eqb (countOf line) 1) (ask RequestPublic) (bad 4) refl tt
-  row-proper RequestSecret m n = either (eqb (countOf line) 1) (ask RequestSecret) (bad 4) refl tt
-  row-proper RecipientStanza m n = either (leb 3 (countOf line)) _ (bad 4) (stanza-proper (readIndex (argumentOf line 1))) tt
-  row-proper FileKey m n = either (eqb (countOf line) 2 && eqb n 16) _ (bad 4) (key-proper (readIndex (argumentOf line 1))) tt
-  row-proper Error m n =
-      either (same (argumentOf line 1) internalWord && eqb (countOf line) 2) (error internal) _ tt
-      (either (same (argumentOf line 1) identityWord && eqb (countOf line) 3) _ (errorOf m line) (error-proper identity (readIndex (argumentOf line 2))) (error-of m))
-  row-proper Other m n = tt
-  row-proper Done m n = either (isBare line n 0) done (bad 4) tt tt
-
-  command-proper : (m : Machine) (body : List ℕ) → Proper (commandTwo m line body)
-  unfolding commandTwo
-  command-proper m body = row-proper (wordTwo m (argumentOf line 0)) m (length body)
 
 -- ---- the events so far, by the phase
 
@@ -127,15 +74,15 @@ one-so-far one-command.other es e = append-nil es ∙ e
 one-so-far (one-command.bad n) es e = append-nil es ∙ e
 
 -- one that the client end received
-received-so-far : (screen : Bool) (c : CommandTwo) (es : List Event) → Proper c → Paired es → SoFar (phaseReceived screen c) (es ++ (askedBy c ++ answeredBy (atOnce screen c)))
-received-so-far true (ask w) es f p = (es, p, refl)
-received-so-far false (ask w) es f p = paired-more es _ _ f p
-received-so-far screen (stanza f) es u p = paired-more es _ _ refl p
-received-so-far screen (key f) es u p = paired-more es _ _ refl p
-received-so-far screen (error n) es u p = paired-more es _ _ refl p
-received-so-far screen done es u p = paired-nil es p
-received-so-far screen other es u p = paired-more es _ _ refl p
-received-so-far screen (bad n) es u p = paired-nil es p
+received-so-far : (screen : Bool) (d : Bool) (c : CommandTwo) (es : List Event) → Proper d c → Paired es → SoFar (phaseReceived screen c) (es ++ (askedBy c ++ answeredBy (atOnce screen c)))
+received-so-far true d (ask w) es f p = (es, p, refl)
+received-so-far false d (ask w) es f p = paired-more es _ _ f p
+received-so-far screen d (stanza f) es u p = paired-more es _ _ refl p
+received-so-far screen d (key f) es u p = paired-more es _ _ refl p
+received-so-far screen d (error n) es u p = paired-more es _ _ refl p
+received-so-far screen d done es u p = paired-nil es p
+received-so-far screen d other es u p = paired-more es _ _ refl p
+received-so-far screen d (bad n) es u p = paired-nil es p
 
 -- one that the plugin end sent
 sent-so-far : (c : CommandTwo) (es : List Event) → Paired es → SoFar (phaseSent c) (es ++ askedBy c)
@@ -179,7 +126,7 @@ accepted-so-far s b (receive-two text out) es h i =
     let a = accepted s b (receive-two text out) h in
     let c = commandIn (s .machine) text in
     subst (λ x. SoFar (x .phase) (es ++ (askedBy c ++ answeredBy (atOnce (s .screen) c)))) (sym (a .session))
-    (received-so-far (s .screen) c es (command-proper (lineIn text) (s .machine) (bodyIn text)) (subst (λ p. SoFar p es) (a .turn) i))
+    (received-so-far (s .screen) (isDone text) c es (command-proper (s .machine) (lineIn text) (bodyIn text)) (subst (λ p. SoFar p es) (a .turn) i))
 accepted-so-far s b (reply r body out) es h i =
     let a = accepted s b (reply r body out) h in
     subst (λ x. SoFar (x .phase) (es ++ (responded r ∷ []))) (sym (a .session)) (answered-so-far (a .awaited) r body es (a .fitting) (subst (λ p. SoFar p es) (a .turn) i))

@@ -20,6 +20,7 @@ use Rattle.conversation.specs.PhaseTwo.{Label, labels, howMany, isAny, p
 use Rattle.conversation.specs.Allowed.{Left, RowAt, Present}
 use Rattle.conversation.proofs.Laws.DecidedTwo.{rowLabel, rowLabels}
 use Rattle.conversation.proofs.Laws.SumsTwo.{not-is}
+use Rattle.conversation.proofs.Laws.ViewsTwo.{two-leaves}
 
 -- ---- a test of labels and a property of rows
 
@@ -55,20 +56,11 @@ pub record Shows (t : Tables) (left : Left) : Type 0 where
 pub most-is : (t : Tables) (left : Left) → Shows t left → mostStanzas t ≡ length (left recipients) + length (left identities)
 most-is t left s = ap₂ _+_ (s .counts recipients) (s .counts identities)
 
--- a command of phase two leaves phase one's tables
-pub applied-first : (t : Tables) (b : Buffers) (c : CommandTwo) (p : List ℕ) (k : one-kind.Kind) → one-kind.tableOf k (applied t b c p) ≡ one-kind.tableOf k t
-applied-first t b (ask w) p k = refl
-applied-first t b (stanza f) p k = elim k [ recipients ↦ refl | identities ↦ refl | keys ↦ refl | headers ↦ refl ]
-applied-first t b (key f) p k = elim k [ recipients ↦ refl | identities ↦ refl | keys ↦ refl | headers ↦ refl ]
-applied-first t b (error n) p k = elim k [ recipients ↦ refl | identities ↦ refl | keys ↦ refl | headers ↦ refl ]
-applied-first t b done p k = refl
-applied-first t b other p k = refl
-applied-first t b (bad n) p k = refl
-
+-- a command of phase two leaves them
 pub applied-shows : (t : Tables) (b : Buffers) (c : CommandTwo) (p : List ℕ) (left : Left) → Shows t left → Shows (applied t b c p) left
 applied-shows t b c p left s = record {
-  counts = λ k. ap (λ x. x .count) (applied-first t b c p k) ∙ s .counts k;
-  labelled = λ k. ap labels (applied-first t b c p k) ∙ s .labelled k;
+  counts = λ k. ap (λ x. x .count) (two-leaves t p b c k) ∙ s .counts k;
+  labelled = λ k. ap labels (two-leaves t p b c k) ∙ s .labelled k;
 }
 
 -- ---- No. 6

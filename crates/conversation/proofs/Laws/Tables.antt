@@ -60,7 +60,7 @@ module _ (s : Session) (b : Buffers) (r : ReachedSession s) where
       ∙ sym (append-nil (viewOf (first k) (s .tables) b))
   two-rows own line body phase text out o a (second k) =
       ap₂ (two.viewOf k) (ap (λ x. x .tables) (a .session)) (ap (λ x. x .second) (a .buffers))
-      ∙ applied-view-two own (s .tables) (b .second) (payloadAt s line body) (r .later-tables) (commandAt s line body) (a .faultless) k
+      ∙ applied-view-two own (s .tables) (b .second) (payloadAt s line body) (kept-two (s .tables) (r .later-tables)) (commandAt s line body) (a .faultless) k
 
   -- .. an accepted call
   pub accepted-view : (c : Call) → AcceptedBy s b c → (k : Kind) → viewOf k (outcome s b c .session .tables) (outcome s b c .buffers) ≡ viewOf k (s .tables) b ++ rowsBrought s (broughtBy c) k

@@ -1,4 +1,4 @@
--- An accepted command of phase two finds no fault, and adds one row to its kind's table and none to another's: once for every kind.
+-- An accepted command of phase two adds one row to its kind's table and none to another's: once for every kind.
 use Prim.Native.Nat.{ℕ, _<_}
 use mathlib.Core.Path.{_≡_, refl, sym, ap, _∙_}
 use mathlib.Core.Bool.{Bool, true, false, not, _&&_}
@@ -26,62 +26,7 @@ use Rattle.session.specs.declared.commands.Machine.the-variants.{RecipientV1, I
 use Rattle.session.proofs.Laws.Views.{first-zero}
 use Rattle.conversation.specs.CommandsTwo.{Named, identity, recipient, CommandTwo, ask, stanza, key, error, done, other, bad, internalWord, identityWord, recipientWord, stanzaWord, areLabels, stanzaAt, keyAt, errorAt, headerAt, errorOf, rowTwo, commandTwo, wordTwo, payloadOf}
 use Rattle.conversation.specs.PhaseTwo.{Kind, errors, stanzas, returned, Buffers, tableOf, viewOf, isMissing, isSecondKey, isTooMany, isClashing, isSpaceless, isHeldBack, faultOf, when, decided, applied, filledBy, rowsOf}
-use Rattle.conversation.proofs.Laws.Accepted.{second-zero}
-
--- ---- no fault
-
--- each test of the decision, where it finds none
-pub record Faultless (own : Bool) (t : Tables) (b : Buffers) (c : CommandTwo) (n : ℕ) : Type 0 where
-  pub right : faultOf c ≡ 0
-  pub present : isMissing t c ≡ false
-  pub first-key : isSecondKey t c ≡ false
-  pub few : isTooMany t c ≡ false
-  pub apart : isClashing t c ≡ false
-  pub unheld : (own && isHeldBack t c) ≡ false
-  pub space : isSpaceless t b c n ≡ false
-
-when-zero : (test : Bool) (n : ℕ) → 0 < n → when test n ≡ 0 → test ≡ false
-when-zero true n p h = absurd (omega arith)
-when-zero false n p h = refl
-
--- a decision that gives 0 finds no fault
-pub faultless : (own : Bool) (t : Tables) (b : Buffers) (c : CommandTwo) (n : ℕ) → decided own t b c n ≡ 0 → Faultless own t b c n
-unfolding decided
-faultless own t b c n h =
-    let missing = when (isMissing t c) 6 in
-    let second = when (isSecondKey t c) 9 in
-    let many = when (isTooMany t c) 10 in
-    let clash = when (isClashing t c) 11 in
-    let held = when (own && isHeldBack t c) 19 in
-    let full = when (isSpaceless t b c n) 8 in
-    let h1 = second-zero (faultOf c) (firstOf missing (firstOf second (firstOf many (firstOf clash (firstOf held full))))) h in
-    let h2 = second-zero missing (firstOf second (firstOf many (firstOf clash (firstOf held full)))) h1 in
-    let h3 = second-zero second (firstOf many (firstOf clash (firstOf held full))) h2 in
-    let h4 = second-zero many (firstOf clash (firstOf held full)) h3 in
-    let h5 = second-zero clash (firstOf held full) h4 in
-    record {
-      right = first-zero (faultOf c) (firstOf missing (firstOf second (firstOf many (firstOf clash (firstOf held full))))) h;
-      present = when-zero (isMissing t c) 6 (omega arith) (first-zero missing (firstOf second (firstOf many (firstOf clash (firstOf held full)))) h1);
-      first-key = when-zero (isSecondKey t c) 9 (omega arith) (first-zero second (firstOf many (firstOf clash (firstOf held full))) h2);
-      few = when-zero (isTooMany t c) 10 (omega arith) (first-zero many (firstOf clash (firstOf held full)) h3);
-      apart = when-zero (isClashing t c) 11 (omega arith) (first-zero clash (firstOf held full) h4);
-      unheld = when-zero (own && isHeldBack t c) 19 (omega arith) (first-zero held full h5);
-      space = when-zero (isSpaceless t b c n) 8 (omega arith) (second-zero held full h5);
-    }
-
-first-none : (n late : ℕ) → n ≡ 0 → late ≡ 0 → firstOf n late ≡ 0
-first-none n late p q = ap (λ x. firstOf x late) p ∙ q
-
--- and one that finds no fault gives 0
-pub faultless-zero : (own : Bool) (t : Tables) (b : Buffers) (c : CommandTwo) (n : ℕ) → Faultless own t b c n → decided own t b c n ≡ 0
-unfolding decided
-faultless-zero own t b c n h =
-    first-none (faultOf c) _ (h .right)
-    (first-none (when (isMissing t c) 6) _ (ap (λ x. when x 6) (h .present))
-    (first-none (when (isSecondKey t c) 9) _ (ap (λ x. when x 9) (h .first-key))
-    (first-none (when (isTooMany t c) 10) _ (ap (λ x. when x 10) (h .few))
-    (first-none (when (isClashing t c) 11) _ (ap (λ x. when x 11) (h .apart))
-    (first-none (when (own && isHeldBack t c) 19) _ (ap (λ x. when x 19) (h .unheld)) (ap (λ x. when x 8) (h .space)))))))
+use Rattle.conversation.proofs.Laws.DecidedTwo.{decided-iff}
 
 -- ---- tables that an opening and calls can reach
 
@@ -142,19 +87,19 @@ own-row : (t : Table) (p b : List ℕ) (index mark : ℕ) → Kept t → (f : Bo
 own-row t p b index mark k true e h = entered-view t p b index mark k ∙ ap (λ x. pick x (view t b ++ (record { payload = p; index = index; mark = mark } ∷ [])) (view t b)) e
 own-row t p b index mark k false e h = cc
 
-module _ (own : Bool) (t : Tables) (b : Buffers) (p : List ℕ) (r : ReachedTwo t) where
+module _ (own : Bool) (t : Tables) (b : Buffers) (p : List ℕ) (r : (k : Kind) → Kept (tableOf k t)) where
   none : (k : Kind) → viewOf k t b ≡ viewOf k t b ++ []
   none k = sym (append-nil (viewOf k t b))
 
   pub applied-view-two : (c : CommandTwo) → decided own t b c (length p) ≡ 0 → (k : Kind) → viewOf k (applied t b c p) (filledBy t b c p) ≡ viewOf k t b ++ rowsOf c k p
   applied-view-two (ask w) h k = none k
   applied-view-two (stanza f) h errors = none errors
-  applied-view-two (stanza f) h stanzas = own-row (t .stanzas) p (b .stanzas) f 0 (kept-two t r stanzas) (fits (t .stanzas) (length p) (length (b .stanzas))) refl (faultless own t b (stanza f) (length p) h .space)
+  applied-view-two (stanza f) h stanzas = own-row (t .stanzas) p (b .stanzas) f 0 (r stanzas) (fits (t .stanzas) (length p) (length (b .stanzas))) refl (decided-iff own t b (stanza f) (length p) .0 h .space)
   applied-view-two (stanza f) h returned = none returned
   applied-view-two (key f) h errors = none errors
   applied-view-two (key f) h stanzas = none stanzas
-  applied-view-two (key f) h returned = own-row (t .returned) p (b .returned) f 0 (kept-two t r returned) (fits (t .returned) (length p) (length (b .returned))) refl (faultless own t b (key f) (length p) h .space)
-  applied-view-two (error n) h errors = own-row (t .errors) p (b .errors) _ _ (kept-two t r errors) (fits (t .errors) (length p) (length (b .errors))) refl (faultless own t b (error n) (length p) h .space)
+  applied-view-two (key f) h returned = own-row (t .returned) p (b .returned) f 0 (r returned) (fits (t .returned) (length p) (length (b .returned))) refl (decided-iff own t b (key f) (length p) .0 h .space)
+  applied-view-two (error n) h errors = own-row (t .errors) p (b .errors) _ _ (r errors) (fits (t .errors) (length p) (length (b .errors))) refl (decided-iff own t b (error n) (length p) .0 h .space)
   applied-view-two (error n) h stanzas = none stanzas
   applied-view-two (error n) h returned = none returned
   applied-view-two done h k = none k
