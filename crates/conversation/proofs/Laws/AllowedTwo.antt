@@ -1,7 +1,7 @@
 -- Phase two at the client end: exactly the allowed phases are accepted, and what they leave and write.
 use Prim.Native.Nat.{ℕ, _+_, _≤_}
 use mathlib.Core.Path.{_≡_, refl, sym, ap, ap₂, _∙_, subst, subst₂}
-use mathlib.Core.Bool.{Bool, true, false, true≢false, false≢true}
+use mathlib.Core.Bool.{Bool, true, false, _&&_, true≢false, false≢true}
 use mathlib.Core.Logic.{_⊎_, inl, inr, ⊎-elim, _↔_}
 use mathlib.Core.List.{List, [], _∷_, _++_, map, append-nil, append-assoc}
 use lib.Dec.{eqb, leb, ltb}
@@ -27,7 +27,7 @@ use Rattle.conversation.specs.Calls.{Call, receive-two, outcome, State, 
 use Rattle.conversation.specs.CommandsTwo.{Named, CommandTwo, ask, stanza, key, error, done, other, bad, commandTwo, rowTwo, wordTwo}
 use Rattle.conversation.specs.Kinds.{Buffers, buffersOf}
 use Rattle.conversation.specs.PhaseTwo as two
-use Rattle.conversation.specs.PhaseTwo.{Kind, errors, stanzas, returned, tableOf, bufferOf, mostStanzas, faultOf, decided, applied, filledBy, rowsOf, viewOf}
+use Rattle.conversation.specs.PhaseTwo.{Kind, errors, stanzas, returned, tableOf, bufferOf, mostStanzas, isHeldBack, faultOf, decided, applied, filledBy, rowsOf, viewOf}
 use Rattle.conversation.specs.Phases.{All, Whole, lineIn, bodyIn, isDone, commandIn, payloadIn, Block, Supply, behind, two-part, blockCalls, callsOf, writtenIn, responsesTo, LongEnough}
 use Rattle.conversation.specs.Session.{Session, moved}
 use Rattle.conversation.specs.Allowed.{Left, isRightTwo, Present, Said, Sum, keys-for, stanzas-for, errors-for, entries, bytes, weight, total, slotsTwo, Limits, saidBy, Answered, RightBlock, AllowedTwo}
@@ -81,14 +81,15 @@ pub record Standing (left : Left) (t : Tables) (b : two.Buffers) : Type 0 where
   pub shows : Shows t left
   pub limits : Kept-limits t b
 
-pub decided-exact : (left : Left) (t : Tables) (b : two.Buffers) (d : Bool) (c : CommandTwo) (p : List ℕ) → Proper d c → Standing left t b →
-    (decided false t b c (length p) ≡ 0) ↔ ((isRightTwo c ≡ true) × Present left c × With t b c p)
-decided-exact left t b d c p h s =
-    let i = decided-iff false t b c (length p) in
+-- the decision finds no fault exactly if the command is right, what it names is there, it keeps the limits and, at the plugin's own sending, nothing holds it back
+pub decided-exact : (own : Bool) (left : Left) (t : Tables) (b : two.Buffers) (d : Bool) (c : CommandTwo) (p : List ℕ) → Proper d c → Standing left t b →
+    (decided own t b c (length p) ≡ 0) ↔ ((isRightTwo c ≡ true) × Present left c × With t b c p × ((own && isHeldBack t c) ≡ false))
+decided-exact own left t b d c p h s =
+    let i = decided-iff own t b c (length p) in
     let r = right-iff d c h in
     let q = present-iff t left (s .shows) c in (
-      λ z. let f = i .0 z in (r .0 (f .right), q .0 (f .there), limits-with t b (s .going) (s .limits) p false c f),
-      λ y. let v = tests-by t b (s .going) p c (y .2) in i .1 (record { right = r .1 (y .0); there = q .1 (y .1); first-key = v .0; few = v .1; apart = v .2; unheld = refl; space = v .3 }),
+      λ z. let f = i .0 z in (r .0 (f .right), q .0 (f .there), limits-with t b (s .going) (s .limits) p own c f, f .unheld),
+      λ y. let v = tests-by t b (s .going) p c (y .2) in i .1 (record { right = r .1 (y .0); there = q .1 (y .1); first-key = v .0; few = v .1; apart = v .2; unheld = y .3; space = v .3 }),
     )
 
 entered-wide : (t : Table) (n i m c : ℕ) → entered t n i m c .width ≡ t .width
@@ -171,12 +172,15 @@ isAsk done = false
 isAsk other = false
 isAsk (bad n) = false
 
--- the word done asks nothing
+-- the word done is done, or a fault
+pub done-word : (m : Machine) (line body : List ℕ) → same (argumentOf line 0) doneWord ≡ true → commandTwo m line body ≡ pick (isBare line (length body) 0) done (bad 4)
+unfolding commandTwo same
+done-word m line body e = ap (λ w. rowTwo (wordTwo m w) m line (length body)) (same-eq (argumentOf line 0) doneWord e)
+
+-- it asks nothing
 done-asks : (m : Machine) (x : List ℕ) → isDone x ≡ true → (v : WordTwo) → commandIn m x ≡ ask v → ⊥
-unfolding commandTwo same isAsk
-done-asks m x e v q =
-    let w : argumentOf (lineIn x) 0 ≡ doneWord = same-eq (argumentOf (lineIn x) 0) doneWord e in
-    go (isBare (lineIn x) (length (bodyIn x)) 0) (ap (λ w. isAsk (rowTwo (wordTwo m w) m (lineIn x) (length (bodyIn x)))) (sym w) ∙ ap isAsk q)
+unfolding isAsk
+done-asks m x e v q = go (isBare (lineIn x) (length (bodyIn x)) 0) (ap isAsk (sym (done-word m (lineIn x) (bodyIn x) e) ∙ q))
   where
     go : (f : Bool) → isAsk (pick f done (bad 4)) ≡ true → ⊥
     go true e = false≢true e
@@ -206,9 +210,9 @@ module _ (s : Session) (left : Left) where
     -- it is right by itself and keeps the limits exactly if the decision finds no fault and its replies are as they must be
     block-iff : ((judged s t b (x .text) w ≡ 0) × Answered (s .screen) c (x .replies)) ↔ (RightBlock (s .machine) (s .screen) left x × With t (b .second) c p)
     block-iff =
-        let i = decided-exact left t (b .second) (isDone (x .text)) c p (proper (x .text)) g in (
+        let i = decided-exact false left t (b .second) (isDone (x .text)) c p (proper (x .text)) g in (
           λ h. let r = i .0 (h .0) in (record { right = r .0; present = r .1; answered = h .1 }, r .2),
-          λ h. (i .1 (h .0 .right, h .0 .present, h .1), h .0 .answered),
+          λ h. (i .1 (h .0 .right, h .0 .present, h .1, refl), h .0 .answered),
         )
 
     standing-behind : judged s t b (x .text) w ≡ 0 → Standing left (tablesWith s t b (x .text) w) (buffersWith s t b (x .text) w .second)

@@ -38,11 +38,11 @@ use Rattle.conversation.proofs.Laws.DecidedTwo.{first-iff}
 -- ---- output
 
 -- where the output buffer is no shorter than the text, nothing is late
-long-enough : (text out : List ℕ) → length text ≤ length out → shortness text out ≡ 0
+pub long-enough : (text out : List ℕ) → length text ≤ length out → shortness text out ≡ 0
 long-enough text out h = rw (le-ltb (length out) (length text) h)
 
 -- and all of the text is written
-all-written : (text out : List ℕ) → length text ≤ length out → take (length text) (filled text out) ≡ text
+pub all-written : (text out : List ℕ) → length text ≤ length out → take (length text) (filled text out) ≡ text
 all-written text out h = rw (le-ltb (length out) (length text) h) (take-append-seam text (drop (length text) out))
 
 first-late : (n late : ℕ) → late ≡ 0 → (firstOf n late ≡ 0) ↔ (n ≡ 0)
