@@ -2,6 +2,7 @@
 pub mod Accepted
 pub mod Agreement
 pub mod AllowedOne
+pub mod AllowedSent
 pub mod AllowedTwo
 pub mod Answers
 pub mod CommandsTwo

@@ -1,0 +1,184 @@
+-- Phase two at the plugin end: exactly the allowed lists of exchanges are accepted.
+use Prim.Native.Nat.{ℕ, zero, suc, _+_, _<_, _≤_}
+use mathlib.Core.Path.{_≡_, refl, sym, ap, ap₂, _∙_, subst, subst₂}
+use mathlib.Core.Bool.{Bool, true, false, not, _&&_, _||_, true≢false, false≢true}
+use mathlib.Core.Logic.{_⊎_, inl, inr, ⊎-elim, _↔_}
+use mathlib.Core.List.{List, [], _∷_, _++_, map, append-nil, append-assoc}
+use lib.Dec.{ltb, eqb}
+use lib.ListN.{length}
+use native.Mathlib.Omega.{arith}
+use borrow.Author.Tests.{ltb-true, lt-ltb, ltb-false, le-ltb, eqb-true, eqb-false, eq-eqb, ne-eqb, not-false}
+use Rattle.refusal.specs.Pick.{pick}
+use Rattle.refusal.proofs.Laws.Booleans.{and-true, true-and, cases}
+use Rattle.tables.specs.Tables.{Row}
+use Rattle.session.specs.PhaseOne.{Tables}
+use Rattle.session.specs.Views as one-kind
+use Rattle.session.specs.Views.{recipients, identities, keys, headers}
+use Rattle.conversation.specs.CommandsTwo.{Named, internal, identity, recipient, header, CommandTwo, ask, stanza, key, error, done, other, bad}
+use Rattle.conversation.specs.PhaseTwo as two
+use Rattle.conversation.specs.PhaseTwo.{Label, labels, howMany, isAny, passes, isFile, markOf, indexOf, isNaming, isInvalid, anyInvalid, isNonconforming, isUnknown, hasNonconforming, areReported, allReported, isHeldBack, rowsOf, errors}
+use Rattle.conversation.specs.Phases.{All, isError}
+use Rattle.conversation.specs.Allowed.{Left, RowAt, Present, Said, NoneInvalid, Unheld, Some, Reported, AllReported}
+use Rattle.conversation.proofs.Laws.CommandsTwo.{Proper}
+use Rattle.conversation.proofs.Laws.DecidedTwo.{rowLabel, rowLabels, many-append}
+use Rattle.conversation.proofs.Laws.PresentTwo.{Shows}
+use Rattle.conversation.proofs.Laws.SumsTwo.{not-any, none-any, or-false, false-or, not-is}
+
+-- ---- No. 19, a command that is not done
+
+module _ (q : Label → Bool) (P : Row → Type 0) (same : (r : Row) → (q (rowLabel r) ≡ false) ↔ P r) where
+  none-many : (rs : List Row) → (howMany q (rowLabels rs) ≡ 0) ↔ All P rs
+  unfolding All howMany
+  none-many [] = (λ e. tt, λ a. refl)
+  none-many (r ∷ rs) =
+      let i = none-many rs in
+      cases (q (rowLabel r))
+      (λ e. (λ h. let h′ = rw e at h in absurd (omega arith), λ a. absurd (true≢false (sym e ∙ same r .1 (a .0)))))
+      (λ e. (λ h. let h′ = rw e at h in (same r .0 e, i .0 (omega arith)), λ a. rw e (omega (arith, i .1 (a .1)))))
+
+  -- no label passes exactly if each row has the property
+  none-iff : (rs : List Row) → (isAny q (rowLabels rs) ≡ false) ↔ All P rs
+  none-iff rs = (λ e. none-many rs .0 (not-any q (rowLabels rs) e), λ a. none-any q (rowLabels rs) (none-many rs .1 a))
+
+valid-same : (r : Row) → (isInvalid (rowLabel r) ≡ false) ↔ (r .mark ≡ 0)
+valid-same r = (λ e. eqb-true (r .mark) 0 (not-false _ e), λ e. not-is _ (eq-eqb (r .mark) 0 e))
+
+conforming-same : (f : ℕ) (r : Row) → ((isNonconforming (rowLabel r) && isFile f (rowLabel r)) ≡ false) ↔ (r .mark ≡ 1 → r .index ≡ f → ⊥)
+conforming-same f r = (
+  λ e m i. true≢false (sym (true-and (eqb (r .mark) 1) (eqb (r .index) f) (eq-eqb (r .mark) 1 m) (eq-eqb (r .index) f i)) ∙ e),
+  λ h. cases (eqb (r .mark) 1 && eqb (r .index) f) (λ e. let a = and-true (eqb (r .mark) 1) (eqb (r .index) f) e in absurd (h (eqb-true (r .mark) 1 (a .0)) (eqb-true (r .index) f (a .1)))) (λ e. e),
+)
+
+-- the stanza of a number that is there is known
+known-iff : (P : Row → Type 0) (rs : List Row) (i : ℕ) → RowAt P rs i → (passes isUnknown (rowLabels rs) i ≡ false) ↔ RowAt (λ r. r .mark ≡ 2 → ⊥) rs i
+unfolding passes RowAt
+known-iff P [] i h = absurd h
+known-iff P (r ∷ rs) zero h = (eqb-false (r .mark) 2, ne-eqb (r .mark) 2)
+known-iff P (r ∷ rs) (suc i) h = known-iff P rs i h
+
+or-iff : {X Y : Type 0} (a b : Bool) → (a ≡ false) ↔ X → (b ≡ false) ↔ Y → ((a || b) ≡ false) ↔ (X × Y)
+or-iff a b i j = (λ e. let h = or-false a b e in (i .0 (h .0), j .0 (h .1)), λ h. false-or a b (i .1 (h .0)) (j .1 (h .1)))
+
+module _ (t : Tables) (left : Left) (s : Shows t left) where
+  none-of : (q : Label → Bool) (P : Row → Type 0) → ((r : Row) → (q (rowLabel r) ≡ false) ↔ P r) → (k : one-kind.Kind) → (isAny q (labels (one-kind.tableOf k t)) ≡ false) ↔ All P (left k)
+  none-of q P same k = subst (λ l. (isAny q l ≡ false) ↔ All P (left k)) (sym (s .labelled k)) (none-iff q P same (left k))
+
+  valid-iff : (anyInvalid t ≡ false) ↔ NoneInvalid left
+  valid-iff = or-iff _ _ (none-of isInvalid (λ r. r .mark ≡ 0) valid-same recipients) (none-of isInvalid (λ r. r .mark ≡ 0) valid-same identities)
+
+  -- nothing holds back a command that is not done
+  pub unheld-iff : (c : CommandTwo) → Proper false c → Present left c → (isHeldBack t c ≡ false) ↔ Unheld left c
+  unheld-iff (ask w) d p = (λ e. tt, λ e. refl)
+  unheld-iff (stanza f) d p = valid-iff
+  unheld-iff (key f) d p = or-iff _ _ valid-iff (none-of (λ l. isNonconforming l && isFile f l) (λ r. r .mark ≡ 1 → r .index ≡ f → ⊥) (conforming-same f) headers)
+  unheld-iff (error internal) d p = (λ e. tt, λ e. refl)
+  unheld-iff (error (identity i)) d p = (λ e. tt, λ e. refl)
+  unheld-iff (error (recipient i)) d p = (λ e. tt, λ e. refl)
+  unheld-iff (error (header f i)) d p = subst (λ l. (passes isUnknown l i ≡ false) ↔ RowAt (λ r. r .mark ≡ 2 → ⊥) (left headers) i) (sym (s .labelled headers)) (known-iff (λ r. r .index ≡ f) (left headers) i p)
+  unheld-iff done d p = absurd (false≢true d)
+  unheld-iff other d p = (λ e. tt, λ e. refl)
+  unheld-iff (bad n) d p = (λ e. tt, λ e. refl)
+
+-- ---- No. 19, done: the errors' table and the error commands
+
+-- the labels of the errors that a list of commands makes
+unfoldable pub namedIn : List Said → List Label
+namedIn [] = []
+namedIn (c ∷ cs) = rowLabels (rowsOf (c .command) errors (c .payload)) ++ namedIn cs
+
+any-append : (q : Label → Bool) (a b : List Label) → (isAny q (a ++ b) ≡ true) ↔ ((isAny q a ≡ true) ⊎ (isAny q b ≡ true))
+any-append q a b = (
+  λ e. cases (isAny q a) (λ f. inl f) (λ f. inr (lt-ltb 0 (howMany q b) (omega (arith, ltb-true 0 (howMany q (a ++ b)) e, many-append q a b, not-any q a f)))),
+  λ h. lt-ltb 0 (howMany q (a ++ b)) (⊎-elim (λ e. omega (arith, many-append q a b, ltb-true 0 (howMany q a) e)) (λ e. omega (arith, many-append q a b, ltb-true 0 (howMany q b) e)) h),
+)
+
+any-one : (q : Label → Bool) (l : Label) → isAny q (l ∷ []) ≡ q l
+unfolding howMany
+any-one q l = go (q l)
+  where
+    go : (f : Bool) → ltb 0 (pick f 1 0 + 0) ≡ f
+    go true = refl
+    go false = refl
+
+-- an error's label
+abbrev labelNamed : Named → Label
+labelNamed x = record { index = indexOf x; mark = markOf x }
+
+module _ (q : Label → Bool) (P : CommandTwo → Type 0) (same : (x : Named) → (q (labelNamed x) ≡ true) ↔ P (error x)) (only : (c : CommandTwo) → P c → isError c ≡ true) where
+  idle : (c : CommandTwo) → isError c ≡ false → (_≡_ {A = Bool} false true) ↔ P c
+  idle c e = (λ z. absurd (false≢true z), λ h. sym e ∙ only c h)
+
+  one-iff : (c : CommandTwo) (p : List ℕ) → (isAny q (rowLabels (rowsOf c errors p)) ≡ true) ↔ P c
+  unfolding howMany
+  one-iff (ask w) p = idle (ask w) refl
+  one-iff (stanza f) p = idle (stanza f) refl
+  one-iff (key f) p = idle (key f) refl
+  one-iff (error x) p = subst (λ f. (f ≡ true) ↔ P (error x)) (sym (any-one q (labelNamed x))) (same x)
+  one-iff done p = idle done refl
+  one-iff other p = idle other refl
+  one-iff (bad n) p = idle (bad n) refl
+
+  -- an error of the list has the property exactly if a label passes
+  some-iff : (cs : List Said) → (isAny q (namedIn cs) ≡ true) ↔ Some P cs
+  unfolding namedIn Some howMany
+  some-iff [] = (λ e. absurd (false≢true e), λ e. absurd e)
+  some-iff (c ∷ cs) =
+      let a = any-append q (rowLabels (rowsOf (c .command) errors (c .payload))) (namedIn cs) in
+      let i = one-iff (c .command) (c .payload) in
+      let j = some-iff cs in
+      (λ e. ⊎-elim (λ h. inl (i .0 h)) (λ h. inr (j .0 h)) (a .0 e), λ h. a .1 (⊎-elim (λ h. inl (i .1 h)) (λ h. inr (j .1 h)) h))
+
+names-recipient : (n : ℕ) (x : Named) → (isNaming 2 n (labelNamed x) ≡ true) ↔ (error x ≡ error (recipient n))
+names-recipient n internal = (λ e. absurd (false≢true e), λ e. let z : _≡_ {A = ℕ} 0 1 = cc in absurd (omega arith))
+names-recipient n (identity i) = (λ e. absurd (false≢true e), λ e. let z : _≡_ {A = ℕ} 0 1 = cc in absurd (omega arith))
+names-recipient n (recipient i) = (λ e. ap (λ j. error (recipient j)) (eqb-true i n e), λ e. let z : i ≡ n = cc in eq-eqb i n z)
+names-recipient n (header f i) = (λ e. absurd (false≢true e), λ e. let z : _≡_ {A = ℕ} 0 1 = cc in absurd (omega arith))
+
+names-identity : (n : ℕ) (x : Named) → (isNaming 1 n (labelNamed x) ≡ true) ↔ (error x ≡ error (identity n))
+names-identity n internal = (λ e. absurd (false≢true e), λ e. let z : _≡_ {A = ℕ} 0 1 = cc in absurd (omega arith))
+names-identity n (identity i) = (λ e. ap (λ j. error (identity j)) (eqb-true i n e), λ e. let z : i ≡ n = cc in eq-eqb i n z)
+names-identity n (recipient i) = (λ e. absurd (false≢true e), λ e. let z : _≡_ {A = ℕ} 0 1 = cc in absurd (omega arith))
+names-identity n (header f i) = (λ e. absurd (false≢true e), λ e. let z : _≡_ {A = ℕ} 0 1 = cc in absurd (omega arith))
+
+names-header : (n : ℕ) (x : Named) → (isNaming 3 n (labelNamed x) ≡ true) ↔ ((f : ℕ) × (error x ≡ error (header f n)))
+names-header n internal = (λ e. absurd (false≢true e), λ q. let e = q .1 in let z : _≡_ {A = ℕ} 0 1 = cc in absurd (omega arith))
+names-header n (identity i) = (λ e. absurd (false≢true e), λ q. let e = q .1 in let z : _≡_ {A = ℕ} 0 1 = cc in absurd (omega arith))
+names-header n (recipient i) = (λ e. absurd (false≢true e), λ q. let e = q .1 in let z : _≡_ {A = ℕ} 0 1 = cc in absurd (omega arith))
+names-header n (header f i) = (λ e. (f, ap (λ j. error (header f j)) (eqb-true i n e)), λ q. let e = q .1 in let z : i ≡ n = cc in eq-eqb i n z)
+
+-- each row that owes an error has had it
+module _ (test : Label → Bool) (Owes : Row → Type 0) (same : (r : Row) → (test (rowLabel r) ≡ true) ↔ Owes r) (mark : ℕ) (Names : ℕ → CommandTwo → Type 0) (es : List Label) (cs : List Said)
+    (names : (n : ℕ) → (isAny (isNaming mark n) es ≡ true) ↔ Some (Names n) cs) where
+  owes-iff : (r : Row) (n : ℕ) → ((not (test (rowLabel r)) || isAny (isNaming mark n) es) ≡ true) ↔ (Owes r → Some (Names n) cs)
+  owes-iff r n = cases (test (rowLabel r)) (λ e. rw e (λ h o. names n .0 h, λ h. names n .1 (h (same r .0 e)))) (λ e. rw e (λ h o. absurd (true≢false (sym (same r .1 o) ∙ e)), λ h. refl))
+
+  reported-iff : (n : ℕ) (rs : List Row) → (areReported test mark n (rowLabels rs) es ≡ true) ↔ Reported Owes Names n rs cs
+  unfolding areReported Reported
+  reported-iff n [] = (λ e. tt, λ e. refl)
+  reported-iff n (r ∷ rs) =
+      let i = owes-iff r n in
+      let j = reported-iff (n + 1) rs in
+      (λ e. let a = and-true _ _ e in (i .0 (a .0), j .0 (a .1)), λ h. true-and _ _ (i .1 (h .0)) (j .1 (h .1)))
+
+invalid-same : (r : Row) → (isInvalid (rowLabel r) ≡ true) ↔ (r .mark ≡ 0 → ⊥)
+invalid-same r = (λ e z. true≢false (sym e ∙ valid-same r .1 z), λ h. rw (ne-eqb (r .mark) 0 h))
+
+nonconforming-same : (r : Row) → (isNonconforming (rowLabel r) ≡ true) ↔ (r .mark ≡ 1)
+nonconforming-same r = (eqb-true (r .mark) 1, eq-eqb (r .mark) 1)
+
+-- no error is owed exactly if the list of commands reports all; the errors' table holds those of the list
+pub all-reported-iff : (t : Tables) (left : Left) (cs : List Said) → Shows t left → labels (t .errors) ≡ namedIn cs → (allReported t ≡ true) ↔ AllReported left cs
+all-reported-iff t left cs s e =
+    let r = of recipients isInvalid (λ r. r .mark ≡ 0 → ⊥) invalid-same 2 (λ n c. c ≡ error (recipient n)) names-recipient (λ n c h. ap isError h) in
+    let i = of identities isInvalid (λ r. r .mark ≡ 0 → ⊥) invalid-same 1 (λ n c. c ≡ error (identity n)) names-identity (λ n c h. ap isError h) in
+    let h = of headers isNonconforming (λ r. r .mark ≡ 1) nonconforming-same 3 (λ n c. (f : ℕ) × (c ≡ error (header f n))) names-header (λ n c h. ap isError (h .1)) in (
+      λ z. let a = and-true _ _ z in let b = and-true _ _ (a .0) in record { of-recipients = r .0 (b .0); of-identities = i .0 (b .1); of-headers = h .0 (a .1) },
+      λ y. true-and _ _ (true-and _ _ (r .1 (y .of-recipients)) (i .1 (y .of-identities))) (h .1 (y .of-headers)),
+    )
+  where
+    of : (k : one-kind.Kind) (test : Label → Bool) (Owes : Row → Type 0) → ((r : Row) → (test (rowLabel r) ≡ true) ↔ Owes r) → (mark : ℕ) (Names : ℕ → CommandTwo → Type 0) →
+        ((n : ℕ) (x : Named) → (isNaming mark n (labelNamed x) ≡ true) ↔ Names n (error x)) → ((n : ℕ) (c : CommandTwo) → Names n c → isError c ≡ true) →
+        (areReported test mark 0 (labels (one-kind.tableOf k t)) (labels (t .errors)) ≡ true) ↔ Reported Owes Names 0 (left k) cs
+    of k test Owes same mark Names names only =
+        subst₂ (λ l es. (areReported test mark 0 l es ≡ true) ↔ Reported Owes Names 0 (left k) cs) (sym (s .labelled k)) (sym e)
+        (reported-iff test Owes same mark Names (namedIn cs) cs (λ n. some-iff (isNaming mark n) (Names n) (names n) (only n) cs) 0 (left k))
