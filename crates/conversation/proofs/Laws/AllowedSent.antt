@@ -3,26 +3,49 @@ use Prim.Native.Nat.{ℕ, zero, suc, _+_, _<_, _≤_}
 use mathlib.Core.Path.{_≡_, refl, sym, ap, ap₂, _∙_, subst, subst₂}
 use mathlib.Core.Bool.{Bool, true, false, not, _&&_, _||_, true≢false, false≢true}
 use mathlib.Core.Logic.{_⊎_, inl, inr, ⊎-elim, _↔_}
-use mathlib.Core.List.{List, [], _∷_, _++_, map, append-nil, append-assoc}
+use mathlib.Core.List.{List, [], _∷_, _++_, map, map-append, append-nil, append-assoc}
 use lib.Dec.{ltb, eqb}
-use lib.ListN.{length}
+use lib.ListN.{length, take}
 use native.Mathlib.Omega.{arith}
 use borrow.Author.Tests.{ltb-true, lt-ltb, ltb-false, le-ltb, eqb-true, eqb-false, eq-eqb, ne-eqb, not-false}
 use Rattle.refusal.specs.Pick.{pick}
+use Rattle.refusal.specs.Same.{same}
 use Rattle.refusal.proofs.Laws.Booleans.{and-true, true-and, cases}
-use Rattle.tables.specs.Tables.{Row}
-use Rattle.session.specs.PhaseOne.{Tables}
+use Rattle.stanza.specs.Grammar.{stanzaText}
+use Rattle.stanza.specs.Reading as reading
+use Rattle.stanza.specs.Reading.{Reading, readFirst}
+use Rattle.stanza.specs.Writing.{isWritable}
+use Rattle.responses.specs.Responses.{fitsWhole, ResponseRead, response, nothing, responseOf}
+use Rattle.responses.specs.declared.Response.{Response}
+use Rattle.responses.specs.declared.WordTwo.{WordTwo}
+use Rattle.tables.specs.Tables.{Row, view}
+use Rattle.session.specs.Commands.{isBare}
+use Rattle.session.specs.PhaseOne.{Tables, firstOf}
 use Rattle.session.specs.Views as one-kind
 use Rattle.session.specs.Views.{recipients, identities, keys, headers}
-use Rattle.conversation.specs.CommandsTwo.{Named, internal, identity, recipient, header, CommandTwo, ask, stanza, key, error, done, other, bad}
+use Rattle.session.specs.declared.phases.Phase.{Phase}
+use Rattle.session.specs.declared.phases.Phase.the-variants.{Two, Awaiting, Ended}
+use Rattle.conversation.specs.Calls.{Call, send-two, respond, sentNumber, respondedNumber, Outcome, outcome, writtenBy, stateOf, after, numbers, lineRead, bodyRead, AllZero, Accepted}
+use Rattle.conversation.specs.CommandsTwo.{Named, internal, identity, recipient, header, CommandTwo, ask, stanza, key, error, done, other, bad, wordOf}
+use Rattle.conversation.specs.Kinds.{Buffers, buffersOf}
 use Rattle.conversation.specs.PhaseTwo as two
-use Rattle.conversation.specs.PhaseTwo.{Label, labels, howMany, isAny, passes, isFile, markOf, indexOf, isNaming, isInvalid, anyInvalid, isNonconforming, isUnknown, hasNonconforming, areReported, allReported, isHeldBack, rowsOf, errors}
-use Rattle.conversation.specs.Phases.{All, isError}
-use Rattle.conversation.specs.Allowed.{Left, RowAt, Present, Said, NoneInvalid, Unheld, Some, Reported, AllReported}
-use Rattle.conversation.proofs.Laws.CommandsTwo.{Proper}
-use Rattle.conversation.proofs.Laws.DecidedTwo.{rowLabel, rowLabels, many-append}
+use Rattle.conversation.specs.PhaseTwo.{Label, labels, howMany, isAny, passes, isFile, markOf, indexOf, isNaming, isInvalid, anyInvalid, isNonconforming, isUnknown, hasNonconforming, areReported, allReported, isHeldBack, decided, applied, filledBy, rowsOf, errors}
+use Rattle.conversation.specs.Phases.{All, lineIn, bodyIn, isError, Supply, skip, LongEnough}
+use Rattle.conversation.specs.Responding as responding
+use Rattle.conversation.specs.Responding.{respondedAs, respondedText}
+use Rattle.conversation.specs.Sending.{shortness}
+use Rattle.conversation.specs.SendingTwo.{phaseSent, Sent, sentLine, sent}
+use Rattle.conversation.specs.Session.{Session, moved}
+use Rattle.conversation.specs.Allowed.{Left, isRightTwo, RowAt, Present, Said, Exchange, lineOf, commandSent, saidIn, OneResponse, Responded, NoneInvalid, Unheld, Some, Reported, AllReported, RightExchange, isDoneSent, responseCalls, exchangeCalls, sendingCalls}
+use Rattle.conversation.proofs.Laws.Accepted.{Written, accepted}
+use Rattle.conversation.proofs.Laws.AllowedTwo.{Standing, decided-exact, standing-with, Fitting, fitting-front, fitting-one, fitting-rest, done-word}
+use Rattle.conversation.proofs.Laws.CommandsTwo.{Proper, command-proper}
+use Rattle.conversation.proofs.Laws.DecidedTwo.{first-iff, decided-iff, rowLabel, rowLabels, labels-view, many-append}
 use Rattle.conversation.proofs.Laws.PresentTwo.{Shows}
+use Rattle.conversation.proofs.Laws.Runs.{accepted-append, enough-append}
+use Rattle.conversation.proofs.Laws.StepsTwo.{long-enough, all-written, at, Settled}
 use Rattle.conversation.proofs.Laws.SumsTwo.{not-any, none-any, or-false, false-or, not-is}
+use Rattle.conversation.proofs.Laws.ViewsTwo.{applied-view-two}
 
 -- ---- No. 19, a command that is not done
 
@@ -182,3 +205,119 @@ all-reported-iff t left cs s e =
     of k test Owes same mark Names names only =
         subst₂ (λ l es. (areReported test mark 0 l es ≡ true) ↔ Reported Owes Names 0 (left k) cs) (sym (s .labelled k)) (sym e)
         (reported-iff test Owes same mark Names (namedIn cs) cs (λ n. some-iff (isNaming mark n) (Names n) (names n) (only n) cs) 0 (left k))
+
+-- ---- a sending
+
+-- what an accepted call writes
+written-text : (text out : List ℕ) (o : Outcome) → Written text out o → take (o .size) (o .output) ≡ text
+written-text text out o w = ap₂ take (w .size) (w .output) ∙ all-written text out (ltb-false (length out) (length text) (w .fits))
+
+-- a conditional whose test holds has the first result's number
+pick-zero : {X : Type 0} (number : X → ℕ) (f : Bool) (x y : X) → f ≡ true → number x ≡ 0 → number (pick f x y) ≡ 0
+pick-zero number true x y e h = h
+pick-zero number false x y e h = absurd (false≢true e)
+
+module _ (s : Session) (t : Tables) (b : Buffers) (x : Exchange) where
+  abbrev c : CommandTwo
+  c = commandSent (s .machine) x
+
+  abbrev p : List ℕ
+  p = saidIn (s .machine) x .payload
+
+  abbrev call : List ℕ → Call
+  call out = send-two (x .word) (x .arguments) (x .body) out
+
+  abbrev text : List ℕ
+  text = stanzaText (lineOf x) (x .body)
+
+  -- it can be written and the decision finds no fault; the tables and the buffers behind it
+  abbrev Judged : Type 0
+  Judged = (isWritable (lineOf x) (x .body) ≡ true) × (decided true t (b .second) c (length p) ≡ 0)
+
+  abbrev tablesSent : Tables
+  tablesSent = applied t (b .second) c p
+
+  abbrev buffersSent : Buffers
+  buffersSent = buffersOf (b .first) (filledBy t (b .second) c p)
+
+  sent-zero : (out : List ℕ) → Judged → length text ≤ length out → outcome (at s Two t) b (call out) .number ≡ 0
+  unfolding sent sentLine
+  sent-zero out j h =
+      let n = firstOf (pick (isWritable (lineOf x) (x .body)) (decided true t (b .second) c (length p)) 17) (shortness text out) in
+      pick-zero (λ (r : Sent). sentNumber (r .answer)) (eqb n 0) _ _ (eq-eqb n 0 (first-iff _ _ .1 (ap (λ f. pick f (decided true t (b .second) c (length p)) 17) (j .0) ∙ j .1, long-enough text out h))) refl
+
+  -- it is accepted exactly then
+  sent-to : (out : List ℕ) → outcome (at s Two t) b (call out) .number ≡ 0 → Judged
+  sent-to out z = let a = accepted (at s Two t) b (call out) z in (a .writable, a .faultless)
+
+  sent-from : (out : List ℕ) → ((big : List ℕ) → length (writtenBy (at s Two t) b (call big)) ≤ length out) → Judged → outcome (at s Two t) b (call out) .number ≡ 0
+  sent-from out e j =
+      let a = accepted (at s Two t) b (call text) (sent-zero text j (omega arith)) in
+      sent-zero out j (subst (λ k. k ≤ length out) (ap length (written-text text text _ (a .written))) (e text))
+
+  -- and what it leaves
+  sent-state : (out : List ℕ) → outcome (at s Two t) b (call out) .number ≡ 0 → stateOf (outcome (at s Two t) b (call out) .session) (outcome (at s Two t) b (call out) .buffers) ≡ stateOf (at s (phaseSent c) tablesSent) buffersSent
+  sent-state out z = let a = accepted (at s Two t) b (call out) z in ap₂ stateOf (a .session) (a .buffers)
+
+-- ---- its responses
+
+module _ (s : Session) (t : Tables) (b : Buffers) (w : WordTwo) where
+  abbrev Fits : List ℕ → Type 0
+  Fits u = OneResponse w (u ∷ [])
+
+  respond-zero : (u out : List ℕ) → Fits u → length (bodyIn u) ≤ length out → outcome (at s (Awaiting w) t) b (respond u out) .number ≡ 0
+  unfolding respondedAs same
+  respond-zero u out f l = go (readFirst u) (f .1) (f .2) l
+    where
+      read-as : (q : ResponseRead) (body : List ℕ) (k : ℕ) → q ≡ response (f .0) → fitsWhole w (f .0) body ≡ true → length body ≤ length out → respondedNumber (respondedAs w (at s (Awaiting w) t) q body k out .answer) ≡ 0
+      read-as q body k e g l =
+          let m : ℕ = pick (fitsWhole w (f .0) body) 0 12 in
+          let n = firstOf m (shortness body out) in
+          subst (λ q. respondedNumber (respondedAs w (at s (Awaiting w) t) q body k out .answer) ≡ 0) (sym e)
+          (pick-zero (λ (x : responding.Responded). respondedNumber (x .answer)) (eqb n 0) _ _ (eq-eqb n 0 (first-iff m _ .1 (ap (λ x. pick x 0 12) g, long-enough body out l))) refl)
+
+      go : (q : Reading) → responseOf (lineRead q u) ≡ response (f .0) → fitsWhole w (f .0) (bodyRead q u) ≡ true → length (bodyRead q u) ≤ length out → respondedNumber (respondedText q w (at s (Awaiting w) t) u out .answer) ≡ 0
+      go (reading.stanza e n k) h g l = read-as (responseOf (lineRead (reading.stanza e n k) u)) (bodyRead (reading.stanza e n k) u) k h g l
+      go (reading.refused n) h g l = let z : _≡_ {A = ℕ} 0 1 = cc in absurd (omega arith)
+
+  -- a response is accepted exactly if it fits
+  respond-to : (u out : List ℕ) → outcome (at s (Awaiting w) t) b (respond u out) .number ≡ 0 → Fits u
+  respond-to u out z =
+      let a = accepted (at s (Awaiting w) t) b (respond u out) z in
+      let turn : Awaiting w ≡ Awaiting (a .1 .awaited) = a .1 .turn in
+      let e : a .1 .awaited ≡ w = cc in
+      (a .0, a .1 .named, subst (λ w. fitsWhole w (a .0) (bodyIn u) ≡ true) e (a .1 .fitting))
+
+  respond-from : (u out : List ℕ) → ((big : List ℕ) → length (writtenBy (at s (Awaiting w) t) b (respond u big)) ≤ length out) → Fits u → outcome (at s (Awaiting w) t) b (respond u out) .number ≡ 0
+  respond-from u out e f =
+      let body = bodyIn u in
+      let a = accepted (at s (Awaiting w) t) b (respond u body) (respond-zero u body f (omega arith)) in
+      respond-zero u out f (subst (λ k. k ≤ length out) (ap length (written-text body body _ (a .1 .written))) (e body))
+
+  respond-state : (u out : List ℕ) → outcome (at s (Awaiting w) t) b (respond u out) .number ≡ 0 → stateOf (outcome (at s (Awaiting w) t) b (respond u out) .session) (outcome (at s (Awaiting w) t) b (respond u out) .buffers) ≡ stateOf (at s Two t) b
+  respond-state u out z = let a = accepted (at s (Awaiting w) t) b (respond u out) z .1 in ap₂ stateOf (a .session) (a .buffers)
+
+  -- exactly one is accepted before the next sending
+  responses-from : (outs : Supply) (us : List (List ℕ)) → OneResponse w us → LongEnough (at s (Awaiting w) t) b (responseCalls outs us) →
+      Accepted (at s (Awaiting w) t) b (responseCalls outs us) × (after (at s (Awaiting w) t) b (responseCalls outs us) ≡ stateOf (at s Two t) b)
+  unfolding AllZero numbers after responseCalls LongEnough
+  responses-from outs [] f l = absurd f
+  responses-from outs (u ∷ []) f l = let z = respond-from u (outs 0) (l .0) f in ((z, tt), respond-state u (outs 0) z)
+  responses-from outs (u ∷ v ∷ us) f l = absurd f
+
+  responses-to : (outs : Supply) (us : List (List ℕ)) → Accepted (at s (Awaiting w) t) b (responseCalls outs us) → Settled (after (at s (Awaiting w) t) b (responseCalls outs us) .session .phase) → OneResponse w us
+  unfolding AllZero numbers after responseCalls
+  responses-to outs [] a h = h
+  responses-to outs (u ∷ []) a h = respond-to u (outs 0) (a .0)
+  responses-to outs (u ∷ v ∷ us) a h =
+      let n : _≡_ {A = ℕ} 14 0 = ap (λ o. outcome (o .session) (o .buffers) (respond v (skip 1 outs 0)) .number) (sym (respond-state u (outs 0) (a .0))) ∙ a .1 .0 in
+      absurd (omega arith)
+
+-- none is accepted behind done
+ended-none : (s : Session) (t : Tables) (b : Buffers) (outs : Supply) (us : List (List ℕ)) → Accepted (at s Ended t) b (responseCalls outs us) → us ≡ []
+unfolding AllZero numbers responseCalls
+ended-none s t b outs [] a = refl
+ended-none s t b outs (u ∷ us) a = absurd (omega (arith, a .0))
+
+none-accepted : (s : Session) (b : Buffers) (outs : Supply) (us : List (List ℕ)) → us ≡ [] → Accepted s b (responseCalls outs us)
+none-accepted s b outs us e = subst (λ us. Accepted s b (responseCalls outs us)) (sym e) (unfold AllZero in unfold numbers in unfold responseCalls in tt)

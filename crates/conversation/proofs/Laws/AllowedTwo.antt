@@ -151,6 +151,11 @@ pub fitting-front : (t : Tables) (b : two.Buffers) (c : CommandTwo) (p : List �
 unfolding total
 fitting-front t b c p cs l = limits-less (mostStanzas t) (λ k. length (bufferOf k b)) (λ m. sumsIn t m + total m (said c p ∷ cs)) (λ m. sumsIn t m + weight m (said c p)) l (λ m. omega arith)
 
+-- and by itself
+pub fitting-one : (t : Tables) (b : two.Buffers) (c : CommandTwo) (p : List ℕ) → With t b c p → Fitting t b (said c p ∷ [])
+unfolding total
+fitting-one t b c p l = limits-less (mostStanzas t) (λ k. length (bufferOf k b)) (λ m. sumsIn t m + weight m (said c p)) (λ m. sumsIn t m + (weight m (said c p) + 0)) l (λ m. omega arith)
+
 -- what is still to come behind it
 pub fitting-rest : (own : Bool) (left : Left) (t : Tables) (b : two.Buffers) (c : CommandTwo) (p : List ℕ) (cs : List Said) → Standing left t b → Faultless own t b c (length p) →
     Fitting t b (said c p ∷ cs) ↔ Fitting (applied t b c p) (filledBy t b c p) cs
@@ -248,7 +253,7 @@ module _ (s : Session) (left : Left) where
         λ a.
         let h = block-to s t b y (w .0) outs le (split .0 a .0) (λ v q. absurd (done-asks (s .machine) (y .text) e v q)) in
         let r = i .0 h in
-        ((r .0, tt), limits-less (mostStanzas t) (λ k. length (bufferOf k (b .second))) (λ m. sumsIn t m + weight m (saidBy (s .machine) y)) (λ m. sumsIn t m + (weight m (saidBy (s .machine) y) + 0)) (r .1) (λ m. omega arith)),
+        ((r .0, tt), fitting-one t (b .second) (commandIn (s .machine) (y .text)) (payloadIn (s .machine) (y .text)) (r .1)),
         λ h.
         let z = i .1 (h .0 .0, fitting-front t (b .second) (commandIn (s .machine) (y .text)) (payloadIn (s .machine) (y .text)) [] (h .1)) in
         split .1 (block-from s t b y (w .0) outs le (z .0) (z .1) .zeros, unfold AllZero in unfold numbers in tt),
