@@ -44,7 +44,7 @@ use Rattle.conversation.proofs.Laws.DecidedTwo.{first-iff, decided-iff,
 use Rattle.conversation.proofs.Laws.PresentTwo.{Shows}
 use Rattle.conversation.proofs.Laws.Runs.{accepted-append, enough-append}
 use Rattle.conversation.proofs.Laws.StepsTwo.{long-enough, all-written, at, Settled}
-use Rattle.conversation.proofs.Laws.SumsTwo.{not-any, none-any, or-false, false-or, not-is}
+use Rattle.conversation.proofs.Laws.SumsTwo.{With, not-any, none-any, or-false, false-or, not-is}
 use Rattle.conversation.proofs.Laws.ViewsTwo.{applied-view-two}
 
 -- ---- No. 19, a command that is not done
@@ -321,3 +321,185 @@ ended-none s t b outs (u ∷ us) a = absurd (omega (arith, a .0))
 
 none-accepted : (s : Session) (b : Buffers) (outs : Supply) (us : List (List ℕ)) → us ≡ [] → Accepted s b (responseCalls outs us)
 none-accepted s b outs us e = subst (λ us. Accepted s b (responseCalls outs us)) (sym e) (unfold AllZero in unfold numbers in unfold responseCalls in tt)
+
+-- ---- an exchange
+
+-- a right command that is not done awaits its one response
+awaits : (c : CommandTwo) → Proper false c → isRightTwo c ≡ true → (phaseSent c ≡ Awaiting (wordOf c)) × ((us : List (List ℕ)) → Responded c us ↔ OneResponse (wordOf c) us)
+awaits (ask w) d e = (refl, λ us. (λ h. h, λ h. h))
+awaits (stanza f) d e = (refl, λ us. (λ h. h, λ h. h))
+awaits (key f) d e = (refl, λ us. (λ h. h, λ h. h))
+awaits (error n) d e = (refl, λ us. (λ h. h, λ h. h))
+awaits done d e = absurd (false≢true d)
+awaits other d e = (refl, λ us. (λ h. h, λ h. h))
+awaits (bad n) d e = absurd (false≢true e)
+
+-- the word done that is right is done
+done-is : (f : Bool) (c : CommandTwo) → c ≡ pick f done (bad 4) → isRightTwo c ≡ true → c ≡ done
+done-is true c e r = e
+done-is false c e r = absurd (false≢true (sym (ap isRightTwo e) ∙ r))
+
+-- one command more
+named-more : (h : List Said) (c : Said) → namedIn (h ++ (c ∷ [])) ≡ namedIn h ++ rowLabels (rowsOf (c .command) errors (c .payload))
+unfolding namedIn
+named-more [] c = append-nil (rowLabels (rowsOf (c .command) errors (c .payload)))
+named-more (d ∷ h) c = ap (λ l. rowLabels (rowsOf (d .command) errors (d .payload)) ++ l) (named-more h c) ∙ sym (append-assoc (rowLabels (rowsOf (d .command) errors (d .payload))) (namedIn h) _)
+
+module _ (s : Session) (left : Left) (t : Tables) (b : Buffers) (x : Exchange) (g : Standing left t (b .second)) where
+  abbrev c′ : CommandTwo
+  c′ = commandSent (s .machine) x
+
+  abbrev p′ : List ℕ
+  p′ = saidIn (s .machine) x .payload
+
+  abbrev t′ : Tables
+  t′ = tablesSent s t b x
+
+  abbrev b′ : Buffers
+  b′ = buffersSent s t b x
+
+  proper : (d : Bool) → isDoneSent x ≡ d → Proper d c′
+  proper d e = subst (λ f. Proper f c′) e (command-proper (s .machine) (lineOf x) (x .body))
+
+  exact : (decided true t (b .second) c′ (length p′) ≡ 0) ↔ ((isRightTwo c′ ≡ true) × Present left c′ × With t (b .second) c′ p′ × (isHeldBack t c′ ≡ false))
+  exact = decided-exact true left t (b .second) (isDoneSent x) c′ p′ (proper (isDoneSent x) refl) g
+
+  -- the errors' table behind it
+  named-behind : (h : List Said) → labels (t .errors) ≡ namedIn h → decided true t (b .second) c′ (length p′) ≡ 0 → labels (t′ .errors) ≡ namedIn (h ++ (saidIn (s .machine) x ∷ []))
+  named-behind h n z =
+      labels-view (t′ .errors) (b′ .second .errors)
+      ∙ ap rowLabels (applied-view-two true t (b .second) p′ (g .going .held) c′ z errors)
+      ∙ map-append rowLabel (view (t .errors) (b .second .errors)) _
+      ∙ ap (λ l. l ++ rowLabels (rowsOf c′ errors p′)) (sym (labels-view (t .errors) (b .second .errors)) ∙ n)
+      ∙ sym (named-more h (saidIn (s .machine) x))
+
+  standing-behind : decided true t (b .second) c′ (length p′) ≡ 0 → Standing left t′ (b′ .second)
+  standing-behind z = standing-with true left t (b .second) c′ p′ g (decided-iff true t (b .second) c′ (length p′) .0 z)
+
+  -- one that is not done
+  module _ (d : isDoneSent x ≡ false) where
+    exchange-iff : (Judged s t b x × Responded c′ (x .responses)) ↔ (RightExchange (s .machine) left x × With t (b .second) c′ p′)
+    exchange-iff = (
+      λ h.
+      let q = exact .0 (h .0 .1) in
+      (record { writable = h .0 .0; right = q .0; present = q .1; unheld = unheld-iff t left (g .shows) c′ (proper false d) (q .1) .0 (q .3); responded = h .1 }, q .2),
+      λ h.
+      let r = h .0 in
+      ((r .writable, exact .1 (r .right, r .present, h .1, unheld-iff t left (g .shows) c′ (proper false d) (r .present) .1 (r .unheld))), r .responded),
+    )
+
+    module _ (outs : Supply) where
+      abbrev cs : List Call
+      cs = responseCalls (skip 1 outs) (x .responses)
+
+      waiting : outcome (at s Two t) b (call s t b x (outs 0)) .number ≡ 0 → isRightTwo c′ ≡ true →
+          stateOf (outcome (at s Two t) b (call s t b x (outs 0)) .session) (outcome (at s Two t) b (call s t b x (outs 0)) .buffers) ≡ stateOf (at s (Awaiting (wordOf c′)) t′) b′
+      waiting z r = sent-state s t b x (outs 0) z ∙ ap (λ q. stateOf (at s q t′) b′) (awaits c′ (proper false d) r .0)
+
+      exchange-to : Accepted (at s Two t) b (exchangeCalls outs x) → Settled (after (at s Two t) b (exchangeCalls outs x) .session .phase) → Judged s t b x × Responded c′ (x .responses)
+      unfolding AllZero numbers after
+      exchange-to a h =
+          let j = sent-to s t b x (outs 0) (a .0) in
+          let r = exact .0 (j .1) .0 in
+          let e = waiting (a .0) r in
+          (j, awaits c′ (proper false d) r .1 (x .responses) .1
+          (responses-to s t′ b′ (wordOf c′) (skip 1 outs) (x .responses) (subst (λ u. Accepted (u .session) (u .buffers) cs) e (a .1)) (subst (λ u. Settled (after (u .session) (u .buffers) cs .session .phase)) e h)))
+
+      exchange-from : LongEnough (at s Two t) b (exchangeCalls outs x) → Judged s t b x → Responded c′ (x .responses) →
+          Accepted (at s Two t) b (exchangeCalls outs x) × (after (at s Two t) b (exchangeCalls outs x) ≡ stateOf (at s Two t′) b′)
+      unfolding AllZero numbers after LongEnough
+      exchange-from l j q =
+          let z = sent-from s t b x (outs 0) (l .0) j in
+          let r = exact .0 (j .1) .0 in
+          let e = waiting z r in
+          let f = responses-from s t′ b′ (wordOf c′) (skip 1 outs) (x .responses) (awaits c′ (proper false d) r .1 (x .responses) .0 q) (subst (λ u. LongEnough (u .session) (u .buffers) cs) e (l .1)) in
+          ((z, subst (λ u. Accepted (u .session) (u .buffers) cs) (sym e) (f .0)), ap (λ u. after (u .session) (u .buffers) cs) e ∙ f .1)
+
+  -- done, behind the commands h
+  module _ (d : isDoneSent x ≡ true) (h : List Said) (n : labels (t .errors) ≡ namedIn h) where
+    ending : isRightTwo c′ ≡ true → c′ ≡ done
+    ending r = done-is (isBare (lineOf x) (length (x .body)) 0) c′ (done-word (s .machine) (lineOf x) (x .body) d) r
+
+    reports : c′ ≡ done → (isHeldBack t c′ ≡ false) ↔ AllReported left (h ++ (saidIn (s .machine) x ∷ []))
+    reports e =
+        let q : labels (t .errors) ≡ namedIn (h ++ (saidIn (s .machine) x ∷ [])) =
+        n ∙ sym (append-nil (namedIn h)) ∙ ap (λ c. namedIn h ++ rowLabels (rowsOf c errors p′)) (sym e) ∙ sym (named-more h (saidIn (s .machine) x)) in
+        let i = all-reported-iff t left (h ++ (saidIn (s .machine) x ∷ [])) (g .shows) q in
+        let held = ap (λ c. isHeldBack t c) e in
+        (λ z. i .0 (not-false _ (sym held ∙ z)), λ r. held ∙ not-is _ (i .1 r))
+
+    last-to : (outs : Supply) → Accepted (at s Two t) b (exchangeCalls outs x) → RightExchange (s .machine) left x × With t (b .second) c′ p′ × AllReported left (h ++ (saidIn (s .machine) x ∷ []))
+    unfolding AllZero numbers
+    last-to outs a =
+        let j = sent-to s t b x (outs 0) (a .0) in
+        let q = exact .0 (j .1) in
+        let e = ending (q .0) in
+        let state = sent-state s t b x (outs 0) (a .0) ∙ ap (λ c. stateOf (at s (phaseSent c) t′) b′) e in
+        let none = ended-none s t′ b′ (skip 1 outs) (x .responses) (subst (λ u. Accepted (u .session) (u .buffers) (responseCalls (skip 1 outs) (x .responses))) state (a .1)) in
+        (record { writable = j .0; right = q .0; present = q .1; unheld = subst (Unheld left) (sym e) tt; responded = subst (λ c. Responded c (x .responses)) (sym e) none }, q .2, reports e .0 (q .3))
+
+    last-from : (outs : Supply) → LongEnough (at s Two t) b (exchangeCalls outs x) → RightExchange (s .machine) left x → With t (b .second) c′ p′ → AllReported left (h ++ (saidIn (s .machine) x ∷ [])) → Accepted (at s Two t) b (exchangeCalls outs x)
+    unfolding AllZero numbers LongEnough
+    last-from outs l r w q =
+        let e = ending (r .right) in
+        (sent-from s t b x (outs 0) (l .0) (r .writable, exact .1 (r .right, r .present, w, reports e .1 q)), none-accepted _ _ (skip 1 outs) (x .responses) (subst (λ c. Responded c (x .responses)) e (r .responded)))
+
+-- ---- a list of exchanges that done ends
+
+module _ (s : Session) (left : Left) where
+  abbrev pub Right : List Exchange → Type 0
+  Right xs = All (RightExchange (s .machine) left) xs
+
+  abbrev pub saids : List Exchange → List Said
+  saids xs = map (saidIn (s .machine)) xs
+
+  -- a list is accepted only in phase two
+  first-turn : (s′ : Session) (b : Buffers) (outs : Supply) (xs : List Exchange) (y : Exchange) → Accepted s′ b (sendingCalls outs (xs ++ (y ∷ []))) → s′ .phase ≡ Two
+  unfolding sendingCalls AllZero numbers
+  first-turn s′ b outs [] y a = accepted s′ b (send-two (y .word) (y .arguments) (y .body) (outs 0)) (a .0) .turn
+  first-turn s′ b outs (x ∷ xs) y a = accepted s′ b (send-two (x .word) (x .arguments) (x .body) (outs 0)) (a .0) .turn
+
+  -- the exchanges from here on are accepted exactly if each is right, together with what the tables hold they keep the limits, and with the errors of h, which are
+  -- those of the errors' table, they report all
+  pub sent-iff : (xs : List Exchange) (y : Exchange) (t : Tables) (b : Buffers) (outs : Supply) (h : List Said) → Standing left t (b .second) → labels (t .errors) ≡ namedIn h →
+      All (λ x. isDoneSent x ≡ false) xs → isDoneSent y ≡ true → LongEnough (at s Two t) b (sendingCalls outs (xs ++ (y ∷ []))) →
+      Accepted (at s Two t) b (sendingCalls outs (xs ++ (y ∷ []))) ↔ (Right (xs ++ (y ∷ [])) × Fitting t (b .second) (saids (xs ++ (y ∷ []))) × AllReported left (h ++ saids (xs ++ (y ∷ []))))
+  unfolding All sendingCalls
+  sent-iff [] y t b outs h g n d e l =
+      let le = enough-append (at s Two t) b (exchangeCalls outs y) [] l .0 in
+      let split = accepted-append (at s Two t) b (exchangeCalls outs y) [] in
+      let c = commandSent (s .machine) y in
+      let p = saidIn (s .machine) y .payload in (
+        λ a. let r = last-to s left t b y g e h n outs (split .0 a .0) in ((r .0, tt), fitting-one t (b .second) c p (r .1), r .2),
+        λ r. split .1 (last-from s left t b y g e h n outs le (r .0 .0) (fitting-front t (b .second) c p [] (r .1)) (r .2), unfold AllZero in unfold numbers in tt),
+      )
+  sent-iff (x ∷ xs) y t b outs h g n d e l =
+      let later-outs = skip (length (x .responses)) (skip 1 outs) in
+      let cs = sendingCalls later-outs (xs ++ (y ∷ [])) in
+      let le = enough-append (at s Two t) b (exchangeCalls outs x) cs l in
+      let split = accepted-append (at s Two t) b (exchangeCalls outs x) cs in
+      let c = commandSent (s .machine) x in
+      let p = saidIn (s .machine) x .payload in
+      let i = exchange-iff s left t b x g (d .0) in
+      let t′ = tablesSent s t b x in
+      let b′ = buffersSent s t b x in
+      let rest = saids (xs ++ (y ∷ [])) in
+      let h′ = h ++ (saidIn (s .machine) x ∷ []) in
+      let more : h′ ++ rest ≡ h ++ (saidIn (s .machine) x ∷ rest) = append-assoc h (saidIn (s .machine) x ∷ []) rest in
+      let state : Judged s t b x → Responded c (x .responses) → after (at s Two t) b (exchangeCalls outs x) ≡ stateOf (at s Two t′) b′ = λ j q. exchange-from s left t b x g (d .0) outs (le .0) j q .1 in
+      let later : Judged s t b x → Responded c (x .responses) → Accepted (at s Two t′) b′ cs ↔ (Right (xs ++ (y ∷ [])) × Fitting t′ (b′ .second) rest × AllReported left (h′ ++ rest)) =
+      λ j q. sent-iff xs y t′ b′ later-outs h′ (standing-behind s left t b x g (j .1)) (named-behind s left t b x g h n (j .1)) (d .1) e (subst (λ u. LongEnough (u .session) (u .buffers) cs) (state j q) (le .1)) in (
+        λ a.
+        let split-a = split .0 a in
+        let turn = first-turn (after (at s Two t) b (exchangeCalls outs x) .session) (after (at s Two t) b (exchangeCalls outs x) .buffers) later-outs xs y (split-a .1) in
+        let k = exchange-to s left t b x g (d .0) outs (split-a .0) (subst Settled (sym turn) tt) in
+        let r = i .0 k in
+        let z = later (k .0) (k .1) .0 (subst (λ u. Accepted (u .session) (u .buffers) cs) (state (k .0) (k .1)) (split-a .1)) in
+        let f = decided-iff true t (b .second) c (length p) .0 (k .0 .1) in
+        ((r .0, z .0), fitting-rest true left t (b .second) c p rest g f .1 (z .1), subst (AllReported left) more (z .2)),
+        λ r.
+        let k = i .1 (r .0 .0, fitting-front t (b .second) c p rest (r .1)) in
+        let f = decided-iff true t (b .second) c (length p) .0 (k .0 .1) in
+        let z = later (k .0) (k .1) .1 (r .0 .1, fitting-rest true left t (b .second) c p rest g f .0 (r .1), subst (AllReported left) (sym more) (r .2)) in
+        split .1 (exchange-from s left t b x g (d .0) outs (le .0) (k .0) (k .1) .0, subst (λ u. Accepted (u .session) (u .buffers) cs) (sym (state (k .0) (k .1))) z),
+      )
