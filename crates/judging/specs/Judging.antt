@@ -49,9 +49,13 @@ isDone wrap-file-key = false
 isDone recipient-stanza = false
 isDone other-word = false
 
+-- behind a command: it "stops at done"
+abbrev pub behindCommand : Word → Session → Standing
+behindCommand w after = pick (isDone w) (stopped (counted (after .tables) 0)) (going after)
+
 -- it "stops at done or a refusal"; "At a refusal the counts are those before it"
 abbrev pub standingAfter : Taking → Session → Session → Standing
-standingAfter (took w k) before after = pick (isDone w) (stopped (counted (after .tables) 0)) (going after)
+standingAfter (took w k) before after = behindCommand w after
 standingAfter (declined n) before after = stopped (counted (before .tables) n)
 
 -- a refused call takes nothing
@@ -104,9 +108,9 @@ numbersOf (stopped x) = x
 numbersOf (going s) = counted (s .tables) 2
 
 -- "with rooms of 16,384, 16,384 and 1,024 bytes", and none for header stanzas, of which recipient-v1 has none
-abbrev pub lent : Buffers
-lent = buffersOf (replicate 16384 0) (replicate 16384 0) (replicate 1024 0) []
+abbrev pub buffersGiven : Buffers
+buffersGiven = buffersOf (replicate 16384 0) (replicate 16384 0) (replicate 1024 0) []
 
 -- what the program writes for an input
 abbrev pub judged : List ℕ → Judged
-judged text = numbersOf (judgedText lent text .standing)
+judged text = numbersOf (judgedText buffersGiven text .standing)

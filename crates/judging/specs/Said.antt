@@ -26,13 +26,13 @@ standingIn (the.Stopped x) s = stopped (judgedSaid x)
 abbrev pub standingOf : Judging → Standing
 standingOf j = standingIn (j .progress) (sessionOf (j .session))
 
--- the buffers: none is lent for header stanzas, which recipient-v1 does not have
-abbrev pub lentOf : List ℕ → List ℕ → List ℕ → Buffers
-lentOf r i k = buffersOf r i k []
+-- the buffers of recipients, identities and file keys; none for header stanzas, which recipient-v1 does not have
+abbrev pub buffersIn : List ℕ → List ℕ → List ℕ → Buffers
+buffersIn r i k = buffersOf r i k []
 
 -- where judging stands, with the buffers and how many bytes were taken
 abbrev pub turnSaid : Judging → List ℕ → List ℕ → List ℕ → Turn
-turnSaid j r i k = turnOf (standingOf j) (lentOf r i k) (j .taken)
+turnSaid j r i k = turnOf (standingOf j) (buffersIn r i k) (j .taken)
 
 -- whether another stanza is looked at, with n bytes of the window left
 abbrev pub isDue : Progress → ℕ → Bool → Bool

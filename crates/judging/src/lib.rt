@@ -5,9 +5,9 @@ ghost use lib.ListN.{length, drop};
 ghost use Rattle.session.specs.Commands.{wordSaid};
 ghost use Rattle.session.specs.PhaseOne.{tablesOf};
 ghost use Rattle.plugin.specs.Session.{sessionOf};
-ghost use Rattle.judging.specs.Judging.{counted, going, stopped, isDone, turned, behind, start, judgedText, numbersOf};
+ghost use Rattle.judging.specs.Judging.{counted, going, isDone, behindCommand, turned, behind, start, judgedText, numbersOf};
 ghost use Rattle.judging.specs.Windows.{windowed, Cut};
-ghost use Rattle.judging.specs.Said.{judgedSaid, isDue, lentOf, standingOf, turnSaid};
+ghost use Rattle.judging.specs.Said.{judgedSaid, isDue, buffersIn, standingIn, standingOf, turnSaid};
 use plugin::Session;
 use plugin::Taking;
 use session::Tables;
@@ -65,6 +65,16 @@ fn is_done(word: Word) -> bool
     }
 }
 
+// Where judging stands behind a command: done stops it.
+fn behind_command(word: Word, session: Session) -> Progress
+    ensures { λ r. ⌜ standingIn r (sessionOf session) ≡ behindCommand (wordSaid word) (sessionOf session) ⌝ }
+{
+    if is_done(word) {
+        return Progress::Stopped(count(session.tables, 0));
+    }
+    Progress::GoesOn
+}
+
 // Whether another stanza of a window is looked at: judging goes on, and the longest stanza could be left or the window is the last.
 fn is_due(progress: Progress, left: usize, last: bool) -> bool
     ensures { λ r. ⌜ r ≡ isDue progress left last ⌝ }
@@ -90,7 +100,7 @@ fn advance(
     keys: &mut [u8],
 ) -> Judging
     requires { ⌜ at ≤ length (now window) ⌝ }
-    ensures { λ r. ⌜ turnSaid r (now (recipients .exit)) (now (identities .exit)) (now (keys .exit)) ≡ behind at (turned (sessionOf session) (lentOf (now (recipients .entry)) (now (identities .entry)) (now (keys .entry))) (drop at (now (window .entry)))) ⌝ }
+    ensures { λ r. ⌜ turnSaid r (now (recipients .exit)) (now (identities .exit)) (now (keys .exit)) ≡ behind at (turned (sessionOf session) (buffersIn (now (recipients .entry)) (now (identities .entry)) (now (keys .entry))) (drop at (now (window .entry)))) ⌝ }
 {
     let mut headers = [0u8; 0];
     let received = session.receive(&window[at..], recipients, identities, keys, &mut headers);
@@ -104,16 +114,9 @@ fn advance(
         },
         Taking::Command(word, taken) => {
             let next = at + taken;
-            if is_done(word) {
-                return Judging {
-                    session: after,
-                    progress: Progress::Stopped(count(after.tables, 0)),
-                    taken: next,
-                };
-            }
             Judging {
                 session: after,
-                progress: Progress::GoesOn,
+                progress: behind_command(word, after),
                 taken: next,
             }
         }
@@ -144,8 +147,8 @@ impl Judging {
         identities: &mut [u8],
         keys: &mut [u8],
     ) -> Judging
-        ensures exact { λ r. ⌜ turnSaid r (now (recipients .exit)) (now (identities .exit)) (now (keys .exit)) ≡ windowed last (standingOf self) (lentOf (now (recipients .entry)) (now (identities .entry)) (now (keys .entry))) (now (window .entry)) ⌝ }
-        ensures any_cut { λ r. ⌜ Cut last (standingOf self) (lentOf (now (recipients .entry)) (now (identities .entry)) (now (keys .entry))) (now (window .entry)) (turnSaid r (now (recipients .exit)) (now (identities .exit)) (now (keys .exit))) ⌝ }
+        ensures exact { λ r. ⌜ turnSaid r (now (recipients .exit)) (now (identities .exit)) (now (keys .exit)) ≡ windowed last (standingOf self) (buffersIn (now (recipients .entry)) (now (identities .entry)) (now (keys .entry))) (now (window .entry)) ⌝ }
+        ensures any_cut { λ r. ⌜ Cut last (standingOf self) (buffersIn (now (recipients .entry)) (now (identities .entry)) (now (keys .entry))) (now (window .entry)) (turnSaid r (now (recipients .exit)) (now (identities .exit)) (now (keys .exit))) ⌝ }
     {
         let mut j = self;
         j.taken = 0;
@@ -173,8 +176,8 @@ impl Judging {
 
 // A whole text: the five numbers. The judging program lends 16,384, 16,384 and 1,024 bytes of zeros. Header stanzas need no buffer: recipient-v1 has none.
 pub fn judge(text: &[u8], recipients: &mut [u8], identities: &mut [u8], keys: &mut [u8]) -> Judged
-    ensures numbers { λ r. ⌜ judgedSaid r ≡ numbersOf (judgedText (lentOf (now (recipients .entry)) (now (identities .entry)) (now (keys .entry))) (now (text .entry)) .standing) ⌝ }
-    ensures buffers { λ _. ⌜ lentOf (now (recipients .exit)) (now (identities .exit)) (now (keys .exit)) ≡ judgedText (lentOf (now (recipients .entry)) (now (identities .entry)) (now (keys .entry))) (now (text .entry)) .buffers ⌝ }
+    ensures numbers { λ r. ⌜ judgedSaid r ≡ numbersOf (judgedText (buffersIn (now (recipients .entry)) (now (identities .entry)) (now (keys .entry))) (now (text .entry)) .standing) ⌝ }
+    ensures buffers { λ _. ⌜ buffersIn (now (recipients .exit)) (now (identities .exit)) (now (keys .exit)) ≡ judgedText (buffersIn (now (recipients .entry)) (now (identities .entry)) (now (keys .entry))) (now (text .entry)) .buffers ⌝ }
 {
     let begun = Judging::open();
     let judging = begun.judge_window(text, true, recipients, identities, keys);

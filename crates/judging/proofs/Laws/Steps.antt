@@ -19,9 +19,9 @@ use Rattle.session.specs.PhaseOne.{Buffers, buffersOf}
 use Rattle.session.specs.Opening.{recipientV1}
 use Rattle.conversation.specs.Session.{Session, opened}
 use Rattle.conversation.specs.Receiving.{Taking, took, declined, Received, received}
-use Rattle.judging.specs.Judging.{Judged, counted, Standing, going, stopped, Turn, turnOf, isDone, turnBy, turned, behind, judgedWith, judgeName, start, judgedText}
+use Rattle.judging.specs.Judging.{Judged, counted, Standing, going, stopped, Turn, turnOf, behindCommand, turnBy, turned, behind, judgedWith, judgeName, start, judgedText}
 use Rattle.judging.specs.Windows.{leastOf, windowed}
-use Rattle.judging.specs.Said.{judgedSaid, standingIn, lentOf, isDue}
+use Rattle.judging.specs.Said.{judgedSaid, standingIn, buffersIn, isDue}
 use Rattle.judging.specs.declared.Progress.{Progress}
 use Rattle.judging.specs.declared.Progress.the-variants as the
 use Rattle.judging.proofs.Laws.Reading.{received-takes}
@@ -42,31 +42,22 @@ empty-list (x ∷ l) h = absurd (omega arith)
 
 module _ (s after : Session) (b : Buffers) (r i k h : List ℕ) (window : List ℕ) (at : ℕ) (a : Taking) (none : length h ≡ 0)
     (e : _≡_ {A = Received} (record { answer = a; session = after; buffers = buffersOf r i k h }) (received s (take (length window - at) (drop at window)) b)) where
-  by-answer : (a′ : Taking) → a ≡ a′ → behind at (turnBy s (record { answer = a′; session = after; buffers = lentOf r i k })) ≡ behind at (turned s b (drop at window))
+  by-answer : (a′ : Taking) → a ≡ a′ → behind at (turnBy s (record { answer = a′; session = after; buffers = buffersIn r i k })) ≡ behind at (turned s b (drop at window))
   by-answer a′ q =
       ap (behind at)
-      (ap (λ x. turnBy s (record { answer = x; session = after; buffers = lentOf r i k })) (sym q)
+      (ap (λ x. turnBy s (record { answer = x; session = after; buffers = buffersIn r i k })) (sym q)
       ∙ ap (λ x. turnBy s (record { answer = a; session = after; buffers = buffersOf r i k x })) (sym (empty-list h none))
       ∙ ap (turnBy s) e
       ∙ ap (turned s b) (part-rest at window))
 
   -- a refusal stops it, with the counts before
-  pub turn-refused : (n m : ℕ) (x : Judged) → a ≡ declined n → m ≡ n → x ≡ counted (s .tables) m → turnOf (stopped x) (lentOf r i k) at ≡ behind at (turned s b (drop at window))
+  pub turn-refused : (n m : ℕ) (x : Judged) → a ≡ declined n → m ≡ n → x ≡ counted (s .tables) m → turnOf (stopped x) (buffersIn r i k) at ≡ behind at (turned s b (drop at window))
   turn-refused n m x q p c =
-      ap (λ y. turnOf (stopped y) (lentOf r i k) at) (c ∙ ap (counted (s .tables)) p) ∙ sym (behind-stays (stopped (counted (s .tables) n)) (lentOf r i k) at) ∙ by-answer (declined n) q
+      ap (λ y. turnOf (stopped y) (buffersIn r i k) at) (c ∙ ap (counted (s .tables)) p) ∙ sym (behind-stays (stopped (counted (s .tables) n)) (buffersIn r i k) at) ∙ by-answer (declined n) q
 
-  abbrev stands : Bool → Standing
-  stands f = pick f (stopped (counted (after .tables) 0)) (going after)
-
-  -- done stops it
-  pub turn-done : (w : Word) (n : ℕ) (f : Bool) (x : Judged) → a ≡ took w n → f ≡ isDone w → f ≡ true → x ≡ counted (after .tables) 0 →
-      turnOf (stopped x) (lentOf r i k) (at + n) ≡ behind at (turned s b (drop at window))
-  turn-done w n f x q d t c =
-      ap (λ y. turnOf (stopped y) (lentOf r i k) (at + n)) c ∙ ap (λ g. turnOf (stands g) (lentOf r i k) (at + n)) (sym t ∙ d) ∙ by-answer (took w n) q
-
-  -- any other command lets it go on
-  pub turn-on : (w : Word) (n : ℕ) (f : Bool) → a ≡ took w n → f ≡ isDone w → f ≡ false → turnOf (going after) (lentOf r i k) (at + n) ≡ behind at (turned s b (drop at window))
-  turn-on w n f q d t = ap (λ g. turnOf (stands g) (lentOf r i k) (at + n)) (sym t ∙ d) ∙ by-answer (took w n) q
+  -- behind a command it stands where the definition says
+  pub turn-command : (w : Word) (n : ℕ) (d : Standing) → a ≡ took w n → d ≡ behindCommand w after → turnOf d (buffersIn r i k) (at + n) ≡ behind at (turned s b (drop at window))
+  turn-command w n d q e = ap (λ x. turnOf x (buffersIn r i k) (at + n)) e ∙ by-answer (took w n) q
 
   -- what was taken lies within the window
   pub turn-within : (w : Word) (n : ℕ) → a ≡ took w n → at ≤ length window → at + n ≤ length window

@@ -12,7 +12,7 @@ use Rattle.refusal.specs.Pick.{pick}
 use Rattle.refusal.proofs.Laws.Booleans.{cases}
 use Rattle.session.specs.PhaseOne.{Buffers}
 use Rattle.conversation.specs.Session.{Session}
-use Rattle.judging.specs.Judging.{Judged, Standing, going, stopped, Turn, turnOf, turnBy, turned, behind, judgedWith, judgedFrom, start, judgedText, numbersOf, lent, judged}
+use Rattle.judging.specs.Judging.{Judged, Standing, going, stopped, Turn, turnOf, turnBy, turned, behind, judgedWith, judgedFrom, start, judgedText, numbersOf, buffersGiven, judged}
 use Rattle.judging.specs.Windows.{leastOf, windowed, Cut}
 use Rattle.judging.proofs.Laws.Reading.{received-window}
 use Rattle.judging.proofs.Laws.Turns.{Takes, turned-takes, behind-zero, behind-behind, ended, unrolled-on, unrolled-off}
@@ -110,5 +110,5 @@ fed-judged (c ∷ cs) d b left =
     ∙ ap (judgedFrom 0 d b) (append-assoc left c (joined cs))
 
 -- so the program's numbers for any chunks are those for the whole input
-pub chunks-judged : (cs : List (List ℕ)) → numbersOf (fed (going start) lent [] cs .standing) ≡ judged (joined cs)
-chunks-judged cs = ap (λ t. numbersOf (t .standing)) (fed-judged cs (going start) lent [])
+pub chunks-judged : (cs : List (List ℕ)) → numbersOf (fed (going start) buffersGiven [] cs .standing) ≡ judged (joined cs)
+chunks-judged cs = ap (λ t. numbersOf (t .standing)) (fed-judged cs (going start) buffersGiven [])
