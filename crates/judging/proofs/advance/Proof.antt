@@ -6,7 +6,7 @@ use Rattle.refusal.specs.Number.{numberOf}
 use Rattle.session.specs.Commands.{wordSaid}
 use Rattle.plugin.specs.Session.{sessionOf}
 use Rattle.plugin.specs.Receiving.{takingSaid}
-use Rattle.judging.specs.Said.{judgedSaid, standingIn, buffersIn}
+use Rattle.judging.specs.Said.{standingIn, buffersIn}
 use Rattle.judging.proofs.Laws.Steps.{turn-refused, turn-command, turn-within}
 use borrow.Author.Needs.{needs}
 use Rattle.judging.proofs.advance.Statement.{statement}
@@ -30,11 +30,8 @@ receive-requires c κs = search needs
 enum-known-answer : tie.Need-enum-known-answer
 enum-known-answer c = search needs
 
-number-requires : tie.Need-number-requires
-number-requires c κs = search needs
-
-count-requires : tie.Need-count-requires
-count-requires c κs = search needs
+behind-refusal-requires : tie.Need-behind-refusal-requires
+behind-refusal-requires c κs = search needs
 
 enum-known-answer-2 : tie.Need-enum-known-answer-2
 enum-known-answer-2 c = search needs
@@ -43,7 +40,7 @@ add-next : tie.Need-add-next
 add-next c =
     let a = c .before .before .before .before .before .before .before .before .before .before .before .before .before .before .before .before .before .before .before .before .before .args in
     let r = c .before .before .before .before .before .before .before .before .before .before .before .receive in
-    let h = turn-within (sessionOf (a .session)) (sessionOf (r .result .session)) (buffersIn (now (a .recipients)) (now (a .identities)) (now (a .keys))) (r .last .1 .1 .0) (r .last .1 .1 .1 .0) (r .last .1 .1 .1 .1 .0) (r .last .1 .1 .1 .1 .1 .0) (now (a .window)) (a .at) (takingSaid (r .result .answer)) (r .kept .1 .1 .1 .1 .1 .0) (r .ensures)
+    let h = turn-within (a .last) (sessionOf (a .session)) (sessionOf (r .result .session)) (buffersIn (now (a .recipients)) (now (a .identities)) (now (a .keys))) (r .last .1 .1 .0) (r .last .1 .1 .1 .0) (r .last .1 .1 .1 .1 .0) (r .last .1 .1 .1 .1 .1 .0) (now (a .window)) (a .at) (takingSaid (r .result .answer)) (r .kept .1 .1 .1 .1 .1 .0) (r .ensures)
     (wordSaid (c .before .answer2 .given .0 .0)) (c .before .answer2 .given .0 .1 .0) (ap takingSaid (c .before .answer2 .given .1)) (c .before .before .before .before .before .before .before .before .before .before .before .before .before .before .before .before .before .before .before .before .before .pre) in
     omega (arith, h, c .before .before .before .before .before .before .before .before .before .before .before .before .before .before .before .before .before .before .before .before .before .good)
 
@@ -61,10 +58,10 @@ same-length-3 c = search needs
 
 returns : tie.Need-returns
 returns c =
-    let a = c .before .before .before .before .before .before .before .before .before .before .before .before .before .before .before .before .before .before .before .before .before .before .before .args in
-    let r = c .before .before .before .before .before .before .before .before .before .before .before .before .before .receive in
-    turn-refused (sessionOf (a .session)) (sessionOf (r .result .session)) (buffersIn (now (a .recipients)) (now (a .identities)) (now (a .keys))) (r .last .1 .1 .0) (r .last .1 .1 .1 .0) (r .last .1 .1 .1 .1 .0) (r .last .1 .1 .1 .1 .1 .0) (now (a .window)) (a .at) (takingSaid (r .result .answer)) (r .kept .1 .1 .1 .1 .1 .0) (r .ensures)
-    (numberOf (c .before .before .before .answer .given .0 .0)) (c .before .number .result) (judgedSaid (c .count .result)) (ap takingSaid (c .before .before .before .answer .given .1)) (c .before .number .ensures) (c .count .ensures)
+    let a = c .before .before .before .before .before .before .before .before .before .before .before .before .before .before .before .before .before .before .before .before .before .before .args in
+    let r = c .before .before .before .before .before .before .before .before .before .before .before .before .receive in
+    turn-refused (a .last) (sessionOf (a .session)) (sessionOf (r .result .session)) (buffersIn (now (a .recipients)) (now (a .identities)) (now (a .keys))) (r .last .1 .1 .0) (r .last .1 .1 .1 .0) (r .last .1 .1 .1 .1 .0) (r .last .1 .1 .1 .1 .1 .0) (now (a .window)) (a .at) (takingSaid (r .result .answer)) (r .kept .1 .1 .1 .1 .1 .0) (r .ensures)
+    (numberOf (c .before .before .answer .given .0 .0)) (standingIn (c .behind-refusal .result) (sessionOf (a .session))) (ap takingSaid (c .before .before .answer .given .1)) (c .behind-refusal .ensures)
 
 same-length-4 : tie.Need-same-length-4
 same-length-4 c = search needs
@@ -79,7 +76,7 @@ returns-2 : tie.Need-returns-2
 returns-2 c =
     let a = c .before .before .before .before .before .before .before .before .before .before .before .before .before .before .before .before .before .before .before .before .before .before .args in
     let r = c .before .before .before .before .before .before .before .before .before .before .before .before .receive in
-    turn-command (sessionOf (a .session)) (sessionOf (r .result .session)) (buffersIn (now (a .recipients)) (now (a .identities)) (now (a .keys))) (r .last .1 .1 .0) (r .last .1 .1 .1 .0) (r .last .1 .1 .1 .1 .0) (r .last .1 .1 .1 .1 .1 .0) (now (a .window)) (a .at) (takingSaid (r .result .answer)) (r .kept .1 .1 .1 .1 .1 .0) (r .ensures)
+    turn-command (a .last) (sessionOf (a .session)) (sessionOf (r .result .session)) (buffersIn (now (a .recipients)) (now (a .identities)) (now (a .keys))) (r .last .1 .1 .0) (r .last .1 .1 .1 .0) (r .last .1 .1 .1 .1 .0) (r .last .1 .1 .1 .1 .1 .0) (now (a .window)) (a .at) (takingSaid (r .result .answer)) (r .kept .1 .1 .1 .1 .1 .0) (r .ensures)
     (wordSaid (c .before .before .answer2 .given .0 .0)) (c .before .before .answer2 .given .0 .1 .0) (standingIn (c .behind-command .result) (sessionOf (r .result .session))) (ap takingSaid (c .before .before .answer2 .given .1)) (c .behind-command .ensures)
 
 pub advance-spec : {M : Type 1} → statement M
@@ -92,8 +89,7 @@ advance-spec =
     slice-aggregate-receive
     receive-requires
     enum-known-answer
-    number-requires
-    count-requires
+    behind-refusal-requires
     enum-known-answer-2
     add-next
     behind-command-requires
