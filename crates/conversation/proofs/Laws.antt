@@ -8,9 +8,12 @@ pub mod Answers
 pub mod CommandsTwo
 pub mod DecidedTwo
 pub mod Examples
+pub mod LeftTwo
 pub mod Limits
 pub mod Lists
+pub mod Order
 pub mod OrderOne
+pub mod OrderTwo
 pub mod PresentTwo
 pub mod Reached
 pub mod Receiving

@@ -183,7 +183,7 @@ unfolding commandTwo same
 done-word m line body e = ap (λ w. rowTwo (wordTwo m w) m line (length body)) (same-eq (argumentOf line 0) doneWord e)
 
 -- it asks nothing
-done-asks : (m : Machine) (x : List ℕ) → isDone x ≡ true → (v : WordTwo) → commandIn m x ≡ ask v → ⊥
+pub done-asks : (m : Machine) (x : List ℕ) → isDone x ≡ true → (v : WordTwo) → commandIn m x ≡ ask v → ⊥
 unfolding isAsk
 done-asks m x e v q = go (isBare (lineIn x) (length (bodyIn x)) 0) (ap isAsk (sym (done-word m (lineIn x) (bodyIn x) e) ∙ q))
   where
@@ -220,17 +220,17 @@ module _ (s : Session) (left : Left) where
           λ h. (i .1 (h .0 .right, h .0 .present, h .1, refl), h .0 .answered),
         )
 
-    standing-behind : judged s t b (x .text) w ≡ 0 → Standing left (tablesWith s t b (x .text) w) (buffersWith s t b (x .text) w .second)
+    pub standing-behind : judged s t b (x .text) w ≡ 0 → Standing left (tablesWith s t b (x .text) w) (buffersWith s t b (x .text) w .second)
     standing-behind z = standing-with false left t (b .second) c p g (decided-iff false t (b .second) c (length p) .0 z)
 
   -- a list of blocks is accepted only in phase two
-  first-turn : (s′ : Session) (b : Buffers) (outs : Supply) (xs : List Block) (y : Block) → Accepted s′ b (callsOf two-part outs (xs ++ (y ∷ []))) → s′ .phase ≡ Two
+  pub first-turn : (s′ : Session) (b : Buffers) (outs : Supply) (xs : List Block) (y : Block) → Accepted s′ b (callsOf two-part outs (xs ++ (y ∷ []))) → s′ .phase ≡ Two
   unfolding callsOf AllZero numbers
   first-turn s′ b outs [] y a = accepted s′ b (receive-two (y .text) (outs 0)) (a .0) .turn
   first-turn s′ b outs (x ∷ xs) y a = accepted s′ b (receive-two (x .text) (outs 0)) (a .0) .turn
 
   -- behind a block that is not done
-  behind-block : (t : Tables) (b : Buffers) (x : Block) (w : Whole (x .text)) (outs : Supply) → isDone (x .text) ≡ false → BlockDone s t b x w outs →
+  pub behind-block : (t : Tables) (b : Buffers) (x : Block) (w : Whole (x .text)) (outs : Supply) → isDone (x .text) ≡ false → BlockDone s t b x w outs →
       after (at s Two t) b (blockCalls two-part outs x) ≡ stateOf (at s Two (tablesWith s t b (x .text) w)) (buffersWith s t b (x .text) w)
   behind-block t b x w outs d k =
       k .state ∙ ap (λ q. stateOf (at s q (tablesWith s t b (x .text) w)) (buffersWith s t b (x .text) w)) (goes-on (commandIn (s .machine) (x .text)) (subst (λ f. Proper f (commandIn (s .machine) (x .text))) d (proper (x .text))))
