@@ -18,37 +18,35 @@ use Rattle.stanza.specs.Writing.{isWritable}
 use Rattle.responses.specs.Responses.{fitsWhole, ResponseRead, response, nothing, responseOf}
 use Rattle.responses.specs.declared.Response.{Response}
 use Rattle.responses.specs.declared.WordTwo.{WordTwo}
-use Rattle.tables.specs.Tables.{Row, view, opened}
-use Rattle.tables.proofs.Laws.Tables.{Kept, opened-kept, opened-view, view-count}
+use Rattle.tables.specs.Tables.{Row, view}
 use Rattle.session.specs.Commands.{isBare}
-use Rattle.session.specs.PhaseOne as one
 use Rattle.session.specs.PhaseOne.{Tables, firstOf}
 use Rattle.session.specs.Views as one-kind
 use Rattle.session.specs.Views.{recipients, identities, keys, headers}
 use Rattle.session.specs.declared.phases.Phase.{Phase}
 use Rattle.session.specs.declared.phases.Phase.the-variants.{Two, Awaiting, Ended}
-use Rattle.session.proofs.Laws.Views.{Reached}
 use Rattle.conversation.specs.Calls.{Call, send-two, respond, sentNumber, respondedNumber, Outcome, outcome, writtenBy, stateOf, after, numbers, lineRead, bodyRead, AllZero, Accepted}
 use Rattle.conversation.specs.CommandsTwo.{Named, internal, identity, recipient, header, CommandTwo, ask, stanza, key, error, done, other, bad, wordOf}
 use Rattle.conversation.specs.Kinds.{Buffers, buffersOf}
 use Rattle.conversation.specs.PhaseTwo as two
-use Rattle.conversation.specs.PhaseTwo.{Label, labels, howMany, isAny, passes, isFile, markOf, indexOf, isNaming, isAbout, isInvalid, anyInvalid, isNonconforming, isUnknown, hasNonconforming, areReported, allReported, isHeldBack, decided, applied, filledBy, rowsOf, errors, stanzas, returned}
+use Rattle.conversation.specs.PhaseTwo.{Label, labels, howMany, isAny, passes, isFile, markOf, indexOf, isNaming, isInvalid, anyInvalid, isNonconforming, isUnknown, hasNonconforming, areReported, allReported, isHeldBack, decided, applied, filledBy, rowsOf, errors}
 use Rattle.conversation.specs.Phases.{All, lineIn, bodyIn, isError, Supply, skip, LongEnough}
 use Rattle.conversation.specs.Responding as responding
 use Rattle.conversation.specs.Responding.{respondedAs, respondedText}
 use Rattle.conversation.specs.Sending.{shortness}
 use Rattle.conversation.specs.SendingTwo.{phaseSent, Sent, sentLine, sent}
 use Rattle.conversation.specs.Session.{Session, moved}
-use Rattle.conversation.specs.Allowed.{Left, isRightTwo, RowAt, Present, Said, Sum, keys-for, stanzas-for, errors-for, entries, bytes, total, Limits, Exchange, lineOf, commandSent, saidIn, OneResponse, Responded, NoneInvalid, Unheld, Some, Reported, AllReported, RightExchange, AllowedSent, isDoneSent, responseCalls, exchangeCalls, sendingCalls}
+use Rattle.conversation.specs.Allowed.{Left, isRightTwo, RowAt, Present, Said, Exchange, lineOf, commandSent, saidIn, OneResponse, Responded, NoneInvalid, Unheld, Some, Reported, AllReported, RightExchange, AllowedSent, isDoneSent, responseCalls, exchangeCalls, sendingCalls}
 use Rattle.conversation.proofs.Laws.Accepted.{Written, accepted}
-use Rattle.conversation.proofs.Laws.AllowedTwo.{limits-same, Standing, decided-exact, standing-with, Fitting, fitting-front, fitting-one, fitting-rest, done-word}
+use Rattle.conversation.proofs.Laws.AllowedTwo.{Standing, decided-exact, standing-with, Fitting, fitting-front, fitting-one, fitting-rest, done-word}
 use Rattle.conversation.proofs.Laws.CommandsTwo.{Proper, command-proper}
 use Rattle.conversation.proofs.Laws.DecidedTwo.{first-iff, decided-iff, rowLabel, rowLabels, labels-view, many-append}
-use Rattle.conversation.proofs.Laws.PresentTwo.{Shows, most-is}
-use Rattle.conversation.proofs.Laws.Reached.{LaterOpened}
+use Rattle.conversation.proofs.Laws.OrderTwo.{leftOf, capacityOf, begins, two-session, fitting-all}
+use Rattle.conversation.proofs.Laws.PresentTwo.{Shows}
+use Rattle.conversation.proofs.Laws.Reached.{JustReached}
 use Rattle.conversation.proofs.Laws.Runs.{accepted-append, enough-append}
 use Rattle.conversation.proofs.Laws.StepsTwo.{long-enough, all-written, at, Settled}
-use Rattle.conversation.proofs.Laws.SumsTwo.{sumsIn, With, not-any, none-any, or-false, false-or, not-is}
+use Rattle.conversation.proofs.Laws.SumsTwo.{With, not-any, none-any, or-false, false-or, not-is}
 use Rattle.conversation.proofs.Laws.ViewsTwo.{applied-view-two}
 
 -- ---- No. 19, a command that is not done
@@ -510,65 +508,16 @@ module _ (s : Session) (left : Left) where
 
 -- ---- where nothing of phase two was accepted yet
 
-opened-labels : (n : ℕ) → labels (opened n) ≡ []
-opened-labels n = labels-view (opened n) [] ∙ ap rowLabels (opened-view n [])
-
-module _ (t : Tables) (l : LaterOpened t) where
-  -- each sum is 0
-  pub opened-sums : (m : Sum) → sumsIn t m ≡ 0
-  unfolding howMany
-  opened-sums (keys-for f) = ap (λ x. howMany (isFile f) (labels x)) (l .2) ∙ ap (howMany (isFile f)) (opened-labels 256)
-  opened-sums (stanzas-for f) = ap (λ x. howMany (isFile f) (labels x)) (l .1) ∙ ap (howMany (isFile f)) (opened-labels 256)
-  opened-sums (errors-for f) = ap (λ x. howMany (isAbout (labels (t .headers)) f) (labels x)) (l .0) ∙ ap (howMany (isAbout (labels (t .headers)) f)) (opened-labels 384)
-  opened-sums (entries errors) = ap (λ x. x .count) (l .0)
-  opened-sums (entries stanzas) = ap (λ x. x .count) (l .1)
-  opened-sums (entries returned) = ap (λ x. x .count) (l .2)
-  opened-sums (bytes errors) = ap (λ x. x .used) (l .0)
-  opened-sums (bytes stanzas) = ap (λ x. x .used) (l .1)
-  opened-sums (bytes returned) = ap (λ x. x .used) (l .2)
-
-  -- so they stand
-  pub opened-standing : (left : Left) (b : two.Buffers) → Shows t left → Standing left t b
-  opened-standing left b s = record {
-    going = record {
-      held = elim [ errors ↦ subst Kept (sym (l .0)) (opened-kept 384) | stanzas ↦ subst Kept (sym (l .1)) (opened-kept 256) | returned ↦ subst Kept (sym (l .2)) (opened-kept 256) ];
-      wide = elim [ errors ↦ ap (λ x. x .width) (l .0) | stanzas ↦ ap (λ x. x .width) (l .1) | returned ↦ ap (λ x. x .width) (l .2) ];
-    };
-    shows = s;
-    limits = record {
-      once = λ f. omega (arith, opened-sums (keys-for f));
-      few = λ f. omega (arith, opened-sums (stanzas-for f));
-      apart = inl (opened-sums (entries errors));
-      apart-file = λ f. inl (opened-sums (errors-for f));
-      slots = λ k. omega (arith, opened-sums (entries k));
-      bytes-fit = λ k. omega (arith, opened-sums (bytes k));
-    };
-  }
-
-  -- and the limits are those of what is still to come
-  pub opened-fitting : (left : Left) (b : two.Buffers) (cs : List Said) → Shows t left →
-      Fitting t b cs ↔ Limits (length (left recipients) + length (left identities)) (λ k. length (two.bufferOf k b)) (λ m. total m cs)
-  opened-fitting left b cs s =
-      let e = most-is t left s in (
-        limits-same _ _ (λ k. length (two.bufferOf k b)) (λ k. length (two.bufferOf k b)) (λ m. sumsIn t m + total m cs) (λ m. total m cs) e (λ k. refl) (λ m. omega (arith, opened-sums m)),
-        limits-same _ _ (λ k. length (two.bufferOf k b)) (λ k. length (two.bufferOf k b)) (λ m. total m cs) (λ m. sumsIn t m + total m cs) (sym e) (λ k. refl) (λ m. omega (arith, opened-sums m)),
-      )
-
--- what phase one left is what its tables show
-pub shows-views : (t : Tables) (b : one.Buffers) → Reached t → Shows t (λ k. one-kind.viewOf k t b)
-unfolding Reached
-shows-views t b r = record { counts = λ k. sym (view-count (one-kind.tableOf k t) (one-kind.bufferOf k b) (r k .kept-so)); labelled = λ k. labels-view (one-kind.tableOf k t) (one-kind.bufferOf k b) }
-
--- a session in phase two that has nothing of it yet accepts exactly the allowed exchanges
-pub accepted-sent-iff : (s : Session) (left : Left) (b : Buffers) (outs : Supply) (xs : List Exchange) (y : Exchange) → s .phase ≡ Two → LaterOpened (s .tables) → Shows (s .tables) left →
-    All (λ x. isDoneSent x ≡ false) xs → isDoneSent y ≡ true → LongEnough s b (sendingCalls outs (xs ++ (y ∷ []))) →
-    Accepted s b (sendingCalls outs (xs ++ (y ∷ []))) ↔ AllowedSent (s .machine) left (λ k. length (two.bufferOf k (b .second))) (xs ++ (y ∷ []))
-accepted-sent-iff s left b outs xs y turn l w d e le =
+-- a session that has just come to phase two accepts exactly the allowed exchanges
+pub accepted-sent-iff : (s : Session) (b : Buffers) → JustReached s → (outs : Supply) (xs : List Exchange) (y : Exchange) → All (λ x. isDoneSent x ≡ false) xs → isDoneSent y ≡ true →
+    LongEnough s b (sendingCalls outs (xs ++ (y ∷ []))) → Accepted s b (sendingCalls outs (xs ++ (y ∷ []))) ↔ AllowedSent (s .machine) (leftOf (stateOf s b)) (capacityOf b) (xs ++ (y ∷ []))
+accepted-sent-iff s b j outs xs y d e l =
     let cs = sendingCalls outs (xs ++ (y ∷ [])) in
-    let same-session : s ≡ at s Two (s .tables) = ap (λ q. moved s q (s .tables)) turn in
-    let errorless : labels (s .tables .errors) ≡ namedIn [] = ap labels (l .0) ∙ opened-labels 384 ∙ unfold namedIn in refl in
-    let i = sent-iff s left xs y (s .tables) b outs [] (opened-standing (s .tables) l left (b .second) w) errorless d e (subst (λ u. LongEnough u b cs) same-session le) in
-    let f = opened-fitting (s .tables) l left (b .second) (saids s left (xs ++ (y ∷ []))) w in (
-      λ a. let r = i .0 (subst (λ u. Accepted u b cs) same-session a) in record { right = r .0; limits = f .0 (r .1); reported = r .2 },
-      λ r. subst (λ u. Accepted u b cs) (sym same-session) (i .1 (r .right, f .1 (r .limits), r .reported)),
+    let left = leftOf (stateOf s b) in
+    let here = two-session s j in
+    let errorless : labels (s .tables .errors) ≡ namedIn [] = unfold namedIn in ap labels (j .later-opened .0) in
+    let i = sent-iff s left xs y (s .tables) b outs [] (begins s b j) errorless d e (subst (λ s. LongEnough s b cs) (sym here) l) in
+    let f = fitting-all s b j (saids s left (xs ++ (y ∷ []))) in (
+      λ a. let r = i .0 (subst (λ s. Accepted s b cs) (sym here) a) in record { right = r .0; limits = f .0 (r .1); reported = r .2 },
+      λ r. subst (λ s. Accepted s b cs) here (i .1 (r .right, f .1 (r .limits), r .reported)),
     )

@@ -93,10 +93,10 @@ begins s b j = record {
   limits = none-yet (s .tables) b (j .later-opened);
 }
 
-two-session : (s : Session) → JustReached s → at s Two (s .tables) ≡ s
+pub two-session : (s : Session) → JustReached s → at s Two (s .tables) ≡ s
 two-session s j = ap (λ p. moved s p (s .tables)) (sym (j .turn))
 
-fitting-all : (s : Session) (b : Buffers) → JustReached s → (cs : List Said) →
+pub fitting-all : (s : Session) (b : Buffers) → JustReached s → (cs : List Said) →
     Fitting (s .tables) (b .second) cs ↔ Limits (length (leftOf (stateOf s b) recipients) + length (leftOf (stateOf s b) identities)) (capacityOf b) (λ m. total m cs)
 fitting-all s b j cs =
     let z = sums-opened (s .tables) (j .later-opened) in
