@@ -1,5 +1,5 @@
 -- Phase two at the plugin end: exactly the allowed lists of exchanges are accepted.
-use Prim.Native.Nat.{ℕ, zero, suc, _+_, _<_, _≤_}
+use Prim.Native.Nat.{ℕ, zero, suc, _+_, _≤_}
 use mathlib.Core.Path.{_≡_, refl, sym, ap, ap₂, _∙_, subst, subst₂}
 use mathlib.Core.Bool.{Bool, true, false, not, _&&_, _||_, true≢false, false≢true}
 use mathlib.Core.Logic.{_⊎_, inl, inr, ⊎-elim, _↔_}
@@ -7,7 +7,7 @@ use mathlib.Core.List.{List, [], _∷_, _++_, map, map-append, append-nil, appen
 use lib.Dec.{ltb, eqb}
 use lib.ListN.{length, take}
 use native.Mathlib.Omega.{arith}
-use borrow.Author.Tests.{ltb-true, lt-ltb, ltb-false, le-ltb, eqb-true, eqb-false, eq-eqb, ne-eqb, not-false}
+use borrow.Author.Tests.{ltb-true, lt-ltb, ltb-false, eqb-true, eqb-false, eq-eqb, ne-eqb, not-false}
 use Rattle.refusal.specs.Pick.{pick}
 use Rattle.refusal.specs.Same.{same}
 use Rattle.refusal.proofs.Laws.Booleans.{and-true, true-and, cases}
@@ -15,27 +15,24 @@ use Rattle.stanza.specs.Grammar.{stanzaText}
 use Rattle.stanza.specs.Reading as reading
 use Rattle.stanza.specs.Reading.{Reading, readFirst}
 use Rattle.stanza.specs.Writing.{isWritable}
-use Rattle.responses.specs.Responses.{fitsWhole, ResponseRead, response, nothing, responseOf}
-use Rattle.responses.specs.declared.Response.{Response}
+use Rattle.responses.specs.Responses.{fitsWhole, ResponseRead, response, responseOf}
 use Rattle.responses.specs.declared.WordTwo.{WordTwo}
 use Rattle.tables.specs.Tables.{Row, view}
 use Rattle.session.specs.Commands.{isBare}
 use Rattle.session.specs.PhaseOne.{Tables, firstOf}
 use Rattle.session.specs.Views as one-kind
-use Rattle.session.specs.Views.{recipients, identities, keys, headers}
-use Rattle.session.specs.declared.phases.Phase.{Phase}
+use Rattle.session.specs.Views.{recipients, identities, headers}
 use Rattle.session.specs.declared.phases.Phase.the-variants.{Two, Awaiting, Ended}
 use Rattle.conversation.specs.Calls.{Call, send-two, respond, sentNumber, respondedNumber, Outcome, outcome, writtenBy, stateOf, after, numbers, lineRead, bodyRead, AllZero, Accepted}
 use Rattle.conversation.specs.CommandsTwo.{Named, internal, identity, recipient, header, CommandTwo, ask, stanza, key, error, done, other, bad, wordOf}
 use Rattle.conversation.specs.Kinds.{Buffers, buffersOf}
-use Rattle.conversation.specs.PhaseTwo as two
-use Rattle.conversation.specs.PhaseTwo.{Label, labels, howMany, isAny, passes, isFile, markOf, indexOf, isNaming, isInvalid, anyInvalid, isNonconforming, isUnknown, hasNonconforming, areReported, allReported, isHeldBack, decided, applied, filledBy, rowsOf, errors}
-use Rattle.conversation.specs.Phases.{All, lineIn, bodyIn, isError, Supply, skip, LongEnough}
+use Rattle.conversation.specs.PhaseTwo.{Label, labels, howMany, isAny, passes, isFile, markOf, indexOf, isNaming, isInvalid, anyInvalid, isNonconforming, isUnknown, areReported, allReported, isHeldBack, decided, applied, filledBy, rowsOf, errors}
+use Rattle.conversation.specs.Phases.{All, bodyIn, isError, Supply, skip, LongEnough}
 use Rattle.conversation.specs.Responding as responding
 use Rattle.conversation.specs.Responding.{respondedAs, respondedText}
 use Rattle.conversation.specs.Sending.{shortness}
 use Rattle.conversation.specs.SendingTwo.{phaseSent, Sent, sentLine, sent}
-use Rattle.conversation.specs.Session.{Session, moved}
+use Rattle.conversation.specs.Session.{Session}
 use Rattle.conversation.specs.Allowed.{Left, isRightTwo, RowAt, Present, Said, Exchange, lineOf, commandSent, saidIn, OneResponse, Responded, NoneInvalid, Unheld, Some, Reported, AllReported, RightExchange, AllowedSent, isDoneSent, responseCalls, exchangeCalls, sendingCalls}
 use Rattle.conversation.proofs.Laws.Accepted.{Written, accepted}
 use Rattle.conversation.proofs.Laws.AllowedTwo.{Standing, decided-exact, standing-with, Fitting, fitting-front, fitting-one, fitting-rest, done-word}
@@ -449,9 +446,11 @@ module _ (s : Session) (left : Left) (t : Tables) (b : Buffers) (x : Exchange) (
 -- ---- a list of exchanges that done ends
 
 module _ (s : Session) (left : Left) where
+  -- each is right by itself
   abbrev pub Right : List Exchange → Type 0
   Right xs = All (RightExchange (s .machine) left) xs
 
+  -- what they say
   abbrev pub saids : List Exchange → List Said
   saids xs = map (saidIn (s .machine)) xs
 
