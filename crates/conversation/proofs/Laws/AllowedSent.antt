@@ -37,7 +37,8 @@ use Rattle.conversation.specs.Allowed.{Left, isRightTwo, RowAt, Present,
 use Rattle.conversation.proofs.Laws.Accepted.{Written, accepted}
 use Rattle.conversation.proofs.Laws.AllowedTwo.{Standing, decided-exact, standing-with, Fitting, fitting-front, fitting-one, fitting-rest, done-word}
 use Rattle.conversation.proofs.Laws.CommandsTwo.{Proper, command-proper}
-use Rattle.conversation.proofs.Laws.DecidedTwo.{first-iff, decided-iff, rowLabel, rowLabels, labels-view, many-append}
+use Rattle.conversation.proofs.Laws.Firsts.{first-iff}
+use Rattle.conversation.proofs.Laws.DecidedTwo.{decided-iff, rowLabel, rowLabels, labels-view, many-append}
 use Rattle.conversation.proofs.Laws.OrderTwo.{leftOf, capacityOf, begins, two-session, fitting-all}
 use Rattle.conversation.proofs.Laws.PresentTwo.{Shows}
 use Rattle.conversation.proofs.Laws.Reached.{JustReached}

@@ -35,7 +35,7 @@ use Rattle.conversation.proofs.Laws.OrderOne.{turned}
 use Rattle.conversation.proofs.Laws.PresentTwo.{Shows, most-is}
 use Rattle.conversation.proofs.Laws.Reached.{LaterOpened, ReachedSession, JustReached, just-done}
 use Rattle.conversation.proofs.Laws.StepsTwo.{at}
-use Rattle.conversation.proofs.Laws.SumsTwo.{sumsIn, Going, Kept-limits}
+use Rattle.conversation.proofs.Laws.SumsTwo.{sumsIn, Going, Kept-limits, or-false}
 use Rattle.conversation.proofs.Laws.Tables.{of-file-append}
 
 -- ---- a session that has just sent done
@@ -141,10 +141,6 @@ by-unknown P done e h = absurd (true≢false e)
 by-unknown P other e h = h
 by-unknown P (bad n) e h = absurd (true≢false e)
 
-or-parts : (a b : Bool) → (a || b) ≡ false → (a ≡ false) × (b ≡ false)
-or-parts true b e = absurd (true≢false e)
-or-parts false b e = (refl, e)
-
 no-replies : {X : Type 0} (rs : List X) → not (eqb (length rs) 0) ≡ false → rs ≡ []
 no-replies [] e = refl
 no-replies (r ∷ rs) e = absurd (omega (arith, eqb-true (length (r ∷ rs)) 0 (not-false _ e)))
@@ -153,7 +149,7 @@ module _ (machine : Machine) (screen : Bool) (left : Left) where
   -- it is right by itself
   spare-right : (x : Block) → isKept two-part machine x ≡ false → RightBlock machine screen left x
   spare-right x e =
-      let u = or-parts (isNamedTwo (commandIn machine (x .text))) (not (eqb (length (x .replies)) 0)) e in
+      let u = or-false (isNamedTwo (commandIn machine (x .text))) (not (eqb (length (x .replies)) 0)) e in
       let n = no-replies (x .replies) (u .1) in
       record {
         right = by-unknown (λ c. isRightTwo c ≡ true) (commandIn machine (x .text)) (u .0) refl;
@@ -164,7 +160,7 @@ module _ (machine : Machine) (screen : Bool) (left : Left) where
 -- and adds nothing to any sum
 spare-weight : (machine : Machine) (m : Sum) (x : Block) → isKept two-part machine x ≡ false → weight m (saidBy machine x) ≡ 0
 spare-weight machine m x e =
-    by-unknown (λ c. weight m (record { command = c; payload = payloadIn machine (x .text) }) ≡ 0) (commandIn machine (x .text)) (or-parts (isNamedTwo (commandIn machine (x .text))) (not (eqb (length (x .replies)) 0)) e .0) (none m)
+    by-unknown (λ c. weight m (record { command = c; payload = payloadIn machine (x .text) }) ≡ 0) (commandIn machine (x .text)) (or-false (isNamedTwo (commandIn machine (x .text))) (not (eqb (length (x .replies)) 0)) e .0) (none m)
   where
     none : (m : Sum) → weight m (record { command = other; payload = payloadIn machine (x .text) }) ≡ 0
     none (keys-for f) = refl
@@ -175,7 +171,7 @@ spare-weight machine m x e =
 
 -- a test that only kept blocks pass
 known-kept : (machine : Machine) (test : CommandTwo → Bool) → test other ≡ false → (x : Block) → isKept two-part machine x && test (commandIn machine (x .text)) ≡ test (commandIn machine (x .text))
-known-kept machine test e x = cases (isKept two-part machine x) (λ k. rw k) (λ k. rw k (sym (by-unknown (λ c. test c ≡ false) (commandIn machine (x .text)) (or-parts (isNamedTwo (commandIn machine (x .text))) (not (eqb (length (x .replies)) 0)) k .0) e)))
+known-kept machine test e x = cases (isKept two-part machine x) (λ k. rw k) (λ k. rw k (sym (by-unknown (λ c. test c ≡ false) (commandIn machine (x .text)) (or-false (isNamedTwo (commandIn machine (x .text))) (not (eqb (length (x .replies)) 0)) k .0) e)))
 
 -- ---- sums over blocks
 

@@ -33,7 +33,7 @@ use Rattle.conversation.specs.Replying.{Replied, refusedReply, numberRep
 use Rattle.conversation.specs.Sending.{shortness}
 use Rattle.conversation.specs.Session.{Session, moved}
 use Rattle.conversation.specs.Allowed.{OneReply, AnsweredAsk, Answered}
-use Rattle.conversation.proofs.Laws.DecidedTwo.{first-iff}
+use Rattle.conversation.proofs.Laws.Firsts.{first-iff}
 
 -- ---- output
 

@@ -26,7 +26,7 @@ use Rattle.session.specs.PhaseOne.{Tables, Buffers, falls, decided, commandIn, 
 use Rattle.session.specs.Commands.{Word, add-recipient, add-identity, wrap-file-key, recipient-stanza, done-word, other-word, wordIn, Command, recipient, identity, key, header, done, other, bad, indexed, headerMark, isBare, rowCommand}
 use Rattle.session.specs.Phases.{turnOne}
 use Rattle.session.specs.declared.phases.Phase.{Phase}
-use Rattle.session.specs.declared.phases.Phase.the-variants.{One, Two, Ended, Closed}
+use Rattle.session.specs.declared.phases.Phase.the-variants.{One, Two, Awaiting, Ended, Closed}
 use Rattle.conversation.specs.Session.{Session}
 use Rattle.conversation.proofs.Laws.Refusals.{either}
 use Rattle.conversation.specs.Receiving.{took, declined, Received, refusedReceipt, receivedStanza, receivedAs, received}
@@ -137,6 +137,7 @@ decided-not-two t b (bad k) n h = h
 turn-not-two : (p : Phase) → turnOne p ≡ 2 → ⊥
 turn-not-two One e = omega arith
 turn-not-two Two e = omega arith
+turn-not-two (Awaiting w) e = omega arith
 turn-not-two Ended e = omega arith
 turn-not-two Closed e = omega arith
 
