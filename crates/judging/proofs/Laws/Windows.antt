@@ -20,6 +20,8 @@ use Rattle.judging.specs.Judging.{Judged, counted, Standing, going, stop
 use Rattle.judging.specs.Windows.{Cut}
 use Rattle.judging.proofs.Laws.Reading.{received-takes, received-unfinished, received-more}
 use Rattle.judging.proofs.Laws.Turns.{turned-within, behind-zero, behind-behind, ended, unrolled-end, unrolled-on}
+use Rattle.conversation.specs.Kinds.{buffersOf}
+use Rattle.conversation.specs.PhaseTwo as later
 
 module _ (last : Bool) (s : Session) (b : Buffers) (w : List ℕ) where
   -- the first stanza of a window waits for more; or, whatever comes behind the window, it is judged alike, and stops judging or takes a byte or more
@@ -50,7 +52,7 @@ module _ (last : Bool) (s : Session) (b : Buffers) (w : List ℕ) where
           let q = and-true (eqb n 2) (not last) p in
           let two : n ≡ 2 = eqb-true n 2 (q .0) in
           waits (not-true last (q .1)) (received-unfinished s b w (e ∙ ap declined two))
-          (ap (turnAs last) e ∙ rw p (ap (λ x. turnOf (going s) x 0) (refusal s b (receive w) (λ z. let m : n ≡ 0 = sym (ap takingNumber e) ∙ z in omega arith) .buffers))))
+          (ap (turnAs last) e ∙ rw p (ap (λ x. turnOf (going s) (x .first) 0) (refusal s (buffersOf b (later.buffersOf [] [] [])) (receive w) (λ z. let m : n ≡ 0 = sym (ap takingNumber e) ∙ z in omega arith) .buffers))))
           (λ p.
           let t : turned last s b w ≡ turnOf (stopped (counted (s .tables) n)) (received s w b .buffers) 0 = ap (turnAs last) e ∙ rw p in
           let u : turned true s b w ≡ turnOf (stopped (counted (s .tables) n)) (received s w b .buffers) 0 = ap (turnAs true) e ∙ rw (and-false-right (eqb n 2)) in
