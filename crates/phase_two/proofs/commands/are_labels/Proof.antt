@@ -1,0 +1,58 @@
+use borrow.Author.Needs.{needs}
+use Rattle.phase_two.proofs.commands.are_labels.Statement.{statement}
+use Rattle.phase_two.proofs.commands.are_labels.Tie as tie
+use Rattle.phase_two.proofs.commands.are_labels.Reads as reads
+use Rattle.phase_two.proofs.commands.are_labels.Lts as lts
+use Rattle.phase_two.proofs.commands.is_base64.Reads as is-base64-reads
+use Rattle.stanza.proofs.argument.Reads as argument-reads
+use Rattle.stanza.proofs.count.Reads as count-reads
+
+-- src/commands.rt:135:9
+argument-requires : tie.Need-argument-requires
+argument-requires c κs = search needs
+
+-- src/commands.rt:136:9
+is-base64-requires : tie.Need-is-base64-requires
+is-base64-requires c κs = search needs
+
+-- src/commands.rt:137:9
+returns : tie.Need-returns
+returns c = ?
+
+-- src/commands.rt:139:9
+count-requires : tie.Need-count-requires
+count-requires c κs = search needs
+
+-- src/commands.rt:141:9
+returns-2 : tie.Need-returns-2
+returns-2 c = ?
+
+-- src/commands.rt:144:9
+returns-3 : tie.Need-returns-3
+returns-3 c = ?
+
+-- src/commands.rt:146:9
+argument-requires-2 : tie.Need-argument-requires-2
+argument-requires-2 c κs = search needs
+
+-- src/commands.rt:147:5
+is-base64-requires-2 : tie.Need-is-base64-requires-2
+is-base64-requires-2 c κs = search needs
+
+-- src/commands.rt:132:1
+returns-4 : tie.Need-returns-4
+returns-4 c = ?
+
+pub are-labels-spec : {M : Type 1} → statement M
+are-labels-spec =
+    tie.close
+    (tie.spec
+    argument-requires
+    is-base64-requires
+    returns
+    count-requires
+    returns-2
+    returns-3
+    argument-requires-2
+    is-base64-requires-2
+    returns-4)

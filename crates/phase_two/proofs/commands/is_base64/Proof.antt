@@ -1,0 +1,29 @@
+use borrow.Author.Needs.{needs}
+use Rattle.phase_two.proofs.commands.is_base64.Statement.{statement}
+use Rattle.phase_two.proofs.commands.is_base64.Tie as tie
+use Rattle.phase_two.proofs.commands.is_base64.Reads as reads
+use Rattle.phase_two.proofs.commands.is_base64.Lts as lts
+use Rattle.base64.proofs.measure.Reads as measure-reads
+
+-- src/commands.rt:124:9
+measure-requires : tie.Need-measure-requires
+measure-requires c κs = search needs
+
+-- src/commands.rt:126:27
+enum-told : tie.Need-enum-told
+enum-told c = search needs
+
+-- src/commands.rt:127:28
+enum-told-2 : tie.Need-enum-told-2
+enum-told-2 c = search needs
+
+-- src/commands.rt:121:1
+returns : tie.Need-returns
+returns c = ?
+
+-- src/commands.rt:121:1
+returns-2 : tie.Need-returns-2
+returns-2 c = ?
+
+pub is-base64-spec : {M : Type 1} → statement M
+is-base64-spec = tie.close (tie.spec measure-requires enum-told enum-told-2 returns returns-2)

@@ -1,0 +1,58 @@
+use borrow.Author.Needs.{needs}
+use Rattle.phase_two.proofs.commands.parse_key.Statement.{statement}
+use Rattle.phase_two.proofs.commands.parse_key.Tie as tie
+use Rattle.phase_two.proofs.commands.parse_key.Reads as reads
+use Rattle.phase_two.proofs.commands.parse_key.Lts as lts
+use Rattle.stanza.proofs.argument.Reads as argument-reads
+use Rattle.stanza.proofs.count.Reads as count-reads
+use Rattle.stanza.proofs.read_index.Reads as read-index-reads
+
+-- src/commands.rt:272:8
+count-requires : tie.Need-count-requires
+count-requires c κs = search needs
+
+-- src/commands.rt:273:9
+returns : tie.Need-returns
+returns c = ?
+
+-- src/commands.rt:276:9
+returns-2 : tie.Need-returns-2
+returns-2 c = ?
+
+-- src/commands.rt:278:9
+argument-requires : tie.Need-argument-requires
+argument-requires c κs = search needs
+
+-- src/commands.rt:279:9
+read-index-requires : tie.Need-read-index-requires
+read-index-requires c κs = search needs
+
+-- src/commands.rt:281:23
+enum-known-index : tie.Need-enum-known-index
+enum-known-index c = search needs
+
+-- src/commands.rt:282:24
+enum-known-index-2 : tie.Need-enum-known-index-2
+enum-known-index-2 c = search needs
+
+-- src/commands.rt:269:1
+returns-3 : tie.Need-returns-3
+returns-3 c = ?
+
+-- src/commands.rt:269:1
+returns-4 : tie.Need-returns-4
+returns-4 c = ?
+
+pub parse-key-spec : {M : Type 1} → statement M
+parse-key-spec =
+    tie.close
+    (tie.spec
+    count-requires
+    returns
+    returns-2
+    argument-requires
+    read-index-requires
+    enum-known-index
+    enum-known-index-2
+    returns-3
+    returns-4)
