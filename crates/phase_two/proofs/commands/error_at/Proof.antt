@@ -1,3 +1,6 @@
+use mathlib.Core.Path.{sym, ap, _∙_}
+use Rattle.stanza.specs.Index.{readIndex, indexSaid}
+use Rattle.conversation.specs.CommandsTwo.{error}
 use borrow.Author.Needs.{needs}
 use Rattle.phase_two.proofs.commands.error_at.Statement.{statement}
 use Rattle.phase_two.proofs.commands.error_at.Tie as tie
@@ -29,11 +32,11 @@ enum-known-index-2 c = search needs
 
 -- src/commands.rt:172:1
 returns : tie.Need-returns
-returns c = ?
+returns c = rw (ap readIndex (sym (c .before .before .before .before .before .argument .ensures)) ∙ sym (c .before .before .before .before .read-index .ensures) ∙ ap indexSaid (c .before .before .index .given .1)) (ap error (c .name-of .ensures))
 
 -- src/commands.rt:172:1
 returns-2 : tie.Need-returns-2
-returns-2 c = ?
+returns-2 c = rw (ap readIndex (sym (c .before .before .before .before .argument .ensures)) ∙ sym (c .before .before .before .read-index .ensures) ∙ ap indexSaid (c .before .index2 .given .1))
 
 pub error-at-spec : {M : Type 1} → statement M
 error-at-spec =

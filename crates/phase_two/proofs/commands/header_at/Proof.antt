@@ -1,3 +1,5 @@
+use mathlib.Core.Path.{sym, ap, _∙_}
+use Rattle.stanza.specs.Index.{readIndex, indexSaid}
 use borrow.Author.Needs.{needs}
 use Rattle.phase_two.proofs.commands.header_at.Statement.{statement}
 use Rattle.phase_two.proofs.commands.header_at.Tie as tie
@@ -40,15 +42,15 @@ enum-known-file-2 c = search needs
 
 -- src/commands.rt:184:1
 returns : tie.Need-returns
-returns c = ?
+returns c = rw (ap readIndex (sym (c .before .before .before .before .before .before .before .before .before .argument .ensures)) ∙ sym (c .before .before .before .before .before .before .before .read-index .ensures) ∙ ap indexSaid (c .before .before .before .before .file .given .1), ap readIndex (sym (c .before .before .before .before .before .before .before .before .argument2 .ensures)) ∙ sym (c .before .before .before .before .before .before .read-index2 .ensures) ∙ ap indexSaid (c .before .place .given .1))
 
 -- src/commands.rt:184:1
 returns-2 : tie.Need-returns-2
-returns-2 c = ?
+returns-2 c = rw (ap readIndex (sym (c .before .before .before .before .before .before .before .before .before .argument .ensures)) ∙ sym (c .before .before .before .before .before .before .before .read-index .ensures) ∙ ap indexSaid (c .before .before .before .before .file .given .1), ap readIndex (sym (c .before .before .before .before .before .before .before .before .argument2 .ensures)) ∙ sym (c .before .before .before .before .before .before .read-index2 .ensures) ∙ ap indexSaid (c .before .place2 .given .1))
 
 -- src/commands.rt:184:1
 returns-3 : tie.Need-returns-3
-returns-3 c = ?
+returns-3 c = rw (ap readIndex (sym (c .before .before .before .before .before .before .argument .ensures)) ∙ sym (c .before .before .before .before .read-index .ensures) ∙ ap indexSaid (c .before .file2 .given .1))
 
 pub header-at-spec : {M : Type 1} → statement M
 header-at-spec =

@@ -1,3 +1,4 @@
+use mathlib.Core.Path.{sym, _∙_}
 use borrow.Author.Needs.{needs}
 use Rattle.phase_two.proofs.commands.late_word.Statement.{statement}
 use Rattle.phase_two.proofs.commands.late_word.Tie as tie
@@ -16,7 +17,7 @@ is-same-requires c κs = search needs
 
 -- src/commands.rt:93:9
 returns : tie.Need-returns
-returns c = ?
+returns c = rw (sym (c .before .is-same .ensures) ∙ c .if1 .taken)
 
 -- src/commands.rt:95:30
 slice-aggregate-is-same-2 : tie.Need-slice-aggregate-is-same-2
@@ -28,7 +29,7 @@ is-same-requires-2 c κs = search needs
 
 -- src/commands.rt:96:9
 returns-2 : tie.Need-returns-2
-returns-2 c = ?
+returns-2 c = rw (sym (c .before .before .before .before .is-same .ensures) ∙ c .before .before .before .if1 .left, sym (c .before .is-same2 .ensures) ∙ c .if2 .taken)
 
 -- src/commands.rt:98:5
 work-word-requires : tie.Need-work-word-requires
@@ -36,7 +37,7 @@ work-word-requires c κs = search needs
 
 -- src/commands.rt:89:1
 returns-3 : tie.Need-returns-3
-returns-3 c = ?
+returns-3 c = rw (sym (c .before .before .before .before .before .is-same .ensures) ∙ c .before .before .before .before .if1 .left, sym (c .before .before .is-same2 .ensures) ∙ c .before .if2 .left) (c .work-word .ensures)
 
 pub late-word-spec : {M : Type 1} → statement M
 late-word-spec =

@@ -14,11 +14,11 @@ enum-told-2 c = search needs
 
 -- src/commands.rt:162:1
 returns : tie.Need-returns
-returns c = ?
+returns c = rw (c .enum-told .given .1)
 
 -- src/commands.rt:162:1
 returns-2 : tie.Need-returns-2
-returns-2 c = ?
+returns-2 c = rw (c .enum-told2 .given .1)
 
 pub name-of-spec : {M : Type 1} → statement M
 name-of-spec = tie.close (tie.spec enum-told enum-told-2 returns returns-2)

@@ -1,3 +1,4 @@
+use mathlib.Core.Path.{sym, _∙_}
 use borrow.Author.Needs.{needs}
 use Rattle.phase_two.proofs.commands.parse_error.Statement.{statement}
 use Rattle.phase_two.proofs.commands.parse_error.Tie as tie
@@ -17,7 +18,7 @@ is-kind-requires c κs = search needs
 
 -- src/commands.rt:225:9
 returns : tie.Need-returns
-returns c = ?
+returns c = rw (sym (c .before .is-kind .ensures) ∙ c .if1 .taken)
 
 -- src/commands.rt:227:22
 slice-aggregate-is-kind-2 : tie.Need-slice-aggregate-is-kind-2
@@ -33,7 +34,7 @@ error-at-requires c κs = search needs
 
 -- src/commands.rt:228:9
 returns-2 : tie.Need-returns-2
-returns-2 c = ?
+returns-2 c = rw (sym (c .before .before .before .before .before .is-kind .ensures) ∙ c .before .before .before .before .if1 .left, sym (c .before .before .is-kind2 .ensures) ∙ c .before .if2 .taken) (c .error-at .ensures)
 
 -- src/commands.rt:230:5
 parse-own-error-requires : tie.Need-parse-own-error-requires
@@ -41,7 +42,7 @@ parse-own-error-requires c κs = search needs
 
 -- src/commands.rt:221:1
 returns-3 : tie.Need-returns-3
-returns-3 c = ?
+returns-3 c = rw (sym (c .before .before .before .before .before .is-kind .ensures) ∙ c .before .before .before .before .if1 .left, sym (c .before .before .is-kind2 .ensures) ∙ c .before .if2 .left) (c .parse-own-error .ensures)
 
 pub parse-error-spec : {M : Type 1} → statement M
 parse-error-spec =

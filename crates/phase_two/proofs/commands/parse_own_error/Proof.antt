@@ -1,3 +1,4 @@
+use mathlib.Core.Path.{sym, _∙_}
 use borrow.Author.Needs.{needs}
 use Rattle.phase_two.proofs.commands.parse_own_error.Statement.{statement}
 use Rattle.phase_two.proofs.commands.parse_own_error.Tie as tie
@@ -25,7 +26,7 @@ error-at-requires c κs = search needs
 
 -- src/commands.rt:207:17
 returns : tie.Need-returns
-returns c = ?
+returns c = rw (c .before .before .before .before .enum-told .given .1, sym (c .before .before .is-kind .ensures) ∙ c .before .if1 .taken) (c .error-at .ensures)
 
 -- src/commands.rt:212:30
 enum-told-2 : tie.Need-enum-told-2
@@ -45,15 +46,15 @@ header-at-requires c κs = search needs
 
 -- src/commands.rt:213:17
 returns-2 : tie.Need-returns-2
-returns-2 c = ?
+returns-2 c = rw (c .before .before .before .before .enum-told2 .given .1, sym (c .before .before .is-kind2 .ensures) ∙ c .before .if2 .taken) (c .header-at .ensures)
 
 -- src/commands.rt:201:1
 returns-3 : tie.Need-returns-3
-returns-3 c = ?
+returns-3 c = rw (c .before .before .before .enum-told .given .1, sym (c .before .is-kind .ensures) ∙ c .if1 .left)
 
 -- src/commands.rt:201:1
 returns-4 : tie.Need-returns-4
-returns-4 c = ?
+returns-4 c = rw (c .before .before .before .enum-told2 .given .1, sym (c .before .is-kind2 .ensures) ∙ c .if2 .left)
 
 pub parse-own-error-spec : {M : Type 1} → statement M
 parse-own-error-spec =

@@ -1,3 +1,9 @@
+use mathlib.Core.Path.{sym, ap, _∙_}
+use denote.Ref.{now}
+use native.Mathlib.Omega.{arith}
+use borrow.Author.Tests.{le-leb, lt-leb}
+use Rattle.stanza.specs.Arguments.{countOf}
+use Rattle.stanza.specs.Index.{readIndex, indexSaid}
 use borrow.Author.Needs.{needs}
 use Rattle.phase_two.proofs.commands.parse_stanza.Statement.{statement}
 use Rattle.phase_two.proofs.commands.parse_stanza.Tie as tie
@@ -13,7 +19,7 @@ count-requires c κs = search needs
 
 -- src/commands.rt:258:9
 returns : tie.Need-returns
-returns c = ?
+returns c = rw (lt-leb 3 (countOf (now (c .before .before .before .args .line))) (omega (arith, c .before .count .ensures)))
 
 -- src/commands.rt:260:9
 argument-requires : tie.Need-argument-requires
@@ -33,11 +39,11 @@ enum-known-index-2 c = search needs
 
 -- src/commands.rt:254:1
 returns-2 : tie.Need-returns-2
-returns-2 c = ?
+returns-2 c = rw (le-leb 3 (countOf (now (c .before .before .before .before .before .before .before .before .args .line))) (omega (arith, c .before .before .before .before .before .before .count .ensures)), ap readIndex (sym (c .before .before .before .before .argument .ensures)) ∙ sym (c .before .before .before .read-index .ensures) ∙ ap indexSaid (c .before .index .given .1))
 
 -- src/commands.rt:254:1
 returns-3 : tie.Need-returns-3
-returns-3 c = ?
+returns-3 c = rw (le-leb 3 (countOf (now (c .before .before .before .before .before .before .before .before .args .line))) (omega (arith, c .before .before .before .before .before .before .count .ensures)), ap readIndex (sym (c .before .before .before .before .argument .ensures)) ∙ sym (c .before .before .before .read-index .ensures) ∙ ap indexSaid (c .before .index2 .given .1))
 
 pub parse-stanza-spec : {M : Type 1} → statement M
 parse-stanza-spec =

@@ -1,3 +1,5 @@
+use mathlib.Core.Path.{sym, ap, _∙_}
+use Rattle.conversation.specs.CommandsTwo.{wordTwo}
 use borrow.Author.Needs.{needs}
 use Rattle.phase_two.proofs.commands.parse_two.Statement.{statement}
 use Rattle.phase_two.proofs.commands.parse_two.Tie as tie
@@ -90,39 +92,39 @@ parse-done-requires c κs = search needs
 
 -- src/commands.rt:300:1
 returns : tie.Need-returns
-returns c = ?
+returns c = rw (ap (wordTwo (c .before .before .before .before .before .before .args .machine)) (sym (c .before .before .before .before .argument .ensures)) ∙ sym (c .before .before .before .word-two .ensures) ∙ c .before .enum-told .given .1) (rw (c .before .enum-told .given .1) at (c .parse-ask .ensures))
 
 -- src/commands.rt:300:1
 returns-2 : tie.Need-returns-2
-returns-2 c = ?
+returns-2 c = rw (ap (wordTwo (c .before .before .before .before .before .before .args .machine)) (sym (c .before .before .before .before .argument .ensures)) ∙ sym (c .before .before .before .word-two .ensures) ∙ c .before .enum-told2 .given .1) (c .parse-confirm .ensures)
 
 -- src/commands.rt:300:1
 returns-3 : tie.Need-returns-3
-returns-3 c = ?
+returns-3 c = rw (ap (wordTwo (c .before .before .before .before .before .before .args .machine)) (sym (c .before .before .before .before .argument .ensures)) ∙ sym (c .before .before .before .word-two .ensures) ∙ c .before .enum-told3 .given .1) (rw (c .before .enum-told3 .given .1) at (c .parse-ask2 .ensures))
 
 -- src/commands.rt:300:1
 returns-4 : tie.Need-returns-4
-returns-4 c = ?
+returns-4 c = rw (ap (wordTwo (c .before .before .before .before .before .before .args .machine)) (sym (c .before .before .before .before .argument .ensures)) ∙ sym (c .before .before .before .word-two .ensures) ∙ c .before .enum-told4 .given .1) (rw (c .before .enum-told4 .given .1) at (c .parse-ask3 .ensures))
 
 -- src/commands.rt:300:1
 returns-5 : tie.Need-returns-5
-returns-5 c = ?
+returns-5 c = rw (ap (wordTwo (c .before .before .before .before .before .before .args .machine)) (sym (c .before .before .before .before .argument .ensures)) ∙ sym (c .before .before .before .word-two .ensures) ∙ c .before .enum-told5 .given .1) (c .parse-stanza .ensures)
 
 -- src/commands.rt:300:1
 returns-6 : tie.Need-returns-6
-returns-6 c = ?
+returns-6 c = rw (ap (wordTwo (c .before .before .before .before .before .before .args .machine)) (sym (c .before .before .before .before .argument .ensures)) ∙ sym (c .before .before .before .word-two .ensures) ∙ c .before .enum-told6 .given .1) (c .parse-key .ensures)
 
 -- src/commands.rt:300:1
 returns-7 : tie.Need-returns-7
-returns-7 c = ?
+returns-7 c = rw (ap (wordTwo (c .before .before .before .before .before .before .args .machine)) (sym (c .before .before .before .before .argument .ensures)) ∙ sym (c .before .before .before .word-two .ensures) ∙ c .before .enum-told7 .given .1) (c .parse-error .ensures)
 
 -- src/commands.rt:300:1
 returns-8 : tie.Need-returns-8
-returns-8 c = ?
+returns-8 c = rw (ap (wordTwo (c .before .before .before .before .before .args .machine)) (sym (c .before .before .before .argument .ensures)) ∙ sym (c .before .before .word-two .ensures) ∙ c .enum-told8 .given .1)
 
 -- src/commands.rt:300:1
 returns-9 : tie.Need-returns-9
-returns-9 c = ?
+returns-9 c = rw (ap (wordTwo (c .before .before .before .before .before .before .args .machine)) (sym (c .before .before .before .before .argument .ensures)) ∙ sym (c .before .before .before .word-two .ensures) ∙ c .before .enum-told9 .given .1) (c .parse-done .ensures)
 
 pub parse-two-spec : {M : Type 1} → statement M
 parse-two-spec =

@@ -1,3 +1,10 @@
+use Prim.Native.Nat.{_+_}
+use mathlib.Core.List.{_∷_}
+use mathlib.Core.Path.{sym, ap, _∙_}
+use denote.Ref.{now}
+use lib.ListN.{length, length-append}
+use native.Mathlib.Omega.{arith}
+use Rattle.session.specs.Commands.{restOf}
 use borrow.Author.Needs.{needs}
 use Rattle.phase_two.proofs.commands.payload_length_two.Statement.{statement}
 use Rattle.phase_two.proofs.commands.payload_length_two.Tie as tie
@@ -51,15 +58,18 @@ returns c = search needs
 
 -- src/commands.rt:334:1
 returns-2 : tie.Need-returns-2
-returns-2 c = ?
+returns-2 c =
+    let f = restOf (now (c .before .before .before .before .before .args .line)) in
+    let s = now (c .before .before .before .before .before .args .body) in
+    rw (c .before .enum-told2 .given .1) (ap (λ l. length l + 1 + length s) (c .rest-of .ensures) ∙ sym (length-append f (10 ∷ s) ∙ omega arith))
 
 -- src/commands.rt:334:1
 returns-3 : tie.Need-returns-3
-returns-3 c = ?
+returns-3 c = rw (c .enum-told3 .given .1)
 
 -- src/commands.rt:334:1
 returns-4 : tie.Need-returns-4
-returns-4 c = ?
+returns-4 c = rw (c .enum-told4 .given .1)
 
 -- src/commands.rt:334:1
 returns-5 : tie.Need-returns-5

@@ -119,7 +119,7 @@ same-length c = search needs
 
 -- src/commands.rt:350:1
 returns : tie.Need-returns
-returns c = ?
+returns c = rw (c .before .before .before .before .before .enum-told .given .1) (c .before .before .join .ensures)
 
 -- src/commands.rt:350:1
 same-length-2 : tie.Need-same-length-2
@@ -127,7 +127,7 @@ same-length-2 c = search needs
 
 -- src/commands.rt:350:1
 returns-2 : tie.Need-returns-2
-returns-2 c = ?
+returns-2 c = rw (c .before .before .before .before .before .enum-told2 .given .1) (c .before .before .join2 .ensures)
 
 -- src/commands.rt:350:1
 same-length-3 : tie.Need-same-length-3
@@ -135,7 +135,7 @@ same-length-3 c = search needs
 
 -- src/commands.rt:350:1
 returns-3 : tie.Need-returns-3
-returns-3 c = ?
+returns-3 c = rw (c .before .before .before .before .before .enum-told3 .given .1) (c .before .before .join3 .ensures)
 
 -- src/commands.rt:350:1
 same-length-4 : tie.Need-same-length-4
@@ -143,7 +143,7 @@ same-length-4 c = search needs
 
 -- src/commands.rt:350:1
 returns-4 : tie.Need-returns-4
-returns-4 c = ?
+returns-4 c = rw (c .before .before .before .before .before .enum-told4 .given .1) (c .before .before .join4 .ensures)
 
 -- src/commands.rt:350:1
 same-length-5 : tie.Need-same-length-5
@@ -151,7 +151,7 @@ same-length-5 c = search needs
 
 -- src/commands.rt:350:1
 returns-5 : tie.Need-returns-5
-returns-5 c = ?
+returns-5 c = rw (c .before .before .before .before .before .enum-told5 .given .1) (c .before .before .join5 .ensures)
 
 -- src/commands.rt:350:1
 same-length-6 : tie.Need-same-length-6
@@ -159,7 +159,7 @@ same-length-6 c = search needs
 
 -- src/commands.rt:350:1
 returns-6 : tie.Need-returns-6
-returns-6 c = ?
+returns-6 c = rw (c .before .before .before .before .before .enum-told6 .given .1) (c .before .before .join6 .ensures)
 
 -- src/commands.rt:350:1
 same-length-7 : tie.Need-same-length-7
@@ -167,7 +167,7 @@ same-length-7 c = search needs
 
 -- src/commands.rt:350:1
 returns-7 : tie.Need-returns-7
-returns-7 c = ?
+returns-7 c = rw (c .before .before .before .before .before .enum-told7 .given .1) (c .before .before .join7 .ensures)
 
 -- src/commands.rt:350:1
 same-length-8 : tie.Need-same-length-8
@@ -175,7 +175,7 @@ same-length-8 c = search needs
 
 -- src/commands.rt:350:1
 returns-8 : tie.Need-returns-8
-returns-8 c = ?
+returns-8 c = rw (c .before .before .before .before .before .enum-told8 .given .1) (c .before .before .join8 .ensures)
 
 -- src/commands.rt:350:1
 same-length-9 : tie.Need-same-length-9
@@ -183,7 +183,7 @@ same-length-9 c = search needs
 
 -- src/commands.rt:350:1
 returns-9 : tie.Need-returns-9
-returns-9 c = ?
+returns-9 c = rw (c .before .before .before .before .before .enum-told9 .given .1) (c .before .before .join9 .ensures)
 
 pub put-line-two-spec : {M : Type 1} → statement M
 put-line-two-spec =

@@ -1,3 +1,4 @@
+use mathlib.Core.Path.{sym, _∙_}
 use borrow.Author.Needs.{needs}
 use Rattle.phase_two.proofs.commands.work_word.Statement.{statement}
 use Rattle.phase_two.proofs.commands.work_word.Tie as tie
@@ -19,7 +20,7 @@ is-same-requires c κs = search needs
 
 -- src/commands.rt:75:17
 returns : tie.Need-returns
-returns c = ?
+returns c = rw (c .before .before .before .enum-told .given .1, sym (c .before .is-same .ensures) ∙ c .if1 .taken)
 
 -- src/commands.rt:80:38
 enum-told-2 : tie.Need-enum-told-2
@@ -35,15 +36,15 @@ is-same-requires-2 c κs = search needs
 
 -- src/commands.rt:81:17
 returns-2 : tie.Need-returns-2
-returns-2 c = ?
+returns-2 c = rw (c .before .before .before .enum-told2 .given .1, sym (c .before .is-same2 .ensures) ∙ c .if2 .taken)
 
 -- src/commands.rt:69:1
 returns-3 : tie.Need-returns-3
-returns-3 c = ?
+returns-3 c = rw (c .before .before .before .enum-told .given .1, sym (c .before .is-same .ensures) ∙ c .if1 .left)
 
 -- src/commands.rt:69:1
 returns-4 : tie.Need-returns-4
-returns-4 c = ?
+returns-4 c = rw (c .before .before .before .enum-told2 .given .1, sym (c .before .is-same2 .ensures) ∙ c .if2 .left)
 
 pub work-word-spec : {M : Type 1} → statement M
 work-word-spec =
