@@ -2,10 +2,17 @@
 use Prim.Native.Nat.{ℕ}
 use mathlib.Core.List.{List}
 use Rattle.refusal.specs.Number.{numberOf}
+use Rattle.refusal.specs.Pick.{pick}
+use Rattle.refusal.specs.Same.{same}
+use Rattle.bech32.specs.declared.charset.Kind.{Kind}
+use Rattle.bech32.specs.declared.charset.Kind.the-variants as the-kind
 use Rattle.stanza.specs.Arguments.{argumentOf}
+use Rattle.responses.specs.declared.WordTwo.{WordTwo}
+use Rattle.responses.specs.declared.WordTwo.the-variants as the-word
+use Rattle.session.specs.Commands.{doneWord}
 use Rattle.session.specs.declared.commands.Machine.{Machine}
 use Rattle.conversation.specs.CommandsTwo as two
-use Rattle.conversation.specs.CommandsTwo.{rowTwo, wordTwo}
+use Rattle.conversation.specs.CommandsTwo.{rowTwo, wordTwo, workWord, errorWord}
 use Rattle.phase_two.specs.declared.commands.Named.{Named}
 use Rattle.phase_two.specs.declared.commands.Named.the-variants as the-named
 use Rattle.phase_two.specs.declared.commands.CommandTwo.{CommandTwo}
@@ -31,3 +38,12 @@ commandSaid (the-command.Refused r) = two.bad (numberOf r)
 -- the command of a stanza, by its arguments' text and how many bytes its body has
 abbrev pub commandOf : Machine → List ℕ → ℕ → two.CommandTwo
 commandOf machine line body = rowTwo (wordTwo machine (argumentOf line 0)) machine line body
+
+-- which row a word names that is neither a message nor a question: the last rows of wordTwo
+abbrev pub lateWord : Machine → List ℕ → WordTwo
+lateWord machine w = pick (same w errorWord) the-word.Error (pick (same w doneWord) the-word.Done (workWord machine w))
+
+-- an identity or a recipient, as an error names it
+abbrev pub nameOf : Kind → ℕ → two.Named
+nameOf the-kind.Recipient = two.recipient
+nameOf the-kind.Identity = two.identity
