@@ -67,23 +67,23 @@ size-requires-5 c κs = search needs
 
 -- src/lib.rt:164:1
 returns : tie.Need-returns
-returns c = ?
+returns c = rw (c .before .before .enum-told .given .1) (c .size .ensures)
 
 -- src/lib.rt:164:1
 returns-2 : tie.Need-returns-2
-returns-2 c = ?
+returns-2 c = rw (c .before .before .enum-told2 .given .1) (c .size2 .ensures)
 
 -- src/lib.rt:164:1
 returns-3 : tie.Need-returns-3
-returns-3 c = ?
+returns-3 c = rw (c .before .before .enum-told3 .given .1) (c .size3 .ensures)
 
 -- src/lib.rt:164:1
 returns-4 : tie.Need-returns-4
-returns-4 c = ?
+returns-4 c = rw (c .before .before .enum-told4 .given .1) (c .size4 .ensures)
 
 -- src/lib.rt:164:1
 returns-5 : tie.Need-returns-5
-returns-5 c = ?
+returns-5 c = rw (c .before .before .enum-told5 .given .1) (c .size5 .ensures)
 
 pub size-spec : {M : Type 1} → statement M
 size-spec =

@@ -1,3 +1,7 @@
+use Rattle.responses.specs.Responses.{responseLine}
+use Rattle.stanza.specs.Writing.{written, bufferAfter}
+use denote.Ref.{now}
+use mathlib.Core.Path.{sym, ap, _∙_}
 use borrow.Author.Needs.{needs}
 use Rattle.responses.proofs.write.Statement.{statement}
 use Rattle.responses.proofs.write.Tie as tie
@@ -71,7 +75,12 @@ same-length c = search needs
 
 -- src/lib.rt:177:1
 returns : tie.Need-returns
-returns c = ?
+returns c = 
+    let b = now (c .before .before .before .before .before .before .before .before .before .args .body) in
+    let o = now (c .before .before .before .before .before .before .before .before .before .args .out) in
+    let e = sym (c .before .before .before .before .before .enum-told .given .1) in
+    let w = c .before .before .write .ensures in
+    (w .0 ∙ ap (λ r. written (responseLine r) b o) e, w .1 ∙ ap (λ r. bufferAfter (responseLine r) b o) e)
 
 -- src/lib.rt:177:1
 same-length-2 : tie.Need-same-length-2
@@ -79,7 +88,12 @@ same-length-2 c = search needs
 
 -- src/lib.rt:177:1
 returns-2 : tie.Need-returns-2
-returns-2 c = ?
+returns-2 c = 
+    let b = now (c .before .before .before .before .before .before .before .before .before .args .body) in
+    let o = now (c .before .before .before .before .before .before .before .before .before .args .out) in
+    let e = sym (c .before .before .before .before .before .enum-told2 .given .1) in
+    let w = c .before .before .write2 .ensures in
+    (w .0 ∙ ap (λ r. written (responseLine r) b o) e, w .1 ∙ ap (λ r. bufferAfter (responseLine r) b o) e)
 
 -- src/lib.rt:177:1
 same-length-3 : tie.Need-same-length-3
@@ -87,7 +101,12 @@ same-length-3 c = search needs
 
 -- src/lib.rt:177:1
 returns-3 : tie.Need-returns-3
-returns-3 c = ?
+returns-3 c = 
+    let b = now (c .before .before .before .before .before .before .before .before .before .args .body) in
+    let o = now (c .before .before .before .before .before .before .before .before .before .args .out) in
+    let e = sym (c .before .before .before .before .before .enum-told3 .given .1) in
+    let w = c .before .before .write3 .ensures in
+    (w .0 ∙ ap (λ r. written (responseLine r) b o) e, w .1 ∙ ap (λ r. bufferAfter (responseLine r) b o) e)
 
 -- src/lib.rt:177:1
 same-length-4 : tie.Need-same-length-4
@@ -95,7 +114,12 @@ same-length-4 c = search needs
 
 -- src/lib.rt:177:1
 returns-4 : tie.Need-returns-4
-returns-4 c = ?
+returns-4 c = 
+    let b = now (c .before .before .before .before .before .before .before .before .before .args .body) in
+    let o = now (c .before .before .before .before .before .before .before .before .before .args .out) in
+    let e = sym (c .before .before .before .before .before .enum-told4 .given .1) in
+    let w = c .before .before .write4 .ensures in
+    (w .0 ∙ ap (λ r. written (responseLine r) b o) e, w .1 ∙ ap (λ r. bufferAfter (responseLine r) b o) e)
 
 -- src/lib.rt:177:1
 same-length-5 : tie.Need-same-length-5
@@ -103,7 +127,12 @@ same-length-5 c = search needs
 
 -- src/lib.rt:177:1
 returns-5 : tie.Need-returns-5
-returns-5 c = ?
+returns-5 c = 
+    let b = now (c .before .before .before .before .before .before .before .before .before .args .body) in
+    let o = now (c .before .before .before .before .before .before .before .before .before .args .out) in
+    let e = sym (c .before .before .before .before .before .enum-told5 .given .1) in
+    let w = c .before .before .write5 .ensures in
+    (w .0 ∙ ap (λ r. written (responseLine r) b o) e, w .1 ∙ ap (λ r. bufferAfter (responseLine r) b o) e)
 
 pub write-spec : {M : Type 1} → statement M
 write-spec =
