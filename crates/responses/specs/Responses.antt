@@ -6,6 +6,8 @@ use lib.Dec.{eqb}
 use lib.ListN.{length}
 use Rattle.refusal.specs.Pick.{pick}
 use Rattle.refusal.specs.Same.{same}
+use Rattle.responses.specs.declared.Reading.{Reading}
+use Rattle.responses.specs.declared.Reading.the-variants as the
 use Rattle.responses.specs.declared.Response.{Response}
 use Rattle.responses.specs.declared.Response.the-variants.{Ok, Yes, No, Fail, Unsupported}
 use Rattle.responses.specs.declared.WordTwo.{WordTwo}
@@ -106,6 +108,11 @@ responseLine Unsupported = unsupportedWord
 pub data ResponseRead : Type 0 where
   response : Response → ResponseRead
   nothing : ResponseRead
+
+-- what the code's reading stands for
+abbrev pub readingSaid : Reading → ResponseRead
+readingSaid (the.Response r) = response r
+readingSaid the.Nothing = nothing
 
 -- which response an arguments' text is, all of it: the first word alone does not tell
 abbrev pub responseOf : List ℕ → ResponseRead

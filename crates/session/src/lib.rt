@@ -25,6 +25,7 @@ pub use phase_one::Tables;
 pub use phase_one::Verdict;
 pub use phase_one::apply_one;
 pub use phase_one::decide_one;
+pub use phase_one::first_of;
 pub use phase_one::open_tables;
 pub use phase_one::step_one;
 pub use phases::Phase;

@@ -236,7 +236,7 @@ pub struct Step {
 }
 
 // The first of two faults.
-fn first_of(verdict: Verdict, late: Verdict) -> Verdict
+pub fn first_of(verdict: Verdict, late: Verdict) -> Verdict
     ensures { λ r. ⌜ verdictSaid r ≡ firstOf (verdictSaid verdict) (verdictSaid late) ⌝ }
 {
     match verdict {

@@ -1,0 +1,46 @@
+use borrow.Author.Needs.{needs}
+use Rattle.phase_two.proofs.at_once.write_at_once.Statement.{statement}
+use Rattle.phase_two.proofs.at_once.write_at_once.Tie as tie
+use Rattle.phase_two.proofs.at_once.write_at_once.Reads as reads
+use Rattle.phase_two.proofs.at_once.write_at_once.Lts as lts
+use Rattle.responses.proofs.write.Reads as write-reads
+
+-- src/at_once.rt:60:24
+enum-known-answer : tie.Need-enum-known-answer
+enum-known-answer c = search needs
+
+-- src/at_once.rt:60:64
+slice-aggregate-write : tie.Need-slice-aggregate-write
+slice-aggregate-write c = search needs
+
+-- src/at_once.rt:60:37
+write-requires : tie.Need-write-requires
+write-requires c κs = search needs
+
+-- src/at_once.rt:61:27
+enum-told : tie.Need-enum-told
+enum-told c = search needs
+
+-- src/at_once.rt:55:1
+same-length : tie.Need-same-length
+same-length c = search needs
+
+-- src/at_once.rt:55:1
+returns : tie.Need-returns
+returns c = ?
+
+-- src/at_once.rt:55:1
+returns-2 : tie.Need-returns-2
+returns-2 c = ?
+
+pub write-at-once-spec : {M : Type 1} → statement M
+write-at-once-spec =
+    tie.close
+    (tie.spec
+    enum-known-answer
+    slice-aggregate-write
+    write-requires
+    enum-told
+    same-length
+    returns
+    returns-2)
