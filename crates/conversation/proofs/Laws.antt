@@ -7,6 +7,7 @@ pub mod Answers
 pub mod CommandsTwo
 pub mod DecidedTwo
 pub mod Examples
+pub mod ExamplesTwo
 pub mod Limits
 pub mod Lists
 pub mod OrderOne

@@ -1,0 +1,166 @@
+-- The order theorem of phase two is not empty, by computation: worked lists of calls of both machines, with several kinds and in two orders.
+use Prim.Native.Nat.{ℕ, zero, suc}
+use mathlib.Core.Path.{_≡_, refl, sym, ap, _∙_}
+use mathlib.Core.Bool.{Bool, true, false, true≢false}
+use mathlib.Core.List.{List, [], _∷_, _++_, map}
+use lib.Dec.{eqb, eqb·zero-suc, eqb·suc-suc}
+use lib.ListN.{replicate}
+use Rattle.base64.specs.Alphabet.{isCharacter, valueOf, characterOf}
+use Rattle.base64.specs.Code.{encoded, decoded, endsWell}
+use Rattle.base64.specs.Lines.{wrapped, unwrapped}
+use Rattle.refusal.specs.Pick.{pick}
+use Rattle.refusal.specs.Run.{all, run}
+use Rattle.refusal.specs.Same.{same}
+use Rattle.stanza.specs.Arguments.{isGraphic, isWordByte, before, words, isArgument, areArguments}
+use Rattle.stanza.specs.Automaton.{next, verdict, scan}
+use Rattle.stanza.specs.Grammar.{stanzaText}
+use Rattle.stanza.specs.Index.{digits, readIndex}
+use Rattle.stanza.specs.Reading.{found}
+use Rattle.responses.specs.Responses.{responseLine}
+use Rattle.responses.specs.declared.Response.the-variants.{Ok, Unsupported}
+use Rattle.responses.specs.declared.WordTwo.the-variants.{Msg, RecipientStanza, FileKey, Error, Done}
+use Rattle.tables.specs.Tables.{Row}
+use Rattle.session.specs.Commands as one-command
+use Rattle.session.specs.Commands.{afterSpace}
+use Rattle.session.specs.PhaseOne as one
+use Rattle.session.specs.PhaseOne.{Tables, openedTables}
+use Rattle.session.specs.Views as one-kind
+use Rattle.session.specs.declared.commands.Machine.the-variants.{RecipientV1, IdentityV1}
+use Rattle.session.specs.declared.phases.Phase.the-variants.{Two}
+use Rattle.conversation.specs.Calls.{Call, send, receive-two, reply, State, stateOf, after, numbers, written}
+use Rattle.conversation.specs.CommandsTwo.{commandTwo, lineSent}
+use Rattle.conversation.specs.Kinds as kinds
+use Rattle.conversation.specs.Kinds.{Buffers, second, viewOf, ofFile}
+use Rattle.conversation.specs.PhaseTwo as two
+use Rattle.conversation.specs.PhaseTwo.{howMany, passes, decided}
+use Rattle.conversation.specs.Phases.{Block, Reply, Phase, blocksOf, two-part, Supply, callsOf, replyCalls, writtenIn, SameTables}
+use Rattle.conversation.specs.ReceivingTwo as receiving-two
+use Rattle.conversation.specs.Replying as replying
+use Rattle.conversation.specs.Sending as sending
+use Rattle.conversation.specs.Session.{openedSession}
+
+-- the plugin's name, "x"
+abbrev plugin : List ℕ
+plugin = 120 ∷ []
+
+-- ---- recipient-v1: one recipient, one identity and two file keys are sent, then done
+
+abbrev lent : Buffers
+lent = kinds.buffersOf (one.buffersOf (97 ∷ []) (98 ∷ []) (replicate 16 0 ++ replicate 16 1) []) (two.buffersOf (replicate 4 0) (replicate 8 0) [])
+
+-- with a screen; the buffers as phase one left them
+abbrev tables : Tables
+tables =
+    let b = lent .first in
+    one.applied (one.applied (one.applied (one.applied openedTables b (one-command.recipient 16) (97 ∷ [])) b (one-command.identity 16) (98 ∷ [])) b one-command.key (replicate 16 0)) b one-command.key (replicate 16 1)
+
+abbrev start : State
+start = stateOf (record { machine = RecipientV1; name = plugin; screen = true; phase = Two; tables = tables }) lent
+
+-- ---- what is received
+
+-- a text by itself
+abbrev alone : List ℕ → Block
+alone t = record { text = t; replies = [] }
+
+-- "-> recipient-stanza 0 a", the same with the tag b, and "-> recipient-stanza 1 c"
+abbrev stanzaA : Block
+stanzaA = alone (stanzaText (lineSent RecipientStanza (48 ∷ 32 ∷ 97 ∷ [])) [])
+
+abbrev stanzaB : Block
+stanzaB = alone (stanzaText (lineSent RecipientStanza (48 ∷ 32 ∷ 98 ∷ [])) [])
+
+abbrev stanzaC : Block
+stanzaC = alone (stanzaText (lineSent RecipientStanza (49 ∷ 32 ∷ 99 ∷ [])) [])
+
+-- "-> msg" with a body of one byte, and the host's ok
+abbrev message : Block
+message = record { text = stanzaText (lineSent Msg []) (7 ∷ []); replies = record { response = Ok; body = [] } ∷ [] }
+
+-- "-> z", which is no command
+abbrev unknown : Block
+unknown = alone (stanzaText (122 ∷ []) [])
+
+-- "-> done"
+abbrev end : Block
+end = alone (stanzaText (lineSent Done []) [])
+
+-- a phase, and the same commands in another order less the unknown one
+abbrev given : Phase
+given = record { ahead = stanzaA ∷ message ∷ unknown ∷ stanzaC ∷ stanzaB ∷ []; last = end }
+
+abbrev turned : Phase
+turned = record { ahead = stanzaC ∷ stanzaA ∷ stanzaB ∷ message ∷ []; last = end }
+
+-- output buffers of 16 bytes: "-> unsupported", LF, LF
+abbrev outs : Supply
+outs = λ i. replicate 16 0
+
+abbrev calls : Phase → List Call
+calls p = callsOf two-part outs (blocksOf p)
+
+-- the state behind a phase
+abbrev behind : Phase → State
+behind p = after (start .session) (start .buffers) (calls p)
+
+-- both are accepted
+pub both-accepted : (numbers (start .session) (start .buffers) (calls given) ≡ 0 ∷ 0 ∷ 0 ∷ 0 ∷ 0 ∷ 0 ∷ 0 ∷ []) × (numbers (start .session) (start .buffers) (calls turned) ≡ 0 ∷ 0 ∷ 0 ∷ 0 ∷ 0 ∷ 0 ∷ [])
+unfolding numbers after callsOf replyCalls sending.sent sending.sentStanza receiving-two.received receiving-two.receivedStanza replying.repliedTo commandTwo decided howMany passes isCharacter valueOf characterOf encoded decoded endsWell wrapped unwrapped all run isGraphic isWordByte before words isArgument areArguments same next verdict scan found digits readIndex afterSpace
+both-accepted = (refl, refl)
+
+-- the row of a returned stanza, or key
+abbrev row : ℕ → List ℕ → Row
+row f p = record { payload = p; index = f; mark = 0 }
+
+-- the returned stanzas, in the order of acceptance
+abbrev givenRows : List Row
+givenRows = row 0 (97 ∷ 10 ∷ []) ∷ row 1 (99 ∷ 10 ∷ []) ∷ row 0 (98 ∷ 10 ∷ []) ∷ []
+
+abbrev turnedRows : List Row
+turnedRows = row 1 (99 ∷ 10 ∷ []) ∷ row 0 (97 ∷ 10 ∷ []) ∷ row 0 (98 ∷ 10 ∷ []) ∷ []
+
+-- of a state
+abbrev seen : two.Kind → State → List Row
+seen k x = viewOf (second k) (x .session .tables) (x .buffers)
+
+pub both-stanzas : (seen two.stanzas (behind given) ≡ givenRows) × (seen two.stanzas (behind turned) ≡ turnedRows)
+unfolding numbers after callsOf replyCalls sending.sent sending.sentStanza receiving-two.received receiving-two.receivedStanza replying.repliedTo commandTwo decided howMany passes isCharacter valueOf characterOf encoded decoded endsWell wrapped unwrapped all run isGraphic isWordByte before words isArgument areArguments same next verdict scan found digits readIndex afterSpace
+both-stanzas = (refl, refl)
+
+files : (f : ℕ) → ofFile f givenRows ≡ ofFile f turnedRows
+unfolding ofFile
+files zero = refl
+files (suc zero) = refl
+files (suc (suc f)) = neither _ _ _ (eqb 0 (suc (suc f))) (eqb 1 (suc (suc f))) (eqb·zero-suc (suc f)) (eqb·suc-suc 0 (suc f) ∙ eqb·zero-suc f)
+  where
+    neither : (x y z : Row) (a b : Bool) → a ≡ false → b ≡ false → pick a (x ∷ []) [] ++ (pick b (y ∷ []) [] ++ (pick a (z ∷ []) [] ++ [])) ≡ pick b (y ∷ []) [] ++ (pick a (x ∷ []) [] ++ (pick a (z ∷ []) [] ++ []))
+    neither x y z false false h g = refl
+    neither x y z false true h g = absurd (true≢false g)
+    neither x y z true b h g = absurd (true≢false h)
+
+-- file by file the tables are equal
+pub same-tables : SameTables (behind given) (behind turned)
+unfolding numbers after callsOf replyCalls sending.sent sending.sentStanza receiving-two.received receiving-two.receivedStanza replying.repliedTo commandTwo decided howMany passes isCharacter valueOf characterOf encoded decoded endsWell wrapped unwrapped all run isGraphic isWordByte before words isArgument areArguments same next verdict scan found digits readIndex afterSpace
+same-tables = record { views = views; errors = refl; stanzas = λ f. ap (ofFile f) (both-stanzas .0) ∙ files f ∙ sym (ap (ofFile f) (both-stanzas .1)); returned = λ f. refl }
+  where
+    views : (k : one-kind.Kind) → viewOf (kinds.first k) (behind given .session .tables) (behind given .buffers) ≡ viewOf (kinds.first k) (behind turned .session .tables) (behind turned .buffers)
+    views one-kind.recipients = refl
+    views one-kind.identities = refl
+    views one-kind.keys = refl
+    views one-kind.headers = refl
+
+-- "-> ok", LF, LF; "-> unsupported", LF, LF
+abbrev okText : List ℕ
+okText = stanzaText (responseLine Ok) []
+
+abbrev unsupportedText : List ℕ
+unsupportedText = stanzaText (responseLine Unsupported) []
+
+-- what is written goes with its block: nothing for the msg itself, and nothing for done
+pub given-written : writtenIn two-part (start .session) (start .buffers) outs (blocksOf given) ≡ (okText ∷ []) ∷ ([] ∷ okText ∷ []) ∷ (unsupportedText ∷ []) ∷ (okText ∷ []) ∷ (okText ∷ []) ∷ ([] ∷ []) ∷ []
+unfolding writtenIn written numbers after callsOf replyCalls sending.sent sending.sentStanza receiving-two.received receiving-two.receivedStanza replying.repliedTo commandTwo decided howMany passes isCharacter valueOf characterOf encoded decoded endsWell wrapped unwrapped all run isGraphic isWordByte before words isArgument areArguments same next verdict scan found digits readIndex afterSpace
+given-written = refl
+
+pub turned-written : writtenIn two-part (start .session) (start .buffers) outs (blocksOf turned) ≡ (okText ∷ []) ∷ (okText ∷ []) ∷ (okText ∷ []) ∷ ([] ∷ okText ∷ []) ∷ ([] ∷ []) ∷ []
+unfolding writtenIn written numbers after callsOf replyCalls sending.sent sending.sentStanza receiving-two.received receiving-two.receivedStanza replying.repliedTo commandTwo decided howMany passes isCharacter valueOf characterOf encoded decoded endsWell wrapped unwrapped all run isGraphic isWordByte before words isArgument areArguments same next verdict scan found digits readIndex afterSpace
+turned-written = refl
