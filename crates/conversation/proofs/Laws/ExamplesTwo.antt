@@ -2,12 +2,14 @@
 use Prim.Native.Nat.{ℕ, zero, suc}
 use mathlib.Core.Path.{_≡_, refl, sym, ap, _∙_}
 use mathlib.Core.Bool.{Bool, true, false, true≢false}
-use mathlib.Core.List.{List, [], _∷_, _++_, map}
+use mathlib.Core.List.{List, [], _∷_, _++_, Permᴰ·middle, List·Permᴰ·cons, List·Permᴰ·swap, List·Permᴰ·trans}
 use lib.Dec.{eqb, eqb·zero-suc, eqb·suc-suc}
 use lib.ListN.{replicate}
 use Rattle.base64.specs.Alphabet.{isCharacter, valueOf, characterOf}
 use Rattle.base64.specs.Code.{encoded, decoded, endsWell}
 use Rattle.base64.specs.Lines.{wrapped, unwrapped}
+use Rattle.bech32.specs.Charset.{isUpper, isLower, lower}
+use Rattle.bech32.specs.Text.{isName, isNameByte, separator, isChecked, isText}
 use Rattle.refusal.specs.Pick.{pick}
 use Rattle.refusal.specs.Run.{all, run}
 use Rattle.refusal.specs.Same.{same}
@@ -22,6 +24,7 @@ use Rattle.responses.specs.declared.WordTwo.the-variants.{Msg, RecipientStanza,
 use Rattle.tables.specs.Tables.{Row}
 use Rattle.session.specs.Commands as one-command
 use Rattle.session.specs.Commands.{afterSpace}
+use Rattle.session.specs.Opening.{recipientV1}
 use Rattle.session.specs.PhaseOne as one
 use Rattle.session.specs.PhaseOne.{Tables, openedTables}
 use Rattle.session.specs.Views as one-kind
@@ -33,7 +36,7 @@ use Rattle.conversation.specs.Kinds as kinds
 use Rattle.conversation.specs.Kinds.{Buffers, second, viewOf, ofFile}
 use Rattle.conversation.specs.PhaseTwo as two
 use Rattle.conversation.specs.PhaseTwo.{howMany, passes, decided}
-use Rattle.conversation.specs.Phases.{Block, Reply, Phase, blocksOf, two-part, Supply, callsOf, replyCalls, writtenIn, SameTables}
+use Rattle.conversation.specs.Phases.{All, keep, Whole, two-part, Block, Reply, Phase, blocksOf, IsPhase, Supply, callsOf, replyCalls, writtenIn, Lent, afterLent, JustDone, Strand, of-kind, of-errors, of-file, isIn, Rearranged, SameTables}
 use Rattle.conversation.specs.ReceivingTwo as receiving-two
 use Rattle.conversation.specs.Replying as replying
 use Rattle.conversation.specs.Sending as sending
@@ -56,6 +59,34 @@ tables =
 
 abbrev start : State
 start = stateOf (record { machine = RecipientV1; name = plugin; screen = true; phase = Two; tables = tables }) lent
+
+-- it has just sent done: the calls before
+abbrev out : List ℕ
+out = replicate 40 0
+
+abbrev sends : List Lent
+sends =
+    record { call = send one-command.add-recipient (97 ∷ []) [] out; buffers = lent } ∷ record { call = send one-command.add-identity (98 ∷ []) [] out; buffers = lent } ∷
+    record { call = send one-command.wrap-file-key [] (replicate 16 0) out; buffers = lent } ∷ record { call = send one-command.wrap-file-key [] (replicate 16 1) out; buffers = lent } ∷
+    []
+
+pub just-done : JustDone (start .session)
+unfolding All afterLent sending.sent sending.sentStanza isName isNameByte isText isChecked separator isUpper isLower lower isCharacter valueOf characterOf encoded decoded endsWell wrapped unwrapped all run isGraphic isWordByte before words isArgument areArguments same
+just-done = record {
+  machine = recipientV1;
+  name = plugin;
+  screen = true;
+  before = sends;
+  client = (refl, (refl, (refl, (refl, tt))));
+  word = one-command.done-word;
+  arguments = [];
+  body = [];
+  out = out;
+  buffers = lent;
+  is-done = refl;
+  accepted = refl;
+  reached = refl;
+}
 
 -- ---- what is received
 
@@ -91,6 +122,48 @@ given = record { ahead = stanzaA ∷ message ∷ unknown ∷ stanzaC ∷ stanzaB
 
 abbrev turned : Phase
 turned = record { ahead = stanzaC ∷ stanzaA ∷ stanzaB ∷ message ∷ []; last = end }
+
+-- nothing of two files, of neither
+neither : {X : Type 0} (x y z : X) (a b : Bool) → a ≡ false → b ≡ false → pick a (x ∷ []) [] ++ (pick b (y ∷ []) [] ++ (pick a (z ∷ []) [] ++ [])) ≡ pick b (y ∷ []) [] ++ (pick a (x ∷ []) [] ++ (pick a (z ∷ []) [] ++ []))
+neither x y z false false h g = refl
+neither x y z false true h g = absurd (true≢false g)
+neither x y z true b h g = absurd (true≢false h)
+
+-- both are phases
+given-whole : All (λ x. Whole (x .text)) (blocksOf given)
+unfolding All isCharacter valueOf characterOf encoded decoded endsWell wrapped unwrapped run isGraphic next verdict scan found
+given-whole = (record { line = 23; body = 0; read = refl }, (record { line = 6; body = 1; read = refl }, (record { line = 4; body = 0; read = refl }, (record { line = 23; body = 0; read = refl }, (record { line = 23; body = 0; read = refl }, (record { line = 7; body = 0; read = refl }, tt))))))
+
+pub given-phase : IsPhase two-part given
+unfolding All isCharacter valueOf characterOf encoded decoded endsWell wrapped unwrapped run isGraphic next verdict scan found isWordByte before words same
+given-phase = record { whole = given-whole; quiet = (tt, (tt, (tt, (tt, (tt, (tt, tt)))))); done-once = (refl, (refl, (refl, (refl, (refl, tt))))); done-last = refl }
+
+pub turned-phase : IsPhase two-part turned
+unfolding All isCharacter valueOf characterOf encoded decoded endsWell wrapped unwrapped run isGraphic next verdict scan found isWordByte before words same
+turned-phase =
+    let w = given-whole in
+    record {
+      whole = (w .1 .1 .1 .0, (w .0, (w .1 .1 .1 .1 .0, (w .1 .0, (w .1 .1 .1 .1 .1 .0, tt)))));
+      quiet = (tt, (tt, (tt, (tt, (tt, tt)))));
+      done-once = (refl, (refl, (refl, (refl, tt))));
+      done-last = refl;
+    }
+
+-- and rearrangements of each other
+pub rearranged : Rearranged two-part RecipientV1 plugin given turned
+unfolding keep commandTwo readIndex digits isCharacter valueOf characterOf encoded decoded endsWell wrapped unwrapped run isGraphic next verdict scan found isWordByte before words same
+rearranged = record {
+  same-last = refl;
+  permuted = List·Permᴰ·trans (Permᴰ·middle stanzaC (stanzaA ∷ message ∷ []) (stanzaB ∷ [])) (List·Permᴰ·cons refl (List·Permᴰ·cons refl (List·Permᴰ·swap refl refl)));
+  same-order = same-order;
+}
+  where
+    same-order : (k : Strand) → keep (isIn two-part RecipientV1 plugin k) (given .ahead) ≡ keep (isIn two-part RecipientV1 plugin k) (turned .ahead)
+    same-order (of-kind k) = refl
+    same-order of-errors = refl
+    same-order (of-file zero) = refl
+    same-order (of-file (suc zero)) = refl
+    same-order (of-file (suc (suc f))) = neither stanzaA stanzaC stanzaB (eqb 0 (suc (suc f))) (eqb 1 (suc (suc f))) (eqb·zero-suc (suc f)) (eqb·suc-suc 0 (suc f) ∙ eqb·zero-suc f)
 
 -- output buffers of 16 bytes: "-> unsupported", LF, LF
 abbrev outs : Supply
@@ -132,11 +205,6 @@ unfolding ofFile
 files zero = refl
 files (suc zero) = refl
 files (suc (suc f)) = neither _ _ _ (eqb 0 (suc (suc f))) (eqb 1 (suc (suc f))) (eqb·zero-suc (suc f)) (eqb·suc-suc 0 (suc f) ∙ eqb·zero-suc f)
-  where
-    neither : (x y z : Row) (a b : Bool) → a ≡ false → b ≡ false → pick a (x ∷ []) [] ++ (pick b (y ∷ []) [] ++ (pick a (z ∷ []) [] ++ [])) ≡ pick b (y ∷ []) [] ++ (pick a (x ∷ []) [] ++ (pick a (z ∷ []) [] ++ []))
-    neither x y z false false h g = refl
-    neither x y z false true h g = absurd (true≢false g)
-    neither x y z true b h g = absurd (true≢false h)
 
 -- file by file the tables are equal
 pub same-tables : SameTables (behind given) (behind turned)
