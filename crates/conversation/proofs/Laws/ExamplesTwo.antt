@@ -2,9 +2,10 @@
 use Prim.Native.Nat.{ℕ, zero, suc}
 use mathlib.Core.Path.{_≡_, refl, sym, ap, _∙_}
 use mathlib.Core.Bool.{Bool, true, false, true≢false}
-use mathlib.Core.List.{List, [], _∷_, _++_, Permᴰ·middle, List·Permᴰ·cons, List·Permᴰ·swap, List·Permᴰ·trans}
+use mathlib.Core.List.{List, [], _∷_, _++_, map, Permᴰ·middle, List·Permᴰ·cons, List·Permᴰ·swap, List·Permᴰ·trans}
 use lib.Dec.{eqb, eqb·zero-suc, eqb·suc-suc}
-use lib.ListN.{replicate}
+use lib.ListN.{getD, replicate}
+use native.Mathlib.Omega.{arith}
 use Rattle.base64.specs.Alphabet.{isCharacter, valueOf, characterOf}
 use Rattle.base64.specs.Code.{encoded, decoded, endsWell}
 use Rattle.base64.specs.Lines.{wrapped, unwrapped}
@@ -31,7 +32,7 @@ use Rattle.session.specs.Views as one-kind
 use Rattle.session.specs.declared.commands.Machine.the-variants.{RecipientV1, IdentityV1}
 use Rattle.session.specs.declared.phases.Phase.the-variants.{Two}
 use Rattle.conversation.specs.Calls.{Call, send, receive-two, reply, State, stateOf, after, numbers, written}
-use Rattle.conversation.specs.CommandsTwo.{commandTwo, lineSent}
+use Rattle.conversation.specs.CommandsTwo.{internalWord, identityWord, recipientWord, stanzaWord, commandTwo, lineSent}
 use Rattle.conversation.specs.Kinds as kinds
 use Rattle.conversation.specs.Kinds.{Buffers, second, viewOf, ofFile}
 use Rattle.conversation.specs.PhaseTwo as two
@@ -40,7 +41,7 @@ use Rattle.conversation.specs.Phases.{All, keep, Whole, two-part, Block,
 use Rattle.conversation.specs.ReceivingTwo as receiving-two
 use Rattle.conversation.specs.Replying as replying
 use Rattle.conversation.specs.Sending as sending
-use Rattle.conversation.specs.Session.{openedSession}
+use Rattle.conversation.specs.Session.{Session, moved}
 
 -- the plugin's name, "x"
 abbrev plugin : List ℕ
@@ -260,3 +261,169 @@ given-written = refl
 pub turned-written : writtenIn two-part (start .session) (start .buffers) outs (blocksOf turned) ≡ (okText ∷ []) ∷ (okText ∷ []) ∷ (okText ∷ []) ∷ ([] ∷ okText ∷ []) ∷ ([] ∷ []) ∷ []
 unfolding writtenIn written numbers after callsOf replyCalls sending.sent sending.sentStanza receiving-two.received receiving-two.receivedStanza replying.repliedTo commandTwo decided howMany passes isCharacter valueOf characterOf encoded decoded endsWell wrapped unwrapped all run isGraphic isWordByte before words isArgument areArguments same next verdict scan found digits readIndex afterSpace
 turned-written = refl
+
+-- ---- identity-v1: one identity and a header stanza for each of the files 3 and 5 are sent, then done
+
+abbrev lentIdentity : Buffers
+lentIdentity = kinds.buffersOf (one.buffersOf [] (98 ∷ []) [] (97 ∷ 10 ∷ 97 ∷ 10 ∷ [])) (two.buffersOf (replicate 4 0) [] (replicate 16 0))
+
+abbrev startIdentity : State
+startIdentity =
+    let b = lentIdentity .first in
+    let t = one.applied (one.applied (one.applied openedTables b (one-command.identity 16) (98 ∷ [])) b (one-command.header 3 2) (97 ∷ 10 ∷ [])) b (one-command.header 5 2) (97 ∷ 10 ∷ []) in
+    stateOf (record { machine = IdentityV1; name = plugin; screen = false; phase = Two; tables = t }) lentIdentity
+
+-- "-> file-key 3" with its 16 bytes; "-> error stanza 5 1", "-> error internal", each with a message of one byte
+abbrev fileKey : Block
+fileKey = alone (stanzaText (lineSent FileKey (51 ∷ [])) (replicate 16 9))
+
+abbrev errorHeader : Block
+errorHeader = alone (stanzaText (lineSent Error (stanzaWord ++ 32 ∷ 53 ∷ 32 ∷ 49 ∷ [])) (1 ∷ []))
+
+abbrev errorInternal : Block
+errorInternal = alone (stanzaText (lineSent Error internalWord) (2 ∷ []))
+
+-- to this machine a recipient-stanza is an unknown command
+abbrev givenIdentity : Phase
+givenIdentity = record { ahead = fileKey ∷ errorHeader ∷ errorInternal ∷ []; last = end }
+
+abbrev turnedIdentity : Phase
+turnedIdentity = record { ahead = errorHeader ∷ stanzaA ∷ errorInternal ∷ fileKey ∷ []; last = end }
+
+abbrev behindIdentity : Phase → State
+behindIdentity p = after (startIdentity .session) (startIdentity .buffers) (calls p)
+
+-- both are accepted
+pub both-accepted-identity : (numbers (startIdentity .session) (startIdentity .buffers) (calls givenIdentity) ≡ 0 ∷ 0 ∷ 0 ∷ 0 ∷ []) × (numbers (startIdentity .session) (startIdentity .buffers) (calls turnedIdentity) ≡ 0 ∷ 0 ∷ 0 ∷ 0 ∷ 0 ∷ [])
+unfolding numbers after callsOf replyCalls sending.sent sending.sentStanza receiving-two.received receiving-two.receivedStanza replying.repliedTo commandTwo decided howMany passes isCharacter valueOf characterOf encoded decoded endsWell wrapped unwrapped all run isGraphic isWordByte before words isArgument areArguments same next verdict scan found digits readIndex afterSpace
+both-accepted-identity = (refl, refl)
+
+-- the tables: what an error names is its mark and its index, 3 and 1 for header stanza 1
+abbrev errorRows : List Row
+errorRows = record { payload = 1 ∷ []; index = 1; mark = 3 } ∷ record { payload = 2 ∷ []; index = 0; mark = 0 } ∷ []
+
+abbrev keyRows : List Row
+keyRows = row 3 (replicate 16 9) ∷ []
+
+pub given-rows-identity : (seen two.errors (behindIdentity givenIdentity) ≡ errorRows) × (seen two.returned (behindIdentity givenIdentity) ≡ keyRows) × (seen two.stanzas (behindIdentity givenIdentity) ≡ [])
+unfolding numbers after callsOf replyCalls sending.sent sending.sentStanza receiving-two.received receiving-two.receivedStanza replying.repliedTo commandTwo decided howMany passes isCharacter valueOf characterOf encoded decoded endsWell wrapped unwrapped all run isGraphic isWordByte before words isArgument areArguments same next verdict scan found digits readIndex afterSpace
+given-rows-identity = (refl, refl, refl)
+
+pub turned-rows-identity : (seen two.errors (behindIdentity turnedIdentity) ≡ errorRows) × (seen two.returned (behindIdentity turnedIdentity) ≡ keyRows) × (seen two.stanzas (behindIdentity turnedIdentity) ≡ [])
+unfolding numbers after callsOf replyCalls sending.sent sending.sentStanza receiving-two.received receiving-two.receivedStanza replying.repliedTo commandTwo decided howMany passes isCharacter valueOf characterOf encoded decoded endsWell wrapped unwrapped all run isGraphic isWordByte before words isArgument areArguments same next verdict scan found digits readIndex afterSpace
+turned-rows-identity = (refl, refl, refl)
+
+-- what is written
+pub given-written-identity : writtenIn two-part (startIdentity .session) (startIdentity .buffers) outs (blocksOf givenIdentity) ≡ (okText ∷ []) ∷ (okText ∷ []) ∷ (okText ∷ []) ∷ ([] ∷ []) ∷ []
+unfolding writtenIn written numbers after callsOf replyCalls sending.sent sending.sentStanza receiving-two.received receiving-two.receivedStanza replying.repliedTo commandTwo decided howMany passes isCharacter valueOf characterOf encoded decoded endsWell wrapped unwrapped all run isGraphic isWordByte before words isArgument areArguments same next verdict scan found digits readIndex afterSpace
+given-written-identity = refl
+
+pub turned-written-identity : writtenIn two-part (startIdentity .session) (startIdentity .buffers) outs (blocksOf turnedIdentity) ≡ (okText ∷ []) ∷ (unsupportedText ∷ []) ∷ (okText ∷ []) ∷ (okText ∷ []) ∷ ([] ∷ []) ∷ []
+unfolding writtenIn written numbers after callsOf replyCalls sending.sent sending.sentStanza receiving-two.received receiving-two.receivedStanza replying.repliedTo commandTwo decided howMany passes isCharacter valueOf characterOf encoded decoded endsWell wrapped unwrapped all run isGraphic isWordByte before words isArgument areArguments same next verdict scan found digits readIndex afterSpace
+turned-written-identity = refl
+
+-- and to recipient-v1 a file-key is one: "it is unknown there and answered unsupported"
+pub file-key-unknown :
+    (numbers (start .session) (start .buffers) (callsOf two-part outs (fileKey ∷ [])) ≡ 0 ∷ []) × (writtenIn two-part (start .session) (start .buffers) outs (fileKey ∷ []) ≡ (unsupportedText ∷ []) ∷ [])
+unfolding writtenIn written numbers after callsOf replyCalls sending.sent sending.sentStanza receiving-two.received receiving-two.receivedStanza replying.repliedTo commandTwo decided howMany passes isCharacter valueOf characterOf encoded decoded endsWell wrapped unwrapped all run isGraphic isWordByte before words isArgument areArguments same next verdict scan found digits readIndex afterSpace
+file-key-unknown = (refl, refl)
+
+-- ---- what the conditions of the theorem are for
+
+-- the numbers of blocks, and the state behind them
+abbrev gives : List Block → List ℕ
+gives xs = numbers (start .session) (start .buffers) (callsOf two-part outs xs)
+
+abbrev leaves : List Block → State
+leaves xs = after (start .session) (start .buffers) (callsOf two-part outs xs)
+
+-- done once and last (IsPhase), and the same last block (Rearranged): ahead of another command done refuses it
+pub done-moved : (gives (stanzaA ∷ end ∷ []) ≡ 0 ∷ 0 ∷ []) × (gives (end ∷ stanzaA ∷ []) ≡ 0 ∷ 13 ∷ [])
+unfolding numbers after callsOf replyCalls sending.sent sending.sentStanza receiving-two.received receiving-two.receivedStanza replying.repliedTo commandTwo decided howMany passes isCharacter valueOf characterOf encoded decoded endsWell wrapped unwrapped all run isGraphic isWordByte before words isArgument areArguments same next verdict scan found digits readIndex afterSpace
+done-moved = (refl, refl)
+
+-- .. and behind done no answer is due: a msg without its reply may stand at the end of an accepted list, and nowhere else
+abbrev asked : Block
+asked = alone (message .text)
+
+pub reply-due : (gives (stanzaA ∷ asked ∷ []) ≡ 0 ∷ 0 ∷ []) × (gives (asked ∷ stanzaA ∷ []) ≡ 0 ∷ 14 ∷ [])
+unfolding numbers after callsOf replyCalls sending.sent sending.sentStanza receiving-two.received receiving-two.receivedStanza replying.repliedTo commandTwo decided howMany passes isCharacter valueOf characterOf encoded decoded endsWell wrapped unwrapped all run isGraphic isWordByte before words isArgument areArguments same next verdict scan found digits readIndex afterSpace
+reply-due = (refl, refl)
+
+-- a reply stands directly behind its command (Block): not behind the next
+pub reply-moved :
+    (numbers (start .session) (start .buffers) (receive-two (message .text) out ∷ reply Ok [] out ∷ receive-two (stanzaA .text) out ∷ []) ≡ 0 ∷ 0 ∷ 0 ∷ [])
+    × (numbers (start .session) (start .buffers) (receive-two (message .text) out ∷ receive-two (stanzaA .text) out ∷ reply Ok [] out ∷ []) ≡ 0 ∷ 14 ∷ 0 ∷ [])
+unfolding numbers after callsOf replyCalls sending.sent sending.sentStanza receiving-two.received receiving-two.receivedStanza replying.repliedTo commandTwo decided howMany passes isCharacter valueOf characterOf encoded decoded endsWell wrapped unwrapped all run isGraphic isWordByte before words isArgument areArguments same next verdict scan found digits readIndex afterSpace
+reply-moved = (refl, refl)
+
+-- an unknown command that is added or dropped has no reply (isKept): with one it is refused
+pub unknown-replied : gives (record { text = unknown .text; replies = message .replies } ∷ []) ≡ 0 ∷ 14 ∷ []
+unfolding numbers after callsOf replyCalls sending.sent sending.sentStanza receiving-two.received receiving-two.receivedStanza replying.repliedTo commandTwo decided howMany passes isCharacter valueOf characterOf encoded decoded endsWell wrapped unwrapped all run isGraphic isWordByte before words isArgument areArguments same next verdict scan found digits readIndex afterSpace
+unknown-replied = refl
+
+-- the errors' own order (Rearranged): two of them exchanged are both accepted, and leave another table
+abbrev errorIdentity : Block
+errorIdentity = alone (stanzaText (lineSent Error (identityWord ++ 32 ∷ 48 ∷ [])) [])
+
+abbrev errorRecipient : Block
+errorRecipient = alone (stanzaText (lineSent Error (recipientWord ++ 32 ∷ 48 ∷ [])) [])
+
+pub errors-exchanged : (gives (errorIdentity ∷ errorRecipient ∷ []) ≡ 0 ∷ 0 ∷ []) × (gives (errorRecipient ∷ errorIdentity ∷ []) ≡ 0 ∷ 0 ∷ [])
+unfolding numbers after callsOf replyCalls sending.sent sending.sentStanza receiving-two.received receiving-two.receivedStanza replying.repliedTo commandTwo decided howMany passes isCharacter valueOf characterOf encoded decoded endsWell wrapped unwrapped all run isGraphic isWordByte before words isArgument areArguments same next verdict scan found digits readIndex afterSpace
+errors-exchanged = (refl, refl)
+
+errors-first : map (λ r. r .mark) (seen two.errors (leaves (errorIdentity ∷ errorRecipient ∷ []))) ≡ 1 ∷ 2 ∷ []
+unfolding numbers after callsOf replyCalls sending.sent sending.sentStanza receiving-two.received receiving-two.receivedStanza replying.repliedTo commandTwo decided howMany passes isCharacter valueOf characterOf encoded decoded endsWell wrapped unwrapped all run isGraphic isWordByte before words isArgument areArguments same next verdict scan found digits readIndex afterSpace
+errors-first = refl
+
+errors-second : map (λ r. r .mark) (seen two.errors (leaves (errorRecipient ∷ errorIdentity ∷ []))) ≡ 2 ∷ 1 ∷ []
+unfolding numbers after callsOf replyCalls sending.sent sending.sentStanza receiving-two.received receiving-two.receivedStanza replying.repliedTo commandTwo decided howMany passes isCharacter valueOf characterOf encoded decoded endsWell wrapped unwrapped all run isGraphic isWordByte before words isArgument areArguments same next verdict scan found digits readIndex afterSpace
+errors-second = refl
+
+pub errors-differ : SameTables (leaves (errorIdentity ∷ errorRecipient ∷ [])) (leaves (errorRecipient ∷ errorIdentity ∷ [])) → ⊥
+errors-differ same = omega (arith, ap (λ l. getD l 0 0) (sym errors-first ∙ ap (map (λ r. r .mark)) (same .errors) ∙ errors-second))
+
+-- a file's own order (Rearranged): two of its stanzas exchanged likewise
+stanzas-first : seen two.stanzas (leaves (stanzaA ∷ stanzaB ∷ [])) ≡ row 0 (97 ∷ 10 ∷ []) ∷ row 0 (98 ∷ 10 ∷ []) ∷ []
+unfolding numbers after callsOf replyCalls sending.sent sending.sentStanza receiving-two.received receiving-two.receivedStanza replying.repliedTo commandTwo decided howMany passes isCharacter valueOf characterOf encoded decoded endsWell wrapped unwrapped all run isGraphic isWordByte before words isArgument areArguments same next verdict scan found digits readIndex afterSpace
+stanzas-first = refl
+
+stanzas-second : seen two.stanzas (leaves (stanzaB ∷ stanzaA ∷ [])) ≡ row 0 (98 ∷ 10 ∷ []) ∷ row 0 (97 ∷ 10 ∷ []) ∷ []
+unfolding numbers after callsOf replyCalls sending.sent sending.sentStanza receiving-two.received receiving-two.receivedStanza replying.repliedTo commandTwo decided howMany passes isCharacter valueOf characterOf encoded decoded endsWell wrapped unwrapped all run isGraphic isWordByte before words isArgument areArguments same next verdict scan found digits readIndex afterSpace
+stanzas-second = refl
+
+pub stanzas-differ : SameTables (leaves (stanzaA ∷ stanzaB ∷ [])) (leaves (stanzaB ∷ stanzaA ∷ [])) → ⊥
+unfolding ofFile
+stanzas-differ same = omega (arith, ap (λ rs. getD (getD (map (λ r. r .payload) rs) 0 []) 0 0) (sym (ap (ofFile 0) stanzas-first) ∙ same .stanzas 0 ∙ ap (ofFile 0) stanzas-second))
+
+-- equal views of phase one (SameStart): without the second file key a stanza for file 1 names nothing
+abbrev fewer : Session
+fewer =
+    let b = lent .first in
+    moved (start .session) Two (one.applied (one.applied openedTables b (one-command.recipient 16) (97 ∷ [])) b one-command.key (replicate 16 0))
+
+pub views-differ : (gives (stanzaC ∷ []) ≡ 0 ∷ []) × (numbers fewer lent (callsOf two-part outs (stanzaC ∷ [])) ≡ 6 ∷ [])
+unfolding numbers after callsOf replyCalls sending.sent sending.sentStanza receiving-two.received receiving-two.receivedStanza replying.repliedTo commandTwo decided howMany passes isCharacter valueOf characterOf encoded decoded endsWell wrapped unwrapped all run isGraphic isWordByte before words isArgument areArguments same next verdict scan found digits readIndex afterSpace
+views-differ = (refl, refl)
+
+-- .. equal machines: a recipient-stanza is kept in the one and unknown in the other, as above; and a screen in both or in neither
+abbrev unseen : Session
+unseen = record { machine = RecipientV1; name = plugin; screen = false; phase = Two; tables = tables }
+
+pub screens-differ : (gives (message ∷ []) ≡ 0 ∷ 0 ∷ []) × (numbers unseen lent (callsOf two-part outs (message ∷ [])) ≡ 0 ∷ 14 ∷ [])
+unfolding numbers after callsOf replyCalls sending.sent sending.sentStanza receiving-two.received receiving-two.receivedStanza replying.repliedTo commandTwo decided howMany passes isCharacter valueOf characterOf encoded decoded endsWell wrapped unwrapped all run isGraphic isWordByte before words isArgument areArguments same next verdict scan found digits readIndex afterSpace
+screens-differ = (refl, refl)
+
+-- .. and buffers of equal lengths
+abbrev narrow : Buffers
+narrow = kinds.buffersOf (lent .first) (two.buffersOf [] (0 ∷ []) [])
+
+pub lengths-differ : numbers (start .session) narrow (callsOf two-part outs (stanzaA ∷ [])) ≡ 8 ∷ []
+unfolding numbers after callsOf replyCalls sending.sent sending.sentStanza receiving-two.received receiving-two.receivedStanza replying.repliedTo commandTwo decided howMany passes isCharacter valueOf characterOf encoded decoded endsWell wrapped unwrapped all run isGraphic isWordByte before words isArgument areArguments same next verdict scan found digits readIndex afterSpace
+lengths-differ = refl
+
+-- output buffers that are long enough (LongEnough): 6 bytes for "-> ok", LF, LF
+pub output-short : numbers (start .session) (start .buffers) (callsOf two-part (λ i. replicate 6 0) (stanzaA ∷ [])) ≡ 15 ∷ []
+unfolding numbers after callsOf replyCalls sending.sent sending.sentStanza receiving-two.received receiving-two.receivedStanza replying.repliedTo commandTwo decided howMany passes isCharacter valueOf characterOf encoded decoded endsWell wrapped unwrapped all run isGraphic isWordByte before words isArgument areArguments same next verdict scan found digits readIndex afterSpace
+output-short = refl
