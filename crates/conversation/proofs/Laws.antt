@@ -8,6 +8,7 @@ pub mod Answers
 pub mod CommandsTwo
 pub mod DecidedTwo
 pub mod Examples
+pub mod ExamplesTwo
 pub mod Firsts
 pub mod LeftTwo
 pub mod Limits

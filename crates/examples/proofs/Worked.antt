@@ -12,8 +12,9 @@ use Rattle.stanza.specs.Reading.{found}
 use Rattle.session.specs.Commands.{afterSpace}
 use Rattle.conversation.specs.Calls.{numbers}
 use Rattle.conversation.specs.Receiving.{received, receivedStanza}
+use Rattle.conversation.specs.Responding.{respondedAs}
 use Rattle.examples.specs.Examples.{AllHold, rows}
 
 pub worked : AllHold rows
-unfolding isCharacter valueOf characterOf encoded decoded endsWell wrapped unwrapped run isGraphic next verdict scan digits readIndex found same words before decimal decimalWith afterSpace numbers received receivedStanza
-worked = (refl, (refl, (refl, (refl, (refl, (refl, (refl, (refl, (refl, (refl, (refl, (refl, tt))))))))))))
+unfolding isCharacter valueOf characterOf encoded decoded endsWell wrapped unwrapped run isGraphic next verdict scan digits readIndex found same words before decimal decimalWith afterSpace numbers received receivedStanza respondedAs
+worked = (refl, (refl, (refl, (refl, (refl, (refl, (refl, (refl, (refl, (refl, (refl, (refl, ((refl, refl), tt)))))))))))))

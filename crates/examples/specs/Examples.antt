@@ -10,22 +10,33 @@ use Rattle.base64.specs.Lines.{linesOf}
 use Rattle.stanza.specs.Grammar.{stanzaText}
 use Rattle.stanza.specs.Index as index
 use Rattle.stanza.specs.Reading.{Reading, stanza, refused, readFirst}
+use Rattle.responses.specs.Responses.{response, responseOf}
+use Rattle.responses.specs.declared.Response.{Response}
+use Rattle.responses.specs.declared.Response.the-variants.{No}
+use Rattle.responses.specs.declared.WordTwo.{WordTwo}
+use Rattle.responses.specs.declared.WordTwo.the-variants.{Confirm}
 use Rattle.session.specs.Commands.{recipientStanza}
 use Rattle.session.specs.PhaseOne as one
+use Rattle.session.specs.PhaseOne.{openedTables}
 use Rattle.session.specs.declared.commands.Machine.the-variants.{IdentityV1}
+use Rattle.session.specs.declared.phases.Phase.the-variants.{Awaiting}
 use Rattle.conversation.specs.Calls.{Call, receive, numbers}
 use Rattle.conversation.specs.Kinds.{Buffers, buffersOf}
 use Rattle.conversation.specs.PhaseTwo as two
-use Rattle.conversation.specs.Session.{openedSession}
+use Rattle.conversation.specs.Phases.{lineIn}
+use Rattle.conversation.specs.Responding.{took-response, responded}
+use Rattle.conversation.specs.Session.{Session, moved, openedSession}
 
 -- an example: a text is read so; arguments and a body make so many bytes; so many body bytes make a line of so many characters and then these
--- bytes; a text is read as an index so; header stanzas of these files, received one behind the other, give these numbers
+-- bytes; a text is read as an index so; header stanzas of these files, received one behind the other, give these numbers; a text is this response, and
+-- the plugin end takes it as that to a command that awaits one
 pub data Row : Type 0 where
   reads : List ℕ → Reading → Row
   writes : List ℕ → List ℕ → ℕ → Row
   makes : ℕ → ℕ → List ℕ → Row
   counts : List ℕ → index.Reading → Row
   files : List ℕ → List ℕ → Row
+  answers : List ℕ → WordTwo → Response → Row
 
 -- a header stanza of a file: "recipient-stanza", the index, the tag "x"
 abbrev pub headerOf : ℕ → Call
@@ -35,6 +46,10 @@ headerOf file = receive (stanzaText (recipientStanza ++ 32 ∷ index.decimal fil
 abbrev pub buffers : Buffers
 buffers = buffersOf (one.buffersOf [] [] [] (replicate 16 0)) (two.buffersOf [] [] [])
 
+-- a plugin session that awaits the response to a command
+abbrev pub awaiting : WordTwo → Session
+awaiting w = moved (openedSession IdentityV1 (120 ∷ []) false) (Awaiting w) openedTables
+
 -- what the definitions say of it
 abbrev pub Holds : Row → Type 0
 Holds (reads text r) = readFirst text ≡ r
@@ -42,6 +57,7 @@ Holds (writes line body n) = length (stanzaText line body) ≡ n
 Holds (makes n k ending) = linesOf (replicate n 0) ≡ replicate k 65 ++ ending
 Holds (counts text r) = index.readIndex text ≡ r
 Holds (files indices ns) = numbers (openedSession IdentityV1 (120 ∷ []) false) buffers (map headerOf indices) ≡ ns
+Holds (answers text w r) = (responseOf (lineIn text) ≡ response r) × (responded (awaiting w) text [] .answer ≡ took-response r (length text) 0)
 
 abbrev pub AllHold : List Row → Type 0
 AllHold [] = Unit {0}
@@ -76,4 +92,6 @@ rows =
     -- file indices 3, 3, 7 pass; 3, 2 gives 7
     files (3 ∷ 3 ∷ 7 ∷ []) (0 ∷ 0 ∷ 0 ∷ []) ∷
     files (3 ∷ 2 ∷ []) (0 ∷ 7 ∷ []) ∷
+    -- "-> ok no", LF, LF to confirm means no
+    answers (45 ∷ 62 ∷ 32 ∷ 111 ∷ 107 ∷ 32 ∷ 110 ∷ 111 ∷ 10 ∷ 10 ∷ []) Confirm No ∷
     []

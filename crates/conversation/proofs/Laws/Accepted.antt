@@ -390,16 +390,19 @@ module _ (s : Session) (b : Buffers) where
       let n : ℕ = pick (fitsWhole w r body) 0 12 in
       let z = firstOf n (shortness body out) in
       branch (Responded line body out) numberOfResponse (eqb z 0) _ _
-      (λ f h. (r, record {
-        awaited = w;
-        turn = o;
-        writable = l;
-        named = e;
-        fitting = fit-number (fitsWhole w r body) (first-zero n (shortness body out) (eqb-true z 0 f));
-        session = refl;
-        buffers = refl;
-        written = record { fits = short-none (overflows body out) (first-iff n (shortness body out) .0 (eqb-true z 0 f) .1); output = refl; size = refl };
-      }))
+      (λ f h. (
+        r,
+        record {
+          awaited = w;
+          turn = o;
+          writable = l;
+          named = e;
+          fitting = fit-number (fitsWhole w r body) (first-zero n (shortness body out) (eqb-true z 0 f));
+          session = refl;
+          buffers = refl;
+          written = record { fits = short-none (overflows body out) (first-iff n (shortness body out) .0 (eqb-true z 0 f) .1); output = refl; size = refl };
+        },
+      ))
       (λ f. eqb-false z 0 f)
 
   respond-text : (w : WordTwo) (text out : List ℕ) (q : Reading) → s .phase ≡ Awaiting w → readFirst text ≡ q →

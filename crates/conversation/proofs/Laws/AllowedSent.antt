@@ -46,6 +46,7 @@ use Rattle.conversation.proofs.Laws.Runs.{accepted-append, enough-appen
 use Rattle.conversation.proofs.Laws.StepsTwo.{long-enough, all-written, at, Settled}
 use Rattle.conversation.proofs.Laws.SumsTwo.{With, not-any, none-any, or-false, false-or, not-is}
 use Rattle.conversation.proofs.Laws.ViewsTwo.{applied-view-two}
+use Rattle.conversation.proofs.Laws.WrittenRead.{front}
 
 -- ---- No. 19, a command that is not done
 
@@ -208,10 +209,6 @@ all-reported-iff t left cs s e =
 
 -- ---- a sending
 
--- what an accepted call writes
-written-text : (text out : List ℕ) (o : Outcome) → Written text out o → take (o .size) (o .output) ≡ text
-written-text text out o w = ap₂ take (w .size) (w .output) ∙ all-written text out (ltb-false (length out) (length text) (w .fits))
-
 -- a conditional whose test holds has the first result's number
 pick-zero : {X : Type 0} (number : X → ℕ) (f : Bool) (x y : X) → f ≡ true → number x ≡ 0 → number (pick f x y) ≡ 0
 pick-zero number true x y e h = h
@@ -253,7 +250,7 @@ module _ (s : Session) (t : Tables) (b : Buffers) (x : Exchange) where
   sent-from : (out : List ℕ) → ((big : List ℕ) → length (writtenBy (at s Two t) b (call big)) ≤ length out) → Judged → outcome (at s Two t) b (call out) .number ≡ 0
   sent-from out e j =
       let a = accepted (at s Two t) b (call text) (sent-zero text j (omega arith)) in
-      sent-zero out j (subst (λ k. k ≤ length out) (ap length (written-text text text _ (a .written))) (e text))
+      sent-zero out j (subst (λ k. k ≤ length out) (ap length (front text text _ (a .written))) (e text))
 
   -- and what it leaves
   sent-state : (out : List ℕ) → outcome (at s Two t) b (call out) .number ≡ 0 → stateOf (outcome (at s Two t) b (call out) .session) (outcome (at s Two t) b (call out) .buffers) ≡ stateOf (at s (phaseSent c) tablesSent) buffersSent
@@ -292,7 +289,7 @@ module _ (s : Session) (t : Tables) (b : Buffers) (w : WordTwo) where
   respond-from u out e f =
       let body = bodyIn u in
       let a = accepted (at s (Awaiting w) t) b (respond u body) (respond-zero u body f (omega arith)) in
-      respond-zero u out f (subst (λ k. k ≤ length out) (ap length (written-text body body _ (a .1 .written))) (e body))
+      respond-zero u out f (subst (λ k. k ≤ length out) (ap length (front body body _ (a .1 .written))) (e body))
 
   respond-state : (u out : List ℕ) → outcome (at s (Awaiting w) t) b (respond u out) .number ≡ 0 → stateOf (outcome (at s (Awaiting w) t) b (respond u out) .session) (outcome (at s (Awaiting w) t) b (respond u out) .buffers) ≡ stateOf (at s Two t) b
   respond-state u out z = let a = accepted (at s (Awaiting w) t) b (respond u out) z .1 in ap₂ stateOf (a .session) (a .buffers)
@@ -381,11 +378,11 @@ module _ (s : Session) (left : Left) (t : Tables) (b : Buffers) (x : Exchange) (
     exchange-iff : (Judged s t b x × Responded c′ (x .responses)) ↔ (RightExchange (s .machine) left x × With t (b .second) c′ p′)
     exchange-iff = (
       λ h.
-      let q = exact .0 (h .0 .1) in
-      (record { writable = h .0 .0; right = q .0; present = q .1; unheld = unheld-iff t left (g .shows) c′ (proper false d) (q .1) .0 (q .3); responded = h .1 }, q .2),
+          let q = exact .0 (h .0 .1) in
+          (record { writable = h .0 .0; right = q .0; present = q .1; unheld = unheld-iff t left (g .shows) c′ (proper false d) (q .1) .0 (q .3); responded = h .1 }, q .2),
       λ h.
-      let r = h .0 in
-      ((r .writable, exact .1 (r .right, r .present, h .1, unheld-iff t left (g .shows) c′ (proper false d) (r .present) .1 (r .unheld))), r .responded),
+          let r = h .0 in
+          ((r .writable, exact .1 (r .right, r .present, h .1, unheld-iff t left (g .shows) c′ (proper false d) (r .present) .1 (r .unheld))), r .responded),
     )
 
     module _ (outs : Supply) where
@@ -401,9 +398,11 @@ module _ (s : Session) (left : Left) (t : Tables) (b : Buffers) (x : Exchange) (
       exchange-to a h =
           let j = sent-to s t b x (outs 0) (a .0) in
           let r = exact .0 (j .1) .0 in
-          let e = waiting (a .0) r in
-          (j, awaits c′ (proper false d) r .1 (x .responses) .1
-          (responses-to s t′ b′ (wordOf c′) (skip 1 outs) (x .responses) (subst (λ u. Accepted (u .session) (u .buffers) cs) e (a .1)) (subst (λ u. Settled (after (u .session) (u .buffers) cs .session .phase)) e h)))
+          let e = waiting (a .0) r in (
+            j,
+            awaits c′ (proper false d) r .1 (x .responses) .1
+                (responses-to s t′ b′ (wordOf c′) (skip 1 outs) (x .responses) (subst (λ u. Accepted (u .session) (u .buffers) cs) e (a .1)) (subst (λ u. Settled (after (u .session) (u .buffers) cs .session .phase)) e h)),
+          )
 
       exchange-from : LongEnough (at s Two t) b (exchangeCalls outs x) → Judged s t b x → Responded c′ (x .responses) →
           Accepted (at s Two t) b (exchangeCalls outs x) × (after (at s Two t) b (exchangeCalls outs x) ≡ stateOf (at s Two t′) b′)
@@ -492,18 +491,18 @@ module _ (s : Session) (left : Left) where
       let later : Judged s t b x → Responded c (x .responses) → Accepted (at s Two t′) b′ cs ↔ (Right (xs ++ (y ∷ [])) × Fitting t′ (b′ .second) rest × AllReported left (h′ ++ rest)) =
       λ j q. sent-iff xs y t′ b′ later-outs h′ (standing-behind s left t b x g (j .1)) (named-behind s left t b x g h n (j .1)) (d .1) e (subst (λ u. LongEnough (u .session) (u .buffers) cs) (state j q) (le .1)) in (
         λ a.
-        let split-a = split .0 a in
-        let turn = first-turn (after (at s Two t) b (exchangeCalls outs x) .session) (after (at s Two t) b (exchangeCalls outs x) .buffers) later-outs xs y (split-a .1) in
-        let k = exchange-to s left t b x g (d .0) outs (split-a .0) (subst Settled (sym turn) tt) in
-        let r = i .0 k in
-        let z = later (k .0) (k .1) .0 (subst (λ u. Accepted (u .session) (u .buffers) cs) (state (k .0) (k .1)) (split-a .1)) in
-        let f = decided-iff true t (b .second) c (length p) .0 (k .0 .1) in
-        ((r .0, z .0), fitting-rest true left t (b .second) c p rest g f .1 (z .1), subst (AllReported left) more (z .2)),
+            let split-a = split .0 a in
+            let turn = first-turn (after (at s Two t) b (exchangeCalls outs x) .session) (after (at s Two t) b (exchangeCalls outs x) .buffers) later-outs xs y (split-a .1) in
+            let k = exchange-to s left t b x g (d .0) outs (split-a .0) (subst Settled (sym turn) tt) in
+            let r = i .0 k in
+            let z = later (k .0) (k .1) .0 (subst (λ u. Accepted (u .session) (u .buffers) cs) (state (k .0) (k .1)) (split-a .1)) in
+            let f = decided-iff true t (b .second) c (length p) .0 (k .0 .1) in
+            ((r .0, z .0), fitting-rest true left t (b .second) c p rest g f .1 (z .1), subst (AllReported left) more (z .2)),
         λ r.
-        let k = i .1 (r .0 .0, fitting-front t (b .second) c p rest (r .1)) in
-        let f = decided-iff true t (b .second) c (length p) .0 (k .0 .1) in
-        let z = later (k .0) (k .1) .1 (r .0 .1, fitting-rest true left t (b .second) c p rest g f .0 (r .1), subst (AllReported left) (sym more) (r .2)) in
-        split .1 (exchange-from s left t b x g (d .0) outs (le .0) (k .0) (k .1) .0, subst (λ u. Accepted (u .session) (u .buffers) cs) (sym (state (k .0) (k .1))) z),
+            let k = i .1 (r .0 .0, fitting-front t (b .second) c p rest (r .1)) in
+            let f = decided-iff true t (b .second) c (length p) .0 (k .0 .1) in
+            let z = later (k .0) (k .1) .1 (r .0 .1, fitting-rest true left t (b .second) c p rest g f .0 (r .1), subst (AllReported left) (sym more) (r .2)) in
+            split .1 (exchange-from s left t b x g (d .0) outs (le .0) (k .0) (k .1) .0, subst (λ u. Accepted (u .session) (u .buffers) cs) (sym (state (k .0) (k .1))) z),
       )
 
 -- ---- where nothing of phase two was accepted yet

@@ -251,12 +251,12 @@ module _ (s : Session) (left : Left) where
       let i = block-iff t b y (w .0) g in
       let split = accepted-append (at s Two t) b (blockCalls two-part outs y) [] in (
         λ a.
-        let h = block-to s t b y (w .0) outs le (split .0 a .0) (λ v q. absurd (done-asks (s .machine) (y .text) e v q)) in
-        let r = i .0 h in
-        ((r .0, tt), fitting-one t (b .second) (commandIn (s .machine) (y .text)) (payloadIn (s .machine) (y .text)) (r .1)),
+            let h = block-to s t b y (w .0) outs le (split .0 a .0) (λ v q. absurd (done-asks (s .machine) (y .text) e v q)) in
+            let r = i .0 h in
+            ((r .0, tt), fitting-one t (b .second) (commandIn (s .machine) (y .text)) (payloadIn (s .machine) (y .text)) (r .1)),
         λ h.
-        let z = i .1 (h .0 .0, fitting-front t (b .second) (commandIn (s .machine) (y .text)) (payloadIn (s .machine) (y .text)) [] (h .1)) in
-        split .1 (block-from s t b y (w .0) outs le (z .0) (z .1) .zeros, unfold AllZero in unfold numbers in tt),
+            let z = i .1 (h .0 .0, fitting-front t (b .second) (commandIn (s .machine) (y .text)) (payloadIn (s .machine) (y .text)) [] (h .1)) in
+            split .1 (block-from s t b y (w .0) outs le (z .0) (z .1) .zeros, unfold AllZero in unfold numbers in tt),
       )
   accepted-from (x ∷ xs) y t b outs g w d e l =
       let cs = callsOf two-part (behind outs x) (xs ++ (y ∷ [])) in
@@ -271,16 +271,16 @@ module _ (s : Session) (left : Left) where
       let later : judged s t b (x .text) (w .0) ≡ 0 → Replies → Accepted (at s Two t′) b′ cs ↔ (Right (xs ++ (y ∷ [])) × Fitting t′ (b′ .second) (saids (xs ++ (y ∷ [])))) =
       λ z q. accepted-from xs y t′ b′ (behind outs x) (standing-behind t b x (w .0) g z) (w .1) (d .1) e (subst (λ u. LongEnough (u .session) (u .buffers) cs) (state z q) (le .1)) in (
         λ a.
-        let split-a = split .0 a in
-        let turn = first-turn (after (at s Two t) b (blockCalls two-part outs x) .session) (after (at s Two t) b (blockCalls two-part outs x) .buffers) (behind outs x) xs y (split-a .1) in
-        let h = block-to s t b x (w .0) outs (le .0) (split-a .0) (λ v q. subst Settled (sym turn) tt) in
-        let r = i .0 h in
-        let rest = later (h .0) (h .1) .0 (subst (λ u. Accepted (u .session) (u .buffers) cs) (state (h .0) (h .1)) (split-a .1)) in
-        let f = decided-iff false t (b .second) (commandIn (s .machine) (x .text)) (length (payloadIn (s .machine) (x .text))) .0 (h .0) in
-        ((r .0, rest .0), fitting-rest false left t (b .second) (commandIn (s .machine) (x .text)) (payloadIn (s .machine) (x .text)) (saids (xs ++ (y ∷ []))) g f .1 (rest .1)),
+            let split-a = split .0 a in
+            let turn = first-turn (after (at s Two t) b (blockCalls two-part outs x) .session) (after (at s Two t) b (blockCalls two-part outs x) .buffers) (behind outs x) xs y (split-a .1) in
+            let h = block-to s t b x (w .0) outs (le .0) (split-a .0) (λ v q. subst Settled (sym turn) tt) in
+            let r = i .0 h in
+            let rest = later (h .0) (h .1) .0 (subst (λ u. Accepted (u .session) (u .buffers) cs) (state (h .0) (h .1)) (split-a .1)) in
+            let f = decided-iff false t (b .second) (commandIn (s .machine) (x .text)) (length (payloadIn (s .machine) (x .text))) .0 (h .0) in
+            ((r .0, rest .0), fitting-rest false left t (b .second) (commandIn (s .machine) (x .text)) (payloadIn (s .machine) (x .text)) (saids (xs ++ (y ∷ []))) g f .1 (rest .1)),
         λ h.
-        let z = i .1 (h .0 .0, fitting-front t (b .second) (commandIn (s .machine) (x .text)) (payloadIn (s .machine) (x .text)) (saids (xs ++ (y ∷ []))) (h .1)) in
-        let f = decided-iff false t (b .second) (commandIn (s .machine) (x .text)) (length (payloadIn (s .machine) (x .text))) .0 (z .0) in
-        let rest = later (z .0) (z .1) .1 (h .0 .1, fitting-rest false left t (b .second) (commandIn (s .machine) (x .text)) (payloadIn (s .machine) (x .text)) (saids (xs ++ (y ∷ []))) g f .0 (h .1)) in
-        split .1 (block-from s t b x (w .0) outs (le .0) (z .0) (z .1) .zeros, subst (λ u. Accepted (u .session) (u .buffers) cs) (sym (state (z .0) (z .1))) rest),
+            let z = i .1 (h .0 .0, fitting-front t (b .second) (commandIn (s .machine) (x .text)) (payloadIn (s .machine) (x .text)) (saids (xs ++ (y ∷ []))) (h .1)) in
+            let f = decided-iff false t (b .second) (commandIn (s .machine) (x .text)) (length (payloadIn (s .machine) (x .text))) .0 (z .0) in
+            let rest = later (z .0) (z .1) .1 (h .0 .1, fitting-rest false left t (b .second) (commandIn (s .machine) (x .text)) (payloadIn (s .machine) (x .text)) (saids (xs ++ (y ∷ []))) g f .0 (h .1)) in
+            split .1 (block-from s t b x (w .0) outs (le .0) (z .0) (z .1) .zeros, subst (λ u. Accepted (u .session) (u .buffers) cs) (sym (state (z .0) (z .1))) rest),
       )

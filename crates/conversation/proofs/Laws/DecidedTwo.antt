@@ -58,12 +58,22 @@ decided-iff own t b c n = (to, from)
 
     from : Faultless own t b c n → decided own t b c n ≡ 0
     from f =
-        first-iff (faultOf c) _ .1 (f .right,
-        test-iff (isMissing t c) 6 _ (omega arith) .1 (f .there,
-        test-iff (isSecondKey t c) 9 _ (omega arith) .1 (f .first-key,
-        test-iff (isTooMany t c) 10 _ (omega arith) .1 (f .few,
-        test-iff (isClashing t c) 11 _ (omega arith) .1 (f .apart,
-        test-iff (own && isHeldBack t c) 19 _ (omega arith) .1 (f .unheld, when-iff (isSpaceless t b c n) 8 (omega arith) .1 (f .space)))))))
+        first-iff (faultOf c) _ .1 (
+          f .right,
+          test-iff (isMissing t c) 6 _ (omega arith) .1 (
+            f .there,
+            test-iff (isSecondKey t c) 9 _ (omega arith) .1 (
+              f .first-key,
+              test-iff (isTooMany t c) 10 _ (omega arith) .1 (
+                f .few,
+                test-iff (isClashing t c) 11 _ (omega arith) .1 (
+                  f .apart,
+                  test-iff (own && isHeldBack t c) 19 _ (omega arith) .1 (f .unheld, when-iff (isSpaceless t b c n) 8 (omega arith) .1 (f .space)),
+                ),
+              ),
+            ),
+          ),
+        )
 
 -- ---- labels: what is kept of an entry beside its payload is shown by its row
 

@@ -122,9 +122,10 @@ module _ (s : Session) (b : Buffers) (j : JustReached s) (p : Phase) (h : IsPhas
   pub accepted-two-left : Accepted s b (callsOf two-part outs (blocksOf p)) →
       Grown (s .tables) b (λ k. rowsIn (s .machine) k (blocksOf p)) (after s b (callsOf two-part outs (blocksOf p))) × (writtenIn two-part s b outs (blocksOf p) ≡ map (responsesTo two-part (s .machine) (s .screen)) (blocksOf p))
   accepted-two-left a =
-      let d = left-from s (leftOf (stateOf s b)) (p .ahead) (p .last) (s .tables) b outs (begins s b j) (h .whole) (h .done-once) (h .done-last) enough-two (subst (λ s. Accepted s b (callsOf two-part outs (blocksOf p))) (sym (two-session s j)) a) in
-      (subst (λ s′. Grown (s .tables) b (λ k. rowsIn (s .machine) k (blocksOf p)) (after s′ b (callsOf two-part outs (blocksOf p)))) (two-session s j) (d .grown),
-      ap (λ s′. writtenIn two-part s′ b outs (blocksOf p)) (sym (two-session s j)) ∙ d .texts)
+      let d = left-from s (leftOf (stateOf s b)) (p .ahead) (p .last) (s .tables) b outs (begins s b j) (h .whole) (h .done-once) (h .done-last) enough-two (subst (λ s. Accepted s b (callsOf two-part outs (blocksOf p))) (sym (two-session s j)) a) in (
+        subst (λ s′. Grown (s .tables) b (λ k. rowsIn (s .machine) k (blocksOf p)) (after s′ b (callsOf two-part outs (blocksOf p)))) (two-session s j) (d .grown),
+        ap (λ s′. writtenIn two-part s′ b outs (blocksOf p)) (sym (two-session s j)) ∙ d .texts,
+      )
 
 -- ---- a block that may be added or dropped
 

@@ -34,7 +34,7 @@ use Rattle.conversation.specs.TurnsTwo.{answered}
 use Rattle.conversation.specs.ReceivingTwo.{phaseReceived}
 use Rattle.conversation.specs.SendingTwo.{phaseSent}
 use Rattle.conversation.specs.Calls.{Call, receive, send, receive-two, reply, send-two, respond, Outcome, outcome, sessionAfter, after, lineRead, bodyRead}
-use Rattle.conversation.specs.Phases.{Lent, afterLent, JustDone}
+use Rattle.conversation.specs.Phases.{CallWith, afterEach, JustDone}
 use Rattle.conversation.proofs.Laws.Accepted.{Applied, AppliedTwo, commandAt, payloadAt, AcceptedBy, accepted}
 use Rattle.conversation.proofs.Laws.Refusals.{refusal}
 use Rattle.conversation.proofs.Laws.ViewsTwo.{ReachedTwo, opened-reached-two, applied-reached-two, payload-stored-two, one-leaves, two-leaves, KeptAs}
@@ -262,10 +262,10 @@ after-reached s b [] r = r
 after-reached s b (c ∷ cs) r = after-reached (outcome s b c .session) (outcome s b c .buffers) cs (call-reached s b c r)
 
 -- also where each call is lent its own buffers
-pub lent-reached : (s : Session) (cs : List Lent) → ReachedSession s → ReachedSession (afterLent s cs)
-unfolding afterLent
-lent-reached s [] r = r
-lent-reached s (c ∷ cs) r = lent-reached (outcome s (c .buffers) (c .call) .session) cs (call-reached s (c .buffers) (c .call) r)
+pub each-reached : (s : Session) (cs : List CallWith) → ReachedSession s → ReachedSession (afterEach s cs)
+unfolding afterEach
+each-reached s [] r = r
+each-reached s (c ∷ cs) r = each-reached (outcome s (c .buffers) (c .call) .session) cs (call-reached s (c .buffers) (c .call) r)
 
 -- ---- a session that has just sent or received done
 
@@ -307,5 +307,5 @@ just-heard s b text r z d =
 
 pub just-done : (s : Session) → JustDone s → JustReached s
 just-done s j =
-    just-from (afterLent (opened (j .machine) (j .name) (j .screen) .session) (j .before)) s (j .buffers) (j .word) (j .arguments) (j .body) (j .out)
-    (lent-reached (opened (j .machine) (j .name) (j .screen) .session) (j .before) (opening-reached (j .machine) (j .name) (j .screen))) (j .is-done) (j .accepted) (j .reached)
+    just-from (afterEach (opened (j .machine) (j .name) (j .screen) .session) (j .before)) s (j .buffers) (j .word) (j .arguments) (j .body) (j .out)
+    (each-reached (opened (j .machine) (j .name) (j .screen) .session) (j .before) (opening-reached (j .machine) (j .name) (j .screen))) (j .is-done) (j .accepted) (j .reached)

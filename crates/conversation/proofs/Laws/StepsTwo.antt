@@ -306,8 +306,9 @@ module _ (s : Session) (t : Tables) (b : Buffers) (x : Block) (w : Whole (x .tex
     block-to a h =
         let z = text-iff s t b (x .text) w (outs 0) enough .0 (a .0) in
         let es = text-session s t b (x .text) w (outs 0) enough z in
-        let eb = text-buffers s t b (x .text) w (outs 0) enough z in
-        (z,
-        replies-to s (tablesWith s t b (x .text) w) (buffersWith s t b (x .text) w) c′ (s .screen) (skip 1 outs) (x .replies)
-        (subst (λ n. AllZero n) (ap₂ (λ s b. numbers s b (replyCalls (skip 1 outs) (x .replies))) es eb) (a .1)) (rest-enough z)
-        (λ v e. subst (λ y. Settled (y .session .phase)) (ap₂ (λ s b. after s b (replyCalls (skip 1 outs) (x .replies))) es eb) (h v e)))
+        let eb = text-buffers s t b (x .text) w (outs 0) enough z in (
+          z,
+          replies-to s (tablesWith s t b (x .text) w) (buffersWith s t b (x .text) w) c′ (s .screen) (skip 1 outs) (x .replies)
+              (subst (λ n. AllZero n) (ap₂ (λ s b. numbers s b (replyCalls (skip 1 outs) (x .replies))) es eb) (a .1)) (rest-enough z)
+              (λ v e. subst (λ y. Settled (y .session .phase)) (ap₂ (λ s b. after s b (replyCalls (skip 1 outs) (x .replies))) es eb) (h v e)),
+        )
