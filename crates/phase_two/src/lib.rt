@@ -1,5 +1,6 @@
 // Phase two, as both ends keep it: its commands, what is decided of them, what they do to the tables, and its responses.
 mod commands;
+mod questions;
 
 pub use commands::CommandTwo;
 pub use commands::Named;
