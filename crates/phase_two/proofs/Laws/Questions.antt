@@ -102,3 +102,27 @@ module _ (q : Label → Bool) (t : Table) where
   -- none at all
   pub any-none : (i : ℕ) → left i ≡ howMany q (labels t) → length (labels t) ≤ i → false ≡ isAny q (labels t)
   any-none i e h = let a = left-end i h in sym (le-ltb 0 (howMany q (labels t)) (omega arith))
+
+-- ---- each that fails a test has had its error: what is left, from a slot on
+
+module _ (q : Label → Bool) (mark : ℕ) (t : Table) (es : List Label) where
+  -- of those from a slot on
+  abbrev pub reported : ℕ → Bool
+  reported i = areReported q mark i (drop i (labels t)) es
+
+  reported-at : (i : ℕ) → i < length (labels t) → reported i ≡ ((not (q (slotLabel t i)) || isAny (isNaming mark i) es) && reported (i + 1))
+  unfolding areReported
+  reported-at i h = rw (labels-at t i h)
+
+  -- one that has not
+  pub reported-not : (i : ℕ) → reported i ≡ reported 0 → i < length (labels t) → (not (q (slotLabel t i)) || isAny (isNaming mark i) es) ≡ false → false ≡ reported 0
+  reported-not i e h p = sym (ap (λ b. b && reported (i + 1)) p) ∙ sym (reported-at i h) ∙ e
+
+  -- one that has
+  pub reported-on : (i : ℕ) → reported i ≡ reported 0 → i < length (labels t) → (not (q (slotLabel t i)) || isAny (isNaming mark i) es) ≡ true → reported (i + 1) ≡ reported 0
+  reported-on i e h p = sym (ap (λ b. b && reported (i + 1)) p) ∙ sym (reported-at i h) ∙ e
+
+  -- all have
+  pub reported-all : (i : ℕ) → reported i ≡ reported 0 → length (labels t) ≤ i → true ≡ reported 0
+  unfolding areReported
+  reported-all i e h = sym (ap (λ ls. areReported q mark i ls es) (labels-end t i h)) ∙ e
