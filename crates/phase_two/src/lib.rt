@@ -1,6 +1,8 @@
 // Phase two, as both ends keep it: its commands, what is decided of them, what they do to the tables, and its responses.
 mod commands;
+mod decision;
 mod questions;
 
 pub use commands::CommandTwo;
 pub use commands::Named;
+pub use decision::decide_two;

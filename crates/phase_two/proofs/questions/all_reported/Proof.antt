@@ -1,3 +1,5 @@
+use borrow.Author.Tests.{not-true, not-false}
+use mathlib.Core.Path.{sym, _∙_}
 use borrow.Author.Needs.{needs}
 use Rattle.phase_two.proofs.questions.all_reported.Statement.{statement}
 use Rattle.phase_two.proofs.questions.all_reported.Tie as tie
@@ -12,7 +14,7 @@ are-reported-requires c κs = search needs
 
 -- src/questions.rt:234:9
 returns : tie.Need-returns
-returns c = ?
+returns c = rw (sym (c .before .are-reported .ensures) ∙ not-true _ (c .if1 .taken))
 
 -- src/questions.rt:236:9
 are-reported-requires-2 : tie.Need-are-reported-requires-2
@@ -20,7 +22,7 @@ are-reported-requires-2 c κs = search needs
 
 -- src/questions.rt:237:9
 returns-2 : tie.Need-returns-2
-returns-2 c = ?
+returns-2 c = rw (sym (c .before .before .before .are-reported .ensures) ∙ not-false _ (c .before .before .if1 .left), sym (c .before .are-reported2 .ensures) ∙ not-true _ (c .if2 .taken))
 
 -- src/questions.rt:239:5
 are-headers-reported-requires : tie.Need-are-headers-reported-requires
@@ -28,7 +30,7 @@ are-headers-reported-requires c κs = search needs
 
 -- src/questions.rt:229:1
 returns-3 : tie.Need-returns-3
-returns-3 c = ?
+returns-3 c = rw (sym (c .before .before .before .before .are-reported .ensures) ∙ not-false _ (c .before .before .before .if1 .left), sym (c .before .before .are-reported2 .ensures) ∙ not-false _ (c .before .if2 .left)) (c .are-headers-reported .ensures)
 
 pub all-reported-spec : {M : Type 1} → statement M
 all-reported-spec =

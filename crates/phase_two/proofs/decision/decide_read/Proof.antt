@@ -1,0 +1,81 @@
+use borrow.Author.Needs.{needs}
+use Rattle.phase_two.proofs.decision.decide_read.Statement.{statement}
+use Rattle.phase_two.proofs.decision.decide_read.Tie as tie
+use Rattle.phase_two.proofs.decision.decide_read.Reads as reads
+use Rattle.phase_two.proofs.decision.decide_read.Lts as lts
+use Rattle.phase_two.proofs.decision.is_clashing.Reads as is-clashing-reads
+use Rattle.phase_two.proofs.decision.is_held_by.Reads as is-held-by-reads
+use Rattle.phase_two.proofs.decision.is_missing.Reads as is-missing-reads
+use Rattle.phase_two.proofs.decision.is_second_key.Reads as is-second-key-reads
+use Rattle.phase_two.proofs.decision.is_spaceless.Reads as is-spaceless-reads
+use Rattle.phase_two.proofs.decision.is_too_many.Reads as is-too-many-reads
+
+-- src/decision.rt:292:8
+is-missing-requires : tie.Need-is-missing-requires
+is-missing-requires c κs = search needs
+
+-- src/decision.rt:293:9
+returns : tie.Need-returns
+returns c = ?
+
+-- src/decision.rt:295:8
+is-second-key-requires : tie.Need-is-second-key-requires
+is-second-key-requires c κs = search needs
+
+-- src/decision.rt:296:9
+returns-2 : tie.Need-returns-2
+returns-2 c = ?
+
+-- src/decision.rt:298:8
+is-too-many-requires : tie.Need-is-too-many-requires
+is-too-many-requires c κs = search needs
+
+-- src/decision.rt:299:9
+returns-3 : tie.Need-returns-3
+returns-3 c = ?
+
+-- src/decision.rt:301:8
+is-clashing-requires : tie.Need-is-clashing-requires
+is-clashing-requires c κs = search needs
+
+-- src/decision.rt:302:9
+returns-4 : tie.Need-returns-4
+returns-4 c = ?
+
+-- src/decision.rt:304:8
+is-held-by-requires : tie.Need-is-held-by-requires
+is-held-by-requires c κs = search needs
+
+-- src/decision.rt:305:9
+returns-5 : tie.Need-returns-5
+returns-5 c = ?
+
+-- src/decision.rt:307:8
+is-spaceless-requires : tie.Need-is-spaceless-requires
+is-spaceless-requires c κs = search needs
+
+-- src/decision.rt:308:9
+returns-6 : tie.Need-returns-6
+returns-6 c = ?
+
+-- src/decision.rt:281:1
+returns-7 : tie.Need-returns-7
+returns-7 c = ?
+
+pub decide-read-spec : {M : Type 1} → statement M
+decide-read-spec =
+    tie.close
+    (tie.spec
+    is-missing-requires
+    returns
+    is-second-key-requires
+    returns-2
+    is-too-many-requires
+    returns-3
+    is-clashing-requires
+    returns-4
+    is-held-by-requires
+    returns-5
+    is-spaceless-requires
+    returns-6
+    returns-7)

@@ -1,0 +1,15 @@
+use Rattle.phase_two.proofs.decision.is_full.Statement.{statement}
+use Rattle.phase_two.proofs.decision.is_full.Tie as tie
+use Rattle.phase_two.proofs.decision.is_full.Reads as reads
+use Rattle.phase_two.proofs.decision.is_full.Lts as lts
+
+-- src/decision.rt:84:9
+returns : tie.Need-returns
+returns c = ?
+
+-- src/decision.rt:80:1
+returns-2 : tie.Need-returns-2
+returns-2 c = ?
+
+pub is-full-spec : {M : Type 1} → statement M
+is-full-spec = tie.close (tie.spec returns returns-2)
