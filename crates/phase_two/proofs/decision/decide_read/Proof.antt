@@ -1,3 +1,5 @@
+use Rattle.conversation.specs.PhaseTwo.{decided}
+use mathlib.Core.Path.{sym, ap, _∙_}
 use borrow.Author.Needs.{needs}
 use Rattle.phase_two.proofs.decision.decide_read.Statement.{statement}
 use Rattle.phase_two.proofs.decision.decide_read.Tie as tie
@@ -16,7 +18,8 @@ is-missing-requires c κs = search needs
 
 -- src/decision.rt:293:9
 returns : tie.Need-returns
-returns c = ?
+unfolding decided
+returns c = λ z. rw (z, sym (c .before .is-missing .ensures) ∙ c .if1 .taken)
 
 -- src/decision.rt:295:8
 is-second-key-requires : tie.Need-is-second-key-requires
@@ -24,7 +27,8 @@ is-second-key-requires c κs = search needs
 
 -- src/decision.rt:296:9
 returns-2 : tie.Need-returns-2
-returns-2 c = ?
+unfolding decided
+returns-2 c = λ z. rw (z, sym (c .before .before .before .is-missing .ensures) ∙ c .before .before .if1 .left, sym (c .before .is-second-key .ensures) ∙ c .if2 .taken)
 
 -- src/decision.rt:298:8
 is-too-many-requires : tie.Need-is-too-many-requires
@@ -32,7 +36,8 @@ is-too-many-requires c κs = search needs
 
 -- src/decision.rt:299:9
 returns-3 : tie.Need-returns-3
-returns-3 c = ?
+unfolding decided
+returns-3 c = λ z. rw (z, sym (c .before .before .before .before .before .is-missing .ensures) ∙ c .before .before .before .before .if1 .left, sym (c .before .before .before .is-second-key .ensures) ∙ c .before .before .if2 .left, sym (c .before .is-too-many .ensures) ∙ c .if3 .taken)
 
 -- src/decision.rt:301:8
 is-clashing-requires : tie.Need-is-clashing-requires
@@ -40,7 +45,8 @@ is-clashing-requires c κs = search needs
 
 -- src/decision.rt:302:9
 returns-4 : tie.Need-returns-4
-returns-4 c = ?
+unfolding decided
+returns-4 c = λ z. rw (z, sym (c .before .before .before .before .before .before .before .is-missing .ensures) ∙ c .before .before .before .before .before .before .if1 .left, sym (c .before .before .before .before .before .is-second-key .ensures) ∙ c .before .before .before .before .if2 .left, sym (c .before .before .before .is-too-many .ensures) ∙ c .before .before .if3 .left, sym (c .before .is-clashing .ensures) ∙ c .if4 .taken)
 
 -- src/decision.rt:304:8
 is-held-by-requires : tie.Need-is-held-by-requires
@@ -48,7 +54,8 @@ is-held-by-requires c κs = search needs
 
 -- src/decision.rt:305:9
 returns-5 : tie.Need-returns-5
-returns-5 c = ?
+unfolding decided
+returns-5 c = λ z. rw (z, sym (c .before .before .before .before .before .before .before .before .before .is-missing .ensures) ∙ c .before .before .before .before .before .before .before .before .if1 .left, sym (c .before .before .before .before .before .before .before .is-second-key .ensures) ∙ c .before .before .before .before .before .before .if2 .left, sym (c .before .before .before .before .before .is-too-many .ensures) ∙ c .before .before .before .before .if3 .left, sym (c .before .before .before .is-clashing .ensures) ∙ c .before .before .if4 .left, sym (c .before .is-held-by .ensures) ∙ c .if5 .taken)
 
 -- src/decision.rt:307:8
 is-spaceless-requires : tie.Need-is-spaceless-requires
@@ -56,11 +63,13 @@ is-spaceless-requires c κs = search needs
 
 -- src/decision.rt:308:9
 returns-6 : tie.Need-returns-6
-returns-6 c = ?
+unfolding decided
+returns-6 c = λ z. rw (z, sym (c .before .before .before .before .before .before .before .before .before .before .before .is-missing .ensures) ∙ c .before .before .before .before .before .before .before .before .before .before .if1 .left, sym (c .before .before .before .before .before .before .before .before .before .is-second-key .ensures) ∙ c .before .before .before .before .before .before .before .before .if2 .left, sym (c .before .before .before .before .before .before .before .is-too-many .ensures) ∙ c .before .before .before .before .before .before .if3 .left, sym (c .before .before .before .before .before .is-clashing .ensures) ∙ c .before .before .before .before .if4 .left, sym (c .before .before .before .is-held-by .ensures) ∙ c .before .before .if5 .left, sym (c .before .is-spaceless .ensures) ∙ c .if6 .taken)
 
 -- src/decision.rt:281:1
 returns-7 : tie.Need-returns-7
-returns-7 c = ?
+unfolding decided
+returns-7 c = λ z. rw (z, sym (c .before .before .before .before .before .before .before .before .before .before .before .is-missing .ensures) ∙ c .before .before .before .before .before .before .before .before .before .before .if1 .left, sym (c .before .before .before .before .before .before .before .before .before .is-second-key .ensures) ∙ c .before .before .before .before .before .before .before .before .if2 .left, sym (c .before .before .before .before .before .before .before .is-too-many .ensures) ∙ c .before .before .before .before .before .before .if3 .left, sym (c .before .before .before .before .before .is-clashing .ensures) ∙ c .before .before .before .before .if4 .left, sym (c .before .before .before .is-held-by .ensures) ∙ c .before .before .if5 .left, sym (c .before .is-spaceless .ensures) ∙ c .if6 .left)
 
 pub decide-read-spec : {M : Type 1} → statement M
 decide-read-spec =

@@ -1,3 +1,7 @@
+use Rattle.refusal.proofs.Laws.Number.{number-not-zero}
+use Rattle.session.specs.PhaseOne.{verdictSaid}
+use Rattle.conversation.specs.PhaseTwo.{decided}
+use mathlib.Core.Path.{sym, ap, _∙_}
 use borrow.Author.Needs.{needs}
 use Rattle.phase_two.proofs.decision.decide_two.Statement.{statement}
 use Rattle.phase_two.proofs.decision.decide_two.Tie as tie
@@ -24,11 +28,12 @@ decide-read-requires c κs = search needs
 
 -- src/decision.rt:262:1
 returns : tie.Need-returns
-returns c = ?
+unfolding decided
+returns c = rw (sym (c .before .before .fault-of .ensures), c .enum-told .given .1, number-not-zero (c .enum-told .given .0 .0))
 
 -- src/decision.rt:262:1
 returns-2 : tie.Need-returns-2
-returns-2 c = ?
+returns-2 c = c .decide-read .ensures (sym (c .before .before .before .fault-of .ensures) ∙ ap verdictSaid (c .before .enum-told2 .given .1))
 
 pub decide-two-spec : {M : Type 1} → statement M
 decide-two-spec =

@@ -1,3 +1,6 @@
+use lib.Dec.{ltb}
+use mathlib.Core.Bool.{not}
+use mathlib.Core.Path.{sym, ap, _∙_}
 use borrow.Author.Needs.{needs}
 use Rattle.phase_two.proofs.decision.is_beyond.Statement.{statement}
 use Rattle.phase_two.proofs.decision.is_beyond.Tie as tie
@@ -11,7 +14,7 @@ wide-requires c κs = search needs
 
 -- src/decision.rt:31:1
 returns : tie.Need-returns
-returns c = ?
+returns c = ap (λ i. not (ltb i (c .before .args .count))) (c .wide .ensures)
 
 pub is-beyond-spec : {M : Type 1} → statement M
 is-beyond-spec = tie.close (tie.spec wide-requires returns)

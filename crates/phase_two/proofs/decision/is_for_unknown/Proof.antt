@@ -32,19 +32,19 @@ is-unknown-at-requires c κs = search needs
 
 -- src/decision.rt:200:1
 returns : tie.Need-returns
-returns c = ?
+returns c = rw (c .enum-told .given .1)
 
 -- src/decision.rt:200:1
 returns-2 : tie.Need-returns-2
-returns-2 c = ?
+returns-2 c = rw (c .enum-told2 .given .1)
 
 -- src/decision.rt:200:1
 returns-3 : tie.Need-returns-3
-returns-3 c = ?
+returns-3 c = rw (c .enum-told3 .given .1)
 
 -- src/decision.rt:200:1
 returns-4 : tie.Need-returns-4
-returns-4 c = ?
+returns-4 c = rw (c .before .before .before .named .given .1) (rw (c .before .wide .ensures) at (c .is-unknown-at .ensures))
 
 pub is-for-unknown-spec : {M : Type 1} → statement M
 is-for-unknown-spec =

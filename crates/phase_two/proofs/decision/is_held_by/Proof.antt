@@ -11,11 +11,11 @@ is-held-back-requires c κs = search needs
 
 -- src/decision.rt:256:9
 returns : tie.Need-returns
-returns c = ?
+returns c = rw (c .before .if1 .taken) (c .is-held-back .ensures)
 
 -- src/decision.rt:252:1
 returns-2 : tie.Need-returns-2
-returns-2 c = ?
+returns-2 c = rw (c .if1 .left)
 
 pub is-held-by-spec : {M : Type 1} → statement M
 is-held-by-spec = tie.close (tie.spec is-held-back-requires returns returns-2)

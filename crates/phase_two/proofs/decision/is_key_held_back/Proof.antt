@@ -1,3 +1,4 @@
+use mathlib.Core.Path.{sym, ap, _∙_}
 use borrow.Author.Needs.{needs}
 use Rattle.phase_two.proofs.decision.is_key_held_back.Statement.{statement}
 use Rattle.phase_two.proofs.decision.is_key_held_back.Tie as tie
@@ -12,7 +13,7 @@ has-invalid-requires c κs = search needs
 
 -- src/decision.rt:216:9
 returns : tie.Need-returns
-returns c = ?
+returns c = rw (sym (c .before .has-invalid .ensures) ∙ c .if1 .taken)
 
 -- src/decision.rt:218:5
 has-nonconforming-requires : tie.Need-has-nonconforming-requires
@@ -20,7 +21,7 @@ has-nonconforming-requires c κs = search needs
 
 -- src/decision.rt:212:1
 returns-2 : tie.Need-returns-2
-returns-2 c = ?
+returns-2 c = rw (sym (c .before .before .has-invalid .ensures) ∙ c .before .if1 .left) (c .has-nonconforming .ensures)
 
 pub is-key-held-back-spec : {M : Type 1} → statement M
 is-key-held-back-spec =

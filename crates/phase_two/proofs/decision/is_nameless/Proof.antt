@@ -1,3 +1,5 @@
+use mathlib.Core.Bool.{not}
+use mathlib.Core.Path.{sym, ap, _∙_}
 use borrow.Author.Needs.{needs}
 use Rattle.phase_two.proofs.decision.is_nameless.Statement.{statement}
 use Rattle.phase_two.proofs.decision.is_nameless.Tie as tie
@@ -45,19 +47,19 @@ belongs-to-requires c κs = search needs
 
 -- src/decision.rt:38:1
 returns : tie.Need-returns
-returns c = ?
+returns c = rw (c .enum-told .given .1)
 
 -- src/decision.rt:38:1
 returns-2 : tie.Need-returns-2
-returns-2 c = ?
+returns-2 c = rw (c .before .before .named .given .1) (c .is-beyond .ensures)
 
 -- src/decision.rt:38:1
 returns-3 : tie.Need-returns-3
-returns-3 c = ?
+returns-3 c = rw (c .before .before .named2 .given .1) (c .is-beyond2 .ensures)
 
 -- src/decision.rt:38:1
 returns-4 : tie.Need-returns-4
-returns-4 c = ?
+returns-4 c = rw (c .before .before .before .before .named3 .given .1) (ap not (rw (c .before .before .wide .ensures, c .before .wide2 .ensures) at (c .belongs-to .ensures)))
 
 pub is-nameless-spec : {M : Type 1} → statement M
 is-nameless-spec =

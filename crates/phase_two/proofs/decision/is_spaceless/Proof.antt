@@ -47,31 +47,31 @@ enum-told-7 c = search needs
 
 -- src/decision.rt:159:1
 returns : tie.Need-returns
-returns c = ?
+returns c = rw (c .before .before .enum-told .given .1) (c .has-no-space .ensures)
 
 -- src/decision.rt:159:1
 returns-2 : tie.Need-returns-2
-returns-2 c = ?
+returns-2 c = rw (c .before .before .enum-told2 .given .1) (c .has-no-space2 .ensures)
 
 -- src/decision.rt:159:1
 returns-3 : tie.Need-returns-3
-returns-3 c = ?
+returns-3 c = rw (c .before .before .enum-told3 .given .1) (c .has-no-space3 .ensures)
 
 -- src/decision.rt:159:1
 returns-4 : tie.Need-returns-4
-returns-4 c = ?
+returns-4 c = rw (c .enum-told4 .given .1)
 
 -- src/decision.rt:159:1
 returns-5 : tie.Need-returns-5
-returns-5 c = ?
+returns-5 c = rw (c .enum-told5 .given .1)
 
 -- src/decision.rt:159:1
 returns-6 : tie.Need-returns-6
-returns-6 c = ?
+returns-6 c = rw (c .enum-told6 .given .1)
 
 -- src/decision.rt:159:1
 returns-7 : tie.Need-returns-7
-returns-7 c = ?
+returns-7 c = rw (c .enum-told7 .given .1)
 
 pub is-spaceless-spec : {M : Type 1} → statement M
 is-spaceless-spec =
