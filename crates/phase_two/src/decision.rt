@@ -47,7 +47,7 @@ fn is_nameless(tables: Tables, named: Named) -> bool
 }
 
 // 6: an index names nothing.
-pub fn is_missing(tables: Tables, command: CommandTwo) -> bool
+fn is_missing(tables: Tables, command: CommandTwo) -> bool
     ensures { λ r. ⌜ r ≡ isMissing (tablesOf tables) (commandSaid command) ⌝ }
 {
     match command {
@@ -62,7 +62,7 @@ pub fn is_missing(tables: Tables, command: CommandTwo) -> bool
 }
 
 // 9: a second key for a file.
-pub fn is_second_key(tables: Tables, command: CommandTwo) -> bool
+fn is_second_key(tables: Tables, command: CommandTwo) -> bool
     ensures { λ r. ⌜ r ≡ isSecondKey (tablesOf tables) (commandSaid command) ⌝ }
 {
     match command {
@@ -87,7 +87,7 @@ fn is_full(recipients: usize, identities: usize, n: usize) -> bool
 }
 
 // 10: too many stanzas for a file.
-pub fn is_too_many(tables: Tables, command: CommandTwo) -> bool
+fn is_too_many(tables: Tables, command: CommandTwo) -> bool
     ensures { λ r. ⌜ r ≡ isTooMany (tablesOf tables) (commandSaid command) ⌝ }
 {
     match command {
@@ -128,7 +128,7 @@ fn is_against_work(tables: Tables, named: Named) -> bool
 }
 
 // 11: work and error together.
-pub fn is_clashing(tables: Tables, command: CommandTwo) -> bool
+fn is_clashing(tables: Tables, command: CommandTwo) -> bool
     ensures { λ r. ⌜ r ≡ isClashing (tablesOf tables) (commandSaid command) ⌝ }
 {
     match command {
@@ -156,7 +156,7 @@ fn has_no_space(count: usize, width: usize, used: usize, n: usize, capacity: usi
 }
 
 // 8: no slot, or the buffer is too short for a payload of n bytes.
-pub fn is_spaceless(
+fn is_spaceless(
     tables: Tables,
     command: CommandTwo,
     n: usize,
@@ -219,7 +219,7 @@ fn is_key_held_back(tables: Tables, file: usize) -> bool
 }
 
 // 19: the plugin end holds the command back.
-pub fn is_held_back(tables: Tables, command: CommandTwo) -> bool
+fn is_held_back(tables: Tables, command: CommandTwo) -> bool
     ensures { λ r. ⌜ r ≡ isHeldBack (tablesOf tables) (commandSaid command) ⌝ }
 {
     match command {
@@ -258,26 +258,7 @@ fn is_held_by(own: bool, tables: Tables, command: CommandTwo) -> bool
     false
 }
 
-// What is decided of a command with a payload of n bytes, by the buffers: the first of its faults. `own` is the plugin's own sending.
-pub fn decide_two(
-    own: bool,
-    tables: Tables,
-    command: CommandTwo,
-    n: usize,
-    errors: &[u8],
-    stanzas: &[u8],
-    returned: &[u8],
-) -> Verdict
-    ensures { λ r. ⌜ verdictSaid r ≡ decided own (tablesOf tables) (buffersOf (now (errors .entry)) (now (stanzas .entry)) (now (returned .entry))) (commandSaid command) n ⌝ }
-{
-    let fault = fault_of(command);
-    match fault {
-        Verdict::Refused(_) => fault,
-        Verdict::Accepted => decide_read(own, tables, command, n, errors, stanzas, returned),
-    }
-}
-
-// The same of a command that was read right: 6, 9, 10, 11, at the plugin's own sending 19, then 8.
+// Of a command that was read right: 6, 9, 10, 11, at the plugin's own sending 19, then 8.
 fn decide_read(
     own: bool,
     tables: Tables,
@@ -308,4 +289,23 @@ fn decide_read(
         return Verdict::Refused(Refusal::NoSpace);
     }
     Verdict::Accepted
+}
+
+// What is decided of a command with a payload of n bytes, by the tables and the buffers: the first of its faults. `own` is the plugin's own sending.
+pub fn decide_two(
+    own: bool,
+    tables: Tables,
+    command: CommandTwo,
+    n: usize,
+    errors: &[u8],
+    stanzas: &[u8],
+    returned: &[u8],
+) -> Verdict
+    ensures { λ r. ⌜ verdictSaid r ≡ decided own (tablesOf tables) (buffersOf (now (errors .entry)) (now (stanzas .entry)) (now (returned .entry))) (commandSaid command) n ⌝ }
+{
+    let fault = fault_of(command);
+    match fault {
+        Verdict::Refused(_) => fault,
+        Verdict::Accepted => decide_read(own, tables, command, n, errors, stanzas, returned),
+    }
 }

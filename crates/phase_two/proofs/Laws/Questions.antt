@@ -3,12 +3,11 @@ use Prim.Native.Nat.{ℕ, zero, suc, _+_, _<_, _≤_, min}
 use mathlib.Core.Path.{_≡_, refl, sym, ap, _∙_}
 use mathlib.Core.Bool.{Bool, true, false, not, _&&_, _||_}
 use mathlib.Core.List.{List, [], _∷_, map}
-use lib.Dec.{ltb, leb, eqb}
 use lib.ListN.{length, take, drop, getD, length-take, length-map, drop-of-length-le, List·getD-map}
 use lib.Seq.{drop-cons, getD-take}
 use native.Mathlib.Numerals.{add-one}
 use native.Mathlib.Omega.{arith}
-use borrow.Author.Tests.{lt-ltb, le-ltb, le-leb, lt-leb}
+use borrow.Author.Tests.{lt-ltb, le-ltb}
 use Rattle.refusal.specs.Pick.{pick}
 use Rattle.tables.specs.declared.tables.Entry.{Entry}
 use Rattle.tables.specs.Tables.{Table, empty}
@@ -17,10 +16,10 @@ use Rattle.conversation.specs.PhaseTwo.{Label, labelOf, labels, howMany, isAny,
 -- ---- how many labels there are
 
 -- owning an array of structs tells the length of the list of their tuples
-pub sized : {X Y : Type 0} (f : X → Y) (l : List X) (n : ℕ) → length (map f l) ≡ n → length l ≡ n
+sized : {X Y : Type 0} (f : X → Y) (l : List X) (n : ℕ) → length (map f l) ≡ n → length l ≡ n
 sized f l n e = sym (length-map l f) ∙ e
 
-pub labels-count : (t : Table) → length (labels t) ≡ min (t .count) (length (t .slots))
+labels-count : (t : Table) → length (labels t) ≡ min (t .count) (length (t .slots))
 labels-count t = length-map (take (t .count) (t .slots)) labelOf ∙ length-take (t .count) (t .slots)
 
 pub entries-are : {Y : Type 0} (f : Entry → Y) (t : Table) (n w : ℕ) → length (map f (t .slots)) ≡ w → n ≡ min (t .count) w → (n ≡ length (labels t)) × (n ≤ w)
@@ -38,10 +37,10 @@ module _ (t : Table) (i : ℕ) where
       let c = labels-count t in
       List·getD-map labelOf (take (t .count) (t .slots)) i empty ∙ ap labelOf (getD-take (t .count) (t .slots) i empty (omega arith))
 
-  pub labels-at : i < length (labels t) → drop i (labels t) ≡ slotLabel t i ∷ drop (i + 1) (labels t)
+  labels-at : i < length (labels t) → drop i (labels t) ≡ slotLabel t i ∷ drop (i + 1) (labels t)
   labels-at h = rw (add-one, drop-cons (labels t) i (labelOf empty), label-is)
 
-  pub labels-end : length (labels t) ≤ i → drop i (labels t) ≡ []
+  labels-end : length (labels t) ≤ i → drop i (labels t) ≡ []
   labels-end h = drop-of-length-le (labels t) {i = i} h
 
 -- ---- a label that passes
@@ -72,10 +71,7 @@ module _ (q : Label → Bool) (t : Table) where
   abbrev pub left : ℕ → ℕ
   left i = howMany q (drop i (labels t))
 
-  pub left-all : left 0 ≡ howMany q (labels t)
-  left-all = refl
-
-  pub left-at : (i : ℕ) → i < length (labels t) → left i ≡ pick (q (slotLabel t i)) 1 0 + left (i + 1)
+  left-at : (i : ℕ) → i < length (labels t) → left i ≡ pick (q (slotLabel t i)) 1 0 + left (i + 1)
   unfolding howMany
   left-at i h = rw (labels-at t i h)
 

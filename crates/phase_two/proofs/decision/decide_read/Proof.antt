@@ -1,5 +1,5 @@
 use Rattle.conversation.specs.PhaseTwo.{decided}
-use mathlib.Core.Path.{sym, ap, _∙_}
+use mathlib.Core.Path.{sym, _∙_}
 use borrow.Author.Needs.{needs}
 use Rattle.phase_two.proofs.decision.decide_read.Statement.{statement}
 use Rattle.phase_two.proofs.decision.decide_read.Tie as tie

@@ -1,7 +1,7 @@
 use Rattle.session.proofs.Laws.PhaseOne.{no-slot, no-capacity, space-is}
 use native.Mathlib.Omega.{arith}
 use mathlib.Core.Bool.{not}
-use mathlib.Core.Path.{sym, ap, _∙_}
+use mathlib.Core.Path.{ap}
 use Rattle.phase_two.proofs.decision.has_no_space.Statement.{statement}
 use Rattle.phase_two.proofs.decision.has_no_space.Tie as tie
 use Rattle.phase_two.proofs.decision.has_no_space.Reads as reads

@@ -1,6 +1,6 @@
 use lib.Dec.{ltb}
 use mathlib.Core.Bool.{not}
-use mathlib.Core.Path.{sym, ap, _∙_}
+use mathlib.Core.Path.{ap}
 use borrow.Author.Needs.{needs}
 use Rattle.phase_two.proofs.decision.is_beyond.Statement.{statement}
 use Rattle.phase_two.proofs.decision.is_beyond.Tie as tie

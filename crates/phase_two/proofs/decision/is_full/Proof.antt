@@ -2,7 +2,7 @@ use Prim.Native.Nat.{_+_}
 use Rattle.session.proofs.Laws.PhaseOne.{space-is}
 use borrow.Author.Tests.{lt-leb}
 use native.Mathlib.Omega.{arith}
-use mathlib.Core.Path.{sym, ap, _∙_}
+use mathlib.Core.Path.{sym}
 use Rattle.phase_two.proofs.decision.is_full.Statement.{statement}
 use Rattle.phase_two.proofs.decision.is_full.Tie as tie
 use Rattle.phase_two.proofs.decision.is_full.Reads as reads

@@ -1,5 +1,5 @@
 use mathlib.Core.Bool.{not}
-use mathlib.Core.Path.{sym, ap, _∙_}
+use mathlib.Core.Path.{ap}
 use borrow.Author.Needs.{needs}
 use Rattle.phase_two.proofs.decision.is_held_back.Statement.{statement}
 use Rattle.phase_two.proofs.decision.is_held_back.Tie as tie

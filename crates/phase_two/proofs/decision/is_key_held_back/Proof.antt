@@ -1,4 +1,4 @@
-use mathlib.Core.Path.{sym, ap, _∙_}
+use mathlib.Core.Path.{sym, _∙_}
 use borrow.Author.Needs.{needs}
 use Rattle.phase_two.proofs.decision.is_key_held_back.Statement.{statement}
 use Rattle.phase_two.proofs.decision.is_key_held_back.Tie as tie

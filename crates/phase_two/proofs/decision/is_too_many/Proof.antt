@@ -1,6 +1,6 @@
 use Prim.Native.Nat.{_+_}
 use lib.Dec.{leb}
-use mathlib.Core.Path.{sym, ap, _∙_}
+use mathlib.Core.Path.{ap, _∙_}
 use borrow.Author.Needs.{needs}
 use Rattle.phase_two.proofs.decision.is_too_many.Statement.{statement}
 use Rattle.phase_two.proofs.decision.is_too_many.Tie as tie

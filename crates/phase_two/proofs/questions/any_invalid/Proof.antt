@@ -1,11 +1,10 @@
-use borrow.Author.Needs.{needs}
 use mathlib.Core.Bool.{not}
 use borrow.Author.Tests.{eq-eqb, ne-eqb}
-use mathlib.Core.Path.{_≡_, refl, sym, ap, _∙_}
+use mathlib.Core.Path.{_≡_, refl, ap}
 use Prim.Native.Nat.{_-_, _≤_}
 use Rattle.conversation.specs.PhaseTwo.{howMany, labels, isInvalid}
 use native.Mathlib.Omega.{arith}
-use Rattle.tables.specs.Tables.{of64, of256, of384}
+use Rattle.tables.specs.Tables.{of64}
 use Rattle.phase_two.proofs.Laws.Questions.{left, any-here, any-on, any-none}
 use Rattle.phase_two.proofs.questions.any_invalid.Statement.{statement}
 use Rattle.phase_two.proofs.questions.any_invalid.Tie as tie

@@ -1,10 +1,9 @@
-use borrow.Author.Needs.{needs}
 use borrow.Author.Tests.{not-true, not-false}
 use mathlib.Core.Path.{_≡_, refl, sym, _∙_}
 use Prim.Native.Nat.{_-_, _≤_}
 use Rattle.conversation.specs.PhaseTwo.{labels, isInvalid}
 use native.Mathlib.Omega.{arith}
-use Rattle.tables.specs.Tables.{of64, of256, of384}
+use Rattle.tables.specs.Tables.{of64, of384}
 use Rattle.phase_two.proofs.Laws.Questions.{reported, reported-not, reported-on, reported-all}
 use Rattle.phase_two.proofs.questions.are_reported.Statement.{statement}
 use Rattle.phase_two.proofs.questions.are_reported.Tie as tie

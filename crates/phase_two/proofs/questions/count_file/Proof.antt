@@ -1,11 +1,10 @@
-use borrow.Author.Needs.{needs}
 use borrow.Author.Tests.{eq-eqb, ne-eqb}
 use mathlib.Core.Logic.{⊎-elim}
 use mathlib.Core.Path.{_≡_}
 use Prim.Native.Nat.{_+_, _-_, _≤_}
 use Rattle.conversation.specs.PhaseTwo.{isFile, howMany, labels}
 use native.Mathlib.Omega.{arith}
-use Rattle.tables.specs.Tables.{of64, of256, of384}
+use Rattle.tables.specs.Tables.{of256}
 use Rattle.phase_two.proofs.Laws.Questions.{left, left-one, left-none, left-end}
 use Rattle.phase_two.proofs.questions.count_file.Statement.{statement}
 use Rattle.phase_two.proofs.questions.count_file.Tie as tie

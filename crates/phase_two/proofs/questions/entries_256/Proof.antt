@@ -1,4 +1,4 @@
-use Rattle.tables.specs.Tables.{of64, of256, of384}
+use Rattle.tables.specs.Tables.{of256}
 use Rattle.phase_two.proofs.Laws.Questions.{entries-are}
 use borrow.Author.Needs.{needs}
 use Rattle.phase_two.proofs.questions.entries_256.Statement.{statement}

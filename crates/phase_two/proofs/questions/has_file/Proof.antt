@@ -1,5 +1,5 @@
 use lib.Dec.{ltb}
-use mathlib.Core.Path.{_≡_, sym, ap, _∙_}
+use mathlib.Core.Path.{ap}
 use borrow.Author.Needs.{needs}
 use Rattle.phase_two.proofs.questions.has_file.Statement.{statement}
 use Rattle.phase_two.proofs.questions.has_file.Tie as tie

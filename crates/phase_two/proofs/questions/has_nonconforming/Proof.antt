@@ -1,10 +1,9 @@
-use borrow.Author.Needs.{needs}
 use mathlib.Core.Bool.{_&&_}
-use mathlib.Core.Path.{_≡_, refl, sym, ap, _∙_}
+use mathlib.Core.Path.{_≡_, refl, sym, _∙_}
 use Prim.Native.Nat.{_-_, _≤_}
 use Rattle.conversation.specs.PhaseTwo.{howMany, labels, isNonconforming, isFile}
 use native.Mathlib.Omega.{arith}
-use Rattle.tables.specs.Tables.{of64, of256, of384}
+use Rattle.tables.specs.Tables.{of256}
 use Rattle.phase_two.proofs.Laws.Questions.{left, any-here, any-on, any-none}
 use Rattle.phase_two.proofs.questions.has_nonconforming.Statement.{statement}
 use Rattle.phase_two.proofs.questions.has_nonconforming.Tie as tie

@@ -1,6 +1,6 @@
-use Rattle.conversation.specs.PhaseTwo.{isFile, isUnknown}
+use Rattle.conversation.specs.PhaseTwo.{isUnknown}
 use native.Mathlib.Omega.{arith}
-use Rattle.tables.specs.Tables.{of64, of256, of384}
+use Rattle.tables.specs.Tables.{of256}
 use Rattle.phase_two.proofs.Laws.Questions.{passes-out, passes-at}
 use borrow.Author.Needs.{needs}
 use Rattle.phase_two.proofs.questions.is_unknown_at.Statement.{statement}
