@@ -10,28 +10,28 @@ use Rattle.phase_two.proofs.decision.decide_two.Lts as lts
 use Rattle.phase_two.proofs.decision.decide_read.Reads as decide-read-reads
 use Rattle.phase_two.proofs.decision.fault_of.Reads as fault-of-reads
 
--- src/decision.rt:273:9
+-- src/decision.rt:306:9
 fault-of-requires : tie.Need-fault-of-requires
 fault-of-requires c κs = search needs
 
--- src/decision.rt:275:32
+-- src/decision.rt:308:32
 enum-told : tie.Need-enum-told
 enum-told c = search needs
 
--- src/decision.rt:276:30
+-- src/decision.rt:309:30
 enum-told-2 : tie.Need-enum-told-2
 enum-told-2 c = search needs
 
--- src/decision.rt:276:30
+-- src/decision.rt:309:30
 decide-read-requires : tie.Need-decide-read-requires
 decide-read-requires c κs = search needs
 
--- src/decision.rt:262:1
+-- src/decision.rt:295:1
 returns : tie.Need-returns
 unfolding decided
 returns c = rw (sym (c .before .before .fault-of .ensures), c .enum-told .given .1, number-not-zero (c .enum-told .given .0 .0))
 
--- src/decision.rt:262:1
+-- src/decision.rt:295:1
 returns-2 : tie.Need-returns-2
 returns-2 c = c .decide-read .ensures (sym (c .before .before .before .fault-of .ensures) ∙ ap verdictSaid (c .before .enum-told2 .given .1))
 
