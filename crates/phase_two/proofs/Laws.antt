@@ -1,2 +1,0 @@
--- What is shown of the definitions of phase two, for its code.
-pub mod Commands

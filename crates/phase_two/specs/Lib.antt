@@ -1,2 +1,0 @@
--- What the code of phase two stands for.
-pub mod Commands
