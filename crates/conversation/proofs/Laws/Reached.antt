@@ -296,9 +296,9 @@ just-from s₀ s b word arguments body out r d z e =
     (just-applied s₀ (o .session) (b .first) (o .buffers .first) line body r (accepted s₀ b (send word arguments body out) z .applied) (sym (ap (λ x. commandIn (x .machine) (x .name) line body) e) ∙ d) (call-reached s₀ b (send word arguments body out) r))
 
 -- a plugin session that has just received done
-pub just-heard : (s : Session) (b : Buffers) (text : List ℕ) → ReachedSession s → outcome s b (receive text) .number ≡ 0 →
+pub just-received : (s : Session) (b : Buffers) (text : List ℕ) → ReachedSession s → outcome s b (receive text) .number ≡ 0 →
     commandIn (s .machine) (s .name) (lineRead (readFirst text) text) (bodyRead (readFirst text) text) ≡ done → JustReached (outcome s b (receive text) .session)
-just-heard s b text r z d =
+just-received s b text r z d =
     let o = outcome s b (receive text) in
     let line = lineRead (readFirst text) text in
     let body = bodyRead (readFirst text) text in
