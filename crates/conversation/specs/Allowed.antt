@@ -8,21 +8,24 @@ use mathlib.Core.List.{List, [], _∷_, _++_, map}
 use lib.Dec.{eqb}
 use lib.ListN.{length}
 use Rattle.refusal.specs.Pick.{pick}
+use Rattle.refusal.specs.Same.{same}
 use Rattle.tables.specs.Tables.{Row}
+use Rattle.stanza.specs.Arguments.{argumentOf}
 use Rattle.stanza.specs.Writing.{isWritable}
 use Rattle.responses.specs.Responses.{fitsWhole, responseLine, response, responseOf}
 use Rattle.responses.specs.declared.Response.{Response}
 use Rattle.responses.specs.declared.WordTwo.{WordTwo}
-use Rattle.session.specs.Commands.{Command, bad, recipient, identity, key, header, done, other}
+use Rattle.session.specs.Commands.{Command, bad, recipient, identity, key, header, done, other, doneWord}
 use Rattle.session.specs.PhaseOne as one
 use Rattle.session.specs.Views as one-kind
 use Rattle.session.specs.Views.{recipients, identities, keys, headers}
 use Rattle.session.specs.declared.commands.Machine.{Machine}
+use Rattle.conversation.specs.Calls.{Call, send-two, respond}
 use Rattle.conversation.specs.CommandsTwo as two-command
 use Rattle.conversation.specs.CommandsTwo.{CommandTwo, lineSent}
 use Rattle.conversation.specs.PhaseTwo as two
 use Rattle.conversation.specs.PhaseTwo.{errors, stanzas, returned}
-use Rattle.conversation.specs.Phases.{All, Whole, lineIn, bodyIn, commandOf, rowsFrom, commandIn, payloadIn, isError, isStanzaFor, Reply, Block}
+use Rattle.conversation.specs.Phases.{All, Whole, lineIn, bodyIn, commandOf, rowsFrom, commandIn, payloadIn, isError, isStanzaFor, Reply, Block, Supply, skip}
 
 -- ---- phase one
 
@@ -307,3 +310,23 @@ pub record AllowedSent (machine : Machine) (left : Left) (capacity : two.Kind �
   pub right : All (RightExchange machine left) xs
   pub limits : Limits (length (left recipients) + length (left identities)) capacity (λ m. total m (map (saidIn machine) xs))
   pub reported : AllReported left (map (saidIn machine) xs)
+
+-- ---- the calls by which exchanges are made
+
+-- "done has no arguments, no body and no response": its command is done
+abbrev pub isDoneSent : Exchange → Bool
+isDoneSent x = same (argumentOf (lineOf x) 0) doneWord
+
+-- "Hearing a response, the plugin end .. writes its decoded body to the output room": one call for each text
+unfoldable pub responseCalls : Supply → List (List ℕ) → List Call
+responseCalls outs [] = []
+responseCalls outs (t ∷ ts) = respond t (outs 0) ∷ responseCalls (skip 1 outs) ts
+
+-- "the plugin speaks, the client answers": the sending, then the responses
+abbrev pub exchangeCalls : Supply → Exchange → List Call
+exchangeCalls outs x = send-two (x .word) (x .arguments) (x .body) (outs 0) ∷ responseCalls (skip 1 outs) (x .responses)
+
+-- "Each call gets what the one before returned or left": one exchange behind the other
+unfoldable pub sendingCalls : Supply → List Exchange → List Call
+sendingCalls outs [] = []
+sendingCalls outs (x ∷ xs) = exchangeCalls outs x ++ sendingCalls (skip (length (x .responses)) (skip 1 outs)) xs

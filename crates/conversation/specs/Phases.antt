@@ -230,21 +230,21 @@ LongEnough s b (c ∷ cs) =
 -- ---- the sessions that receive it
 
 -- a call with the buffers that it is lent
-pub record Lent : Type 0 where
+pub record CallWith : Type 0 where
   pub call : Call
   pub buffers : Buffers
 
 -- the session behind calls that are each lent buffers of any length and content
-unfoldable pub afterLent : Session → List Lent → Session
-afterLent s [] = s
-afterLent s (c ∷ cs) = afterLent (outcome s (c .buffers) (c .call) .session) cs
+unfoldable pub afterEach : Session → List CallWith → Session
+afterEach s [] = s
+afterEach s (c ∷ cs) = afterEach (outcome s (c .buffers) (c .call) .session) cs
 
 -- a client session that has just sent done, whatever its calls before
 pub record JustDone (s : Session) : Type 0 where
   pub machine : List ℕ
   pub name : List ℕ
   pub screen : Bool
-  pub before : List Lent
+  pub before : List CallWith
   pub client : All (λ c. isClient (c .call) ≡ true) before
   pub word : Word
   pub arguments : List ℕ
@@ -252,8 +252,8 @@ pub record JustDone (s : Session) : Type 0 where
   pub out : List ℕ
   pub buffers : Buffers
   pub is-done : one.commandIn (s .machine) (s .name) (lineSent word arguments) body ≡ one-command.done
-  pub accepted : outcome (afterLent (opened machine name screen .session) before) buffers (send word arguments body out) .number ≡ 0
-  pub reached : s ≡ outcome (afterLent (opened machine name screen .session) before) buffers (send word arguments body out) .session
+  pub accepted : outcome (afterEach (opened machine name screen .session) before) buffers (send word arguments body out) .number ≡ 0
+  pub reached : s ≡ outcome (afterEach (opened machine name screen .session) before) buffers (send word arguments body out) .session
 
 -- "Phase one is heard by a session just opened, phase two by a client session that has just sent done"
 abbrev pub Starts : Part → Session → Type 0

@@ -15,7 +15,7 @@ ghost use mathlib.Core.Path.{_≡_};
 ghost use mathlib.Core.Bool.{true};
 ghost use lib.ListN.{length, take, drop};
 ghost use Rattle.judging.specs.Windows.{Cut};
-ghost use Rattle.judging.specs.Said.{lentOf, standingOf, turnSaid};
+ghost use Rattle.judging.specs.Said.{buffersIn, standingOf, turnSaid};
 
 // Where the run stands: whether it goes on, and how many bytes at the front of the window are still to be judged.
 struct State {
@@ -88,7 +88,7 @@ fn judge_chunk(
     keys: &mut [u8],
 ) -> State
     requires { ⌜ end ≤ length (now window) ⌝ }
-    ensures cut { λ r. ⌜ Cut last (standingOf judging) (lentOf (now (recipients .entry)) (now (identities .entry)) (now (keys .entry))) (take end (now (window .entry))) (turnSaid (r .judging) (now (recipients .exit)) (now (identities .exit)) (now (keys .exit))) ⌝ }
+    ensures cut { λ r. ⌜ Cut last (standingOf judging) (buffersIn (now (recipients .entry)) (now (identities .entry)) (now (keys .entry))) (take end (now (window .entry))) (turnSaid (r .judging) (now (recipients .exit)) (now (identities .exit)) (now (keys .exit))) ⌝ }
     ensures rest { λ r. ⌜ take (r .left) (now (window .exit)) ≡ drop (r .judging .taken) (take end (now (window .entry))) ⌝ }
     ensures short { λ r. ⌜ (r .left ≤ end) × (r .more ≡ true → r .left < 8192) ⌝ }
 {

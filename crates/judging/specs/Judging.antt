@@ -1,8 +1,8 @@
 -- Judging a recorded phase one (document 01, "The judging program").
 use Prim.Native.Nat.{ℕ, zero, suc, _+_}
-use mathlib.Core.Bool.{Bool, true, false}
+use mathlib.Core.Bool.{Bool, true, false, _&&_, not}
 use mathlib.Core.List.{List, [], _∷_}
-use lib.Dec.{leb}
+use lib.Dec.{eqb}
 use lib.ListN.{length, drop, replicate}
 use Rattle.refusal.specs.Pick.{pick}
 use Rattle.session.specs.Commands.{Word, add-recipient, add-identity, wrap-file-key, recipient-stanza, done-word, other-word}
@@ -49,10 +49,18 @@ isDone wrap-file-key = false
 isDone recipient-stanza = false
 isDone other-word = false
 
--- it "stops at done or a refusal"; "At a refusal the counts are those before it"
-abbrev pub standingAfter : Taking → Session → Session → Standing
-standingAfter (took w k) before after = pick (isDone w) (stopped (counted (after .tables) 0)) (going after)
-standingAfter (declined n) before after = stopped (counted (before .tables) n)
+-- behind a command: it "stops at done"
+abbrev pub behindCommand : Word → Session → Standing
+behindCommand w after = pick (isDone w) (stopped (counted (after .tables) 0)) (going after)
+
+-- behind a refusal: it stops, and "the counts are those before it". But an unfinished stanza, No. 2, waits for more where the text is not the input's last
+abbrev pub behindRefusal : Bool → ℕ → Session → Standing
+behindRefusal last n before = pick (eqb n 2 && not last) (going before) (stopped (counted (before .tables) n))
+
+-- behind a call
+abbrev pub standingAfter : Bool → Taking → Session → Session → Standing
+standingAfter last (took w k) before after = behindCommand w after
+standingAfter last (declined n) before after = behindRefusal last n before
 
 -- a refused call takes nothing
 abbrev pub takenBy : Taking → ℕ
@@ -60,12 +68,12 @@ takenBy (took w k) = k
 takenBy (declined n) = 0
 
 -- a call of a session, and what it came to
-abbrev pub turnBy : Session → Received → Turn
-turnBy s r = turnOf (standingAfter (r .answer) s (r .session)) (r .buffers) (takenBy (r .answer))
+abbrev pub turnBy : Bool → Session → Received → Turn
+turnBy last s r = turnOf (standingAfter last (r .answer) s (r .session)) (r .buffers) (takenBy (r .answer))
 
 -- the first stanza of a text
-abbrev pub turned : Session → Buffers → List ℕ → Turn
-turned s b text = turnBy s (received s text b)
+abbrev pub turned : Bool → Session → Buffers → List ℕ → Turn
+turned last s b text = turnBy last s (received s text b)
 
 -- ---- a text
 
@@ -73,18 +81,18 @@ turned s b text = turnBy s (received s text b)
 abbrev pub behind : ℕ → Turn → Turn
 behind k t = turnOf (t .standing) (t .buffers) (k + t .taken)
 
--- one stanza after the other up to done or a refusal, as long as `least` bytes are left: 0 for a whole text, more where the input may go on behind it
--- (specs/Windows). Each stanza takes a byte or more, so fuel that is more than the text's length is never used up
-unfoldable pub judgedWith : ℕ → ℕ → Standing → Buffers → List ℕ → Turn
-judgedWith zero least d b text = turnOf d b 0
-judgedWith (suc fuel) least (stopped x) b text = turnOf (stopped x) b 0
-judgedWith (suc fuel) least (going s) b text =
-    let t = turned s b text in
-    pick (leb least (length text)) (behind (t .taken) (judgedWith fuel least (t .standing) (t .buffers) (drop (t .taken) text))) (turnOf (going s) b 0)
+-- one stanza after the other, up to done, a refusal, or an unfinished stanza that waits: the last two take nothing. Each other takes a byte or more, so fuel
+-- that is more than the text's length is never used up
+unfoldable pub judgedWith : ℕ → Bool → Standing → Buffers → List ℕ → Turn
+judgedWith zero last d b text = turnOf d b 0
+judgedWith (suc fuel) last (stopped x) b text = turnOf (stopped x) b 0
+judgedWith (suc fuel) last (going s) b text =
+    let t = turned last s b text in
+    pick (eqb (t .taken) 0) t (behind (t .taken) (judgedWith fuel last (t .standing) (t .buffers) (drop (t .taken) text)))
 
 -- the same with fuel enough
-abbrev pub judgedFrom : ℕ → Standing → Buffers → List ℕ → Turn
-judgedFrom least d b text = judgedWith (suc (length text)) least d b text
+abbrev pub judgedFrom : Bool → Standing → Buffers → List ℕ → Turn
+judgedFrom last d b text = judgedWith (suc (length text)) last d b text
 
 -- the plugin's name is not given and does not show in the counts: "judge"
 abbrev pub judgeName : List ℕ
@@ -96,7 +104,7 @@ start = openedSession RecipientV1 judgeName false
 
 -- a whole text, with these buffers
 abbrev pub judgedText : Buffers → List ℕ → Turn
-judgedText b text = judgedFrom 0 (going start) b text
+judgedText b text = judgedFrom true (going start) b text
 
 -- the five numbers; where judging goes on, the input has ended before done: No. 2. (A whole text always makes it stop.)
 abbrev pub numbersOf : Standing → Judged
@@ -104,9 +112,9 @@ numbersOf (stopped x) = x
 numbersOf (going s) = counted (s .tables) 2
 
 -- "with rooms of 16,384, 16,384 and 1,024 bytes", and none for header stanzas, of which recipient-v1 has none
-abbrev pub lent : Buffers
-lent = buffersOf (replicate 16384 0) (replicate 16384 0) (replicate 1024 0) []
+abbrev pub buffersGiven : Buffers
+buffersGiven = buffersOf (replicate 16384 0) (replicate 16384 0) (replicate 1024 0) []
 
 -- what the program writes for an input
 abbrev pub judged : List ℕ → Judged
-judged text = numbersOf (judgedText lent text .standing)
+judged text = numbersOf (judgedText buffersGiven text .standing)

@@ -1,13 +1,10 @@
 -- What the code's values stand for.
 use Prim.Native.Nat.{ℕ}
-use mathlib.Core.Bool.{Bool, false}
 use mathlib.Core.List.{List, []}
-use lib.Dec.{leb}
 use Rattle.session.specs.PhaseOne.{Buffers, buffersOf}
 use Rattle.conversation.specs.Session.{Session}
 use Rattle.plugin.specs.Session.{sessionOf}
 use Rattle.judging.specs.Judging.{Judged, Standing, going, stopped, Turn, turnOf}
-use Rattle.judging.specs.Windows.{leastOf}
 use Rattle.judging.specs.declared.Judged.{Judged as CodeJudged}
 use Rattle.judging.specs.declared.Progress.{Progress}
 use Rattle.judging.specs.declared.Progress.the-variants as the
@@ -26,15 +23,10 @@ standingIn (the.Stopped x) s = stopped (judgedSaid x)
 abbrev pub standingOf : Judging → Standing
 standingOf j = standingIn (j .progress) (sessionOf (j .session))
 
--- the buffers: none is lent for header stanzas, which recipient-v1 does not have
-abbrev pub lentOf : List ℕ → List ℕ → List ℕ → Buffers
-lentOf r i k = buffersOf r i k []
+-- the buffers of recipients, identities and file keys; none for header stanzas, which recipient-v1 does not have
+abbrev pub buffersIn : List ℕ → List ℕ → List ℕ → Buffers
+buffersIn r i k = buffersOf r i k []
 
 -- where judging stands, with the buffers and how many bytes were taken
 abbrev pub turnSaid : Judging → List ℕ → List ℕ → List ℕ → Turn
-turnSaid j r i k = turnOf (standingOf j) (lentOf r i k) (j .taken)
-
--- whether another stanza is looked at, with n bytes of the window left
-abbrev pub isDue : Progress → ℕ → Bool → Bool
-isDue the.GoesOn n last = leb (leastOf last) n
-isDue (the.Stopped x) n last = false
+turnSaid j r i k = turnOf (standingOf j) (buffersIn r i k) (j .taken)

@@ -2,19 +2,18 @@
 ghost use mathlib.Core.Path.{_≡_};
 ghost use Prim.Native.Nat.{_≤_};
 ghost use lib.ListN.{length, drop};
+ghost use Rattle.refusal.specs.Number.{numberOf};
 ghost use Rattle.session.specs.Commands.{wordSaid};
 ghost use Rattle.session.specs.PhaseOne.{tablesOf};
 ghost use Rattle.plugin.specs.Session.{sessionOf};
-ghost use Rattle.judging.specs.Judging.{counted, going, stopped, isDone, turned, behind, start, judgedText, numbersOf};
-ghost use Rattle.judging.specs.Windows.{windowed, Cut};
-ghost use Rattle.judging.specs.Said.{judgedSaid, isDue, lentOf, standingOf, turnSaid};
+ghost use Rattle.judging.specs.Judging.{counted, going, isDone, behindCommand, behindRefusal, turned, behind, judgedFrom, start, judgedText, numbersOf};
+ghost use Rattle.judging.specs.Windows.{Cut};
+ghost use Rattle.judging.specs.Said.{judgedSaid, buffersIn, standingIn, standingOf, turnSaid};
 use plugin::Session;
 use plugin::Taking;
+use refusal::Refusal;
 use session::Tables;
 use session::Word;
-
-// How long a stanza is at most.
-const LONGEST: usize = 8192;
 
 // What the judging program writes: how many entries each kind has, and the answer, 0 behind done, else the number of the refusal.
 pub struct Judged {
@@ -65,19 +64,25 @@ fn is_done(word: Word) -> bool
     }
 }
 
-// Whether another stanza of a window is looked at: judging goes on, and the longest stanza could be left or the window is the last.
-fn is_due(progress: Progress, left: usize, last: bool) -> bool
-    ensures { λ r. ⌜ r ≡ isDue progress left last ⌝ }
+// Where judging stands behind a command: done stops it.
+fn behind_command(word: Word, session: Session) -> Progress
+    ensures { λ r. ⌜ standingIn r (sessionOf session) ≡ behindCommand (wordSaid word) (sessionOf session) ⌝ }
 {
-    match progress {
-        Progress::Stopped(_) => false,
-        Progress::GoesOn => {
-            if last {
-                return true;
-            }
-            LONGEST <= left
-        }
+    if is_done(word) {
+        return Progress::Stopped(count(session.tables, 0));
     }
+    Progress::GoesOn
+}
+
+// Where judging stands behind a refusal: it stops, but an unfinished stanza waits for more where the window is not the last.
+fn behind_refusal(r: Refusal, last: bool, session: Session) -> Progress
+    ensures { λ p. ⌜ standingIn p (sessionOf session) ≡ behindRefusal last (numberOf r) (sessionOf session) ⌝ }
+{
+    let number = refusal::number(r);
+    if number == 2 && !last {
+        return Progress::GoesOn;
+    }
+    Progress::Stopped(count(session.tables, number))
 }
 
 // The stanza that stands at a place of a window.
@@ -85,12 +90,13 @@ fn advance(
     session: Session,
     window: &[u8],
     at: usize,
+    last: bool,
     recipients: &mut [u8],
     identities: &mut [u8],
     keys: &mut [u8],
 ) -> Judging
     requires { ⌜ at ≤ length (now window) ⌝ }
-    ensures { λ r. ⌜ turnSaid r (now (recipients .exit)) (now (identities .exit)) (now (keys .exit)) ≡ behind at (turned (sessionOf session) (lentOf (now (recipients .entry)) (now (identities .entry)) (now (keys .entry))) (drop at (now (window .entry)))) ⌝ }
+    ensures { λ r. ⌜ turnSaid r (now (recipients .exit)) (now (identities .exit)) (now (keys .exit)) ≡ behind at (turned last (sessionOf session) (buffersIn (now (recipients .entry)) (now (identities .entry)) (now (keys .entry))) (drop at (now (window .entry)))) ⌝ }
 {
     let mut headers = [0u8; 0];
     let received = session.receive(&window[at..], recipients, identities, keys, &mut headers);
@@ -98,22 +104,15 @@ fn advance(
     let after = received.session;
     match answer {
         Taking::Refused(r) => Judging {
-            session: after,
-            progress: Progress::Stopped(count(session.tables, refusal::number(r))),
+            session: session,
+            progress: behind_refusal(r, last, session),
             taken: at,
         },
         Taking::Command(word, taken) => {
             let next = at + taken;
-            if is_done(word) {
-                return Judging {
-                    session: after,
-                    progress: Progress::Stopped(count(after.tables, 0)),
-                    taken: next,
-                };
-            }
             Judging {
                 session: after,
-                progress: Progress::GoesOn,
+                progress: behind_command(word, after),
                 taken: next,
             }
         }
@@ -144,18 +143,21 @@ impl Judging {
         identities: &mut [u8],
         keys: &mut [u8],
     ) -> Judging
-        ensures exact { λ r. ⌜ turnSaid r (now (recipients .exit)) (now (identities .exit)) (now (keys .exit)) ≡ windowed last (standingOf self) (lentOf (now (recipients .entry)) (now (identities .entry)) (now (keys .entry))) (now (window .entry)) ⌝ }
-        ensures any_cut { λ r. ⌜ Cut last (standingOf self) (lentOf (now (recipients .entry)) (now (identities .entry)) (now (keys .entry))) (now (window .entry)) (turnSaid r (now (recipients .exit)) (now (identities .exit)) (now (keys .exit))) ⌝ }
+        ensures exact { λ r. ⌜ turnSaid r (now (recipients .exit)) (now (identities .exit)) (now (keys .exit)) ≡ judgedFrom last (standingOf self) (buffersIn (now (recipients .entry)) (now (identities .entry)) (now (keys .entry))) (now (window .entry)) ⌝ }
+        ensures any_cut { λ r. ⌜ Cut last (standingOf self) (buffersIn (now (recipients .entry)) (now (identities .entry)) (now (keys .entry))) (now (window .entry)) (turnSaid r (now (recipients .exit)) (now (identities .exit)) (now (keys .exit))) ⌝ }
     {
         let mut j = self;
         j.taken = 0;
         loop {
             let progress = j.progress;
-            let at = j.taken;
-            if !is_due(progress, window.len() - at, last) {
+            if let Progress::Stopped(_) = progress {
                 return j;
             }
-            j = advance(j.session, window, at, recipients, identities, keys);
+            let at = j.taken;
+            j = advance(j.session, window, at, last, recipients, identities, keys);
+            if j.taken == at {
+                return j;
+            }
         }
     }
 
@@ -173,8 +175,8 @@ impl Judging {
 
 // A whole text: the five numbers. The judging program lends 16,384, 16,384 and 1,024 bytes of zeros. Header stanzas need no buffer: recipient-v1 has none.
 pub fn judge(text: &[u8], recipients: &mut [u8], identities: &mut [u8], keys: &mut [u8]) -> Judged
-    ensures numbers { λ r. ⌜ judgedSaid r ≡ numbersOf (judgedText (lentOf (now (recipients .entry)) (now (identities .entry)) (now (keys .entry))) (now (text .entry)) .standing) ⌝ }
-    ensures buffers { λ _. ⌜ lentOf (now (recipients .exit)) (now (identities .exit)) (now (keys .exit)) ≡ judgedText (lentOf (now (recipients .entry)) (now (identities .entry)) (now (keys .entry))) (now (text .entry)) .buffers ⌝ }
+    ensures numbers { λ r. ⌜ judgedSaid r ≡ numbersOf (judgedText (buffersIn (now (recipients .entry)) (now (identities .entry)) (now (keys .entry))) (now (text .entry)) .standing) ⌝ }
+    ensures buffers { λ _. ⌜ buffersIn (now (recipients .exit)) (now (identities .exit)) (now (keys .exit)) ≡ judgedText (buffersIn (now (recipients .entry)) (now (identities .entry)) (now (keys .entry))) (now (text .entry)) .buffers ⌝ }
 {
     let begun = Judging::open();
     let judging = begun.judge_window(text, true, recipients, identities, keys);

@@ -28,6 +28,7 @@ clientWord = 99 ∷ 108 ∷ 105 ∷ 101 ∷ 110 ∷ 116 ∷ []
 abbrev pub pluginWord : List ℕ
 pluginWord = 112 ∷ 108 ∷ 117 ∷ 103 ∷ 105 ∷ 110 ∷ []
 
+-- the words for an end, in order
 abbrev pub endWords : List (List ℕ)
 endWords = clientWord ∷ pluginWord ∷ []
 
@@ -51,6 +52,7 @@ noScreenWord = 110 ∷ 111 ∷ 45 ∷ 115 ∷ 99 ∷ 114 ∷ 101 ∷ 101 ∷ 110
 abbrev pub defaultWord : List ℕ
 defaultWord = 100 ∷ 101 ∷ 102 ∷ 97 ∷ 117 ∷ 108 ∷ 116 ∷ []
 
+-- the words for the screen, in order
 abbrev pub screenWords : List (List ℕ)
 screenWords = screenWord ∷ noScreenWord ∷ defaultWord ∷ []
 
@@ -71,6 +73,7 @@ recipientWord = 114 ∷ 101 ∷ 99 ∷ 105 ∷ 112 ∷ 105 ∷ 101 ∷ 110 ∷ 1
 abbrev pub identityWord : List ℕ
 identityWord = 105 ∷ 100 ∷ 101 ∷ 110 ∷ 116 ∷ 105 ∷ 116 ∷ 121 ∷ []
 
+-- the words for a kind, in order
 abbrev pub kindWords : List (List ℕ)
 kindWords = recipientWord ∷ identityWord ∷ []
 
@@ -102,6 +105,7 @@ recipientStanzaWord = 114 ∷ 101 ∷ 99 ∷ 105 ∷ 112 ∷ 105 ∷ 101 ∷ 110
 abbrev pub doneWord : List ℕ
 doneWord = 100 ∷ 111 ∷ 110 ∷ 101 ∷ []
 
+-- the words for a command, in order
 abbrev pub commandWords : List (List ℕ)
 commandWords = addRecipientWord ∷ addIdentityWord ∷ wrapFileKeyWord ∷ recipientStanzaWord ∷ doneWord ∷ []
 

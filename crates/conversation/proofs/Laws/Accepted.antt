@@ -47,6 +47,8 @@ use Rattle.conversation.specs.SendingTwo as sending-two
 use Rattle.conversation.specs.SendingTwo.{phaseSent}
 use Rattle.conversation.specs.Responding as responding
 use Rattle.conversation.specs.Calls.{Call, receive, send, receive-two, reply, send-two, respond, Outcome, takingNumber, sentNumber, takingTwoNumber, respondedNumber, receivedOutcome, sentOutcome, receivedTwoOutcome, repliedOutcome, sentTwoOutcome, respondedOutcome, outcome, lineRead, bodyRead}
+use Rattle.conversation.proofs.Laws.Firsts.{first-iff, short-none}
+use Rattle.conversation.proofs.Laws.Receiving.{turn-first}
 
 -- ---- what is said of an accepted call
 
@@ -121,13 +123,6 @@ AcceptedBy s b (respond text out) =
 
 -- ---- tests that give 0
 
-turn-one : (p : Phase) → turnOne p ≡ 0 → p ≡ One
-turn-one One h = refl
-turn-one Two h = absurd (omega arith)
-turn-one (Awaiting w) h = absurd (omega arith)
-turn-one Ended h = absurd (omega arith)
-turn-one Closed h = absurd (omega arith)
-
 turn-two : (p : Phase) → turnTwo p ≡ 0 → p ≡ Two
 turn-two One h = absurd (omega arith)
 turn-two Two h = refl
@@ -148,15 +143,6 @@ read-number m w (whole k) h = let z : _≡_ {A = ℕ} 0 1 = cc in omega arith
 
 text-number : (text : List ℕ) (n : ℕ) → readFirst text ≡ refused n → n ≡ 0 → ⊥
 text-number text n q h = read-number (length text) (take 8192 text) (scan start 0 (take 8192 text)) (q ∙ ap refused h)
-
--- the second of two numbers is 0 where the first fault is none
-pub second-zero : (n late : ℕ) → firstOf n late ≡ 0 → late ≡ 0
-second-zero n late h = cases (eqb n 0) (λ e. rw e at h) (λ e. absurd (eqb-false n 0 e (first-zero n late h)))
-
--- No. 15 is not given
-fits-zero : (f : Bool) → _≡_ {A = ℕ} (pick f 15 0) 0 → f ≡ false
-fits-zero true h = absurd (omega arith)
-fits-zero false h = refl
 
 -- No. 17 is not given, and then no fault is found
 sent-number : (f : Bool) (n : ℕ) → pick f n 17 ≡ 0 → (f ≡ true) × (n ≡ 0)
@@ -239,7 +225,7 @@ module _ (s : Session) (b : Buffers) where
   unfolding receiving.received
   received-one text =
       branch (ReceivedOne (lineRead (readFirst text) text) (bodyRead (readFirst text) text)) numberReceived (eqb (turnOne (s .phase)) 0) _ _
-      (λ f. as-one text (readFirst text) (turn-one (s .phase) (eqb-true (turnOne (s .phase)) 0 f)) refl) (λ f. eqb-false (turnOne (s .phase)) 0 f)
+      (λ f. as-one text (readFirst text) (turn-first (s .phase) (eqb-true (turnOne (s .phase)) 0 f)) refl) (λ f. eqb-false (turnOne (s .phase)) 0 f)
 
   -- what is sent
   abbrev SentOne : List ℕ → List ℕ → List ℕ → sending.Sent → Type 0
@@ -261,7 +247,7 @@ module _ (s : Session) (b : Buffers) where
         writable = w;
         second = refl;
         written = record {
-          fits = fits-zero (overflows text out) (second-zero (one.decided (s .tables) (b .first) (commandIn (s .machine) (s .name) line body) (length (payloadIn (s .machine) (s .name) line body))) late (eqb-true n 0 f));
+          fits = short-none (overflows text out) (first-iff (one.decided (s .tables) (b .first) (commandIn (s .machine) (s .name) line body) (length (payloadIn (s .machine) (s .name) line body))) late .0 (eqb-true n 0 f) .1);
           output = refl;
           size = refl;
         };
@@ -274,7 +260,7 @@ module _ (s : Session) (b : Buffers) where
   unfolding sending.sent
   sent-one word arguments body out =
       branch (SentOne (one-command.lineSent word arguments) body out) numberSent (eqb (turnOne (s .phase)) 0) _ _
-      (λ f. line-one (one-command.lineSent word arguments) body out (turn-one (s .phase) (eqb-true (turnOne (s .phase)) 0 f))) (λ f. eqb-false (turnOne (s .phase)) 0 f)
+      (λ f. line-one (one-command.lineSent word arguments) body out (turn-first (s .phase) (eqb-true (turnOne (s .phase)) 0 f))) (λ f. eqb-false (turnOne (s .phase)) 0 f)
 
 -- ---- phase two: commands
 
@@ -301,7 +287,7 @@ module _ (s : Session) (b : Buffers) where
         faultless = first-zero n (shortness text out) (eqb-true z 0 f);
         session = refl;
         buffers = refl;
-        written = record { fits = fits-zero (overflows text out) (second-zero n (shortness text out) (eqb-true z 0 f)); output = refl; size = refl };
+        written = record { fits = short-none (overflows text out) (first-iff n (shortness text out) .0 (eqb-true z 0 f) .1); output = refl; size = refl };
       })
       (λ f. eqb-false z 0 f)
 
@@ -340,7 +326,7 @@ module _ (s : Session) (b : Buffers) where
         faultless = w .1;
         session = refl;
         buffers = refl;
-        written = record { fits = fits-zero (overflows text out) (second-zero n (shortness text out) (eqb-true z 0 f)); output = refl; size = refl };
+        written = record { fits = short-none (overflows text out) (first-iff n (shortness text out) .0 (eqb-true z 0 f) .1); output = refl; size = refl };
       })
       (λ f. eqb-false z 0 f)
 
@@ -378,7 +364,7 @@ module _ (s : Session) (b : Buffers) where
         fitting = g .0;
         session = refl;
         buffers = refl;
-        written = record { fits = fits-zero (overflows text out) (second-zero n (shortness text out) (eqb-true z 0 f)); output = refl; size = refl };
+        written = record { fits = short-none (overflows text out) (first-iff n (shortness text out) .0 (eqb-true z 0 f) .1); output = refl; size = refl };
       })
       (λ f. eqb-false z 0 f)
 
@@ -404,16 +390,19 @@ module _ (s : Session) (b : Buffers) where
       let n : ℕ = pick (fitsWhole w r body) 0 12 in
       let z = firstOf n (shortness body out) in
       branch (Responded line body out) numberOfResponse (eqb z 0) _ _
-      (λ f h. (r, record {
-        awaited = w;
-        turn = o;
-        writable = l;
-        named = e;
-        fitting = fit-number (fitsWhole w r body) (first-zero n (shortness body out) (eqb-true z 0 f));
-        session = refl;
-        buffers = refl;
-        written = record { fits = fits-zero (overflows body out) (second-zero n (shortness body out) (eqb-true z 0 f)); output = refl; size = refl };
-      }))
+      (λ f h. (
+        r,
+        record {
+          awaited = w;
+          turn = o;
+          writable = l;
+          named = e;
+          fitting = fit-number (fitsWhole w r body) (first-zero n (shortness body out) (eqb-true z 0 f));
+          session = refl;
+          buffers = refl;
+          written = record { fits = short-none (overflows body out) (first-iff n (shortness body out) .0 (eqb-true z 0 f) .1); output = refl; size = refl };
+        },
+      ))
       (λ f. eqb-false z 0 f)
 
   respond-text : (w : WordTwo) (text out : List ℕ) (q : Reading) → s .phase ≡ Awaiting w → readFirst text ≡ q →

@@ -1,7 +1,7 @@
 -- Phase two at the client end: exactly the allowed phases are accepted, and what they leave and write.
 use Prim.Native.Nat.{ℕ, _+_, _≤_}
 use mathlib.Core.Path.{_≡_, refl, sym, ap, ap₂, _∙_, subst, subst₂}
-use mathlib.Core.Bool.{Bool, true, false, true≢false, false≢true}
+use mathlib.Core.Bool.{Bool, true, false, _&&_, true≢false, false≢true}
 use mathlib.Core.Logic.{_⊎_, inl, inr, ⊎-elim, _↔_}
 use mathlib.Core.List.{List, [], _∷_, _++_, map, append-nil, append-assoc}
 use lib.Dec.{eqb, leb, ltb}
@@ -27,7 +27,7 @@ use Rattle.conversation.specs.Calls.{Call, receive-two, outcome, State, 
 use Rattle.conversation.specs.CommandsTwo.{Named, CommandTwo, ask, stanza, key, error, done, other, bad, commandTwo, rowTwo, wordTwo}
 use Rattle.conversation.specs.Kinds.{Buffers, buffersOf}
 use Rattle.conversation.specs.PhaseTwo as two
-use Rattle.conversation.specs.PhaseTwo.{Kind, errors, stanzas, returned, tableOf, bufferOf, mostStanzas, faultOf, decided, applied, filledBy, rowsOf, viewOf}
+use Rattle.conversation.specs.PhaseTwo.{Kind, errors, stanzas, returned, tableOf, bufferOf, mostStanzas, isHeldBack, faultOf, decided, applied, filledBy, rowsOf, viewOf}
 use Rattle.conversation.specs.Phases.{All, Whole, lineIn, bodyIn, isDone, commandIn, payloadIn, Block, Supply, behind, two-part, blockCalls, callsOf, writtenIn, responsesTo, LongEnough}
 use Rattle.conversation.specs.Session.{Session, moved}
 use Rattle.conversation.specs.Allowed.{Left, isRightTwo, Present, Said, Sum, keys-for, stanzas-for, errors-for, entries, bytes, weight, total, slotsTwo, Limits, saidBy, Answered, RightBlock, AllowedTwo}
@@ -81,14 +81,15 @@ pub record Standing (left : Left) (t : Tables) (b : two.Buffers) : Type 0 where
   pub shows : Shows t left
   pub limits : Kept-limits t b
 
-pub decided-exact : (left : Left) (t : Tables) (b : two.Buffers) (d : Bool) (c : CommandTwo) (p : List ℕ) → Proper d c → Standing left t b →
-    (decided false t b c (length p) ≡ 0) ↔ ((isRightTwo c ≡ true) × Present left c × With t b c p)
-decided-exact left t b d c p h s =
-    let i = decided-iff false t b c (length p) in
+-- the decision finds no fault exactly if the command is right, what it names is there, it keeps the limits and, at the plugin's own sending, nothing holds it back
+pub decided-exact : (own : Bool) (left : Left) (t : Tables) (b : two.Buffers) (d : Bool) (c : CommandTwo) (p : List ℕ) → Proper d c → Standing left t b →
+    (decided own t b c (length p) ≡ 0) ↔ ((isRightTwo c ≡ true) × Present left c × With t b c p × ((own && isHeldBack t c) ≡ false))
+decided-exact own left t b d c p h s =
+    let i = decided-iff own t b c (length p) in
     let r = right-iff d c h in
     let q = present-iff t left (s .shows) c in (
-      λ z. let f = i .0 z in (r .0 (f .right), q .0 (f .there), limits-with t b (s .going) (s .limits) p false c f),
-      λ y. let v = tests-by t b (s .going) p c (y .2) in i .1 (record { right = r .1 (y .0); there = q .1 (y .1); first-key = v .0; few = v .1; apart = v .2; unheld = refl; space = v .3 }),
+      λ z. let f = i .0 z in (r .0 (f .right), q .0 (f .there), limits-with t b (s .going) (s .limits) p own c f, f .unheld),
+      λ y. let v = tests-by t b (s .going) p c (y .2) in i .1 (record { right = r .1 (y .0); there = q .1 (y .1); first-key = v .0; few = v .1; apart = v .2; unheld = y .3; space = v .3 }),
     )
 
 entered-wide : (t : Table) (n i m c : ℕ) → entered t n i m c .width ≡ t .width
@@ -150,6 +151,11 @@ pub fitting-front : (t : Tables) (b : two.Buffers) (c : CommandTwo) (p : List �
 unfolding total
 fitting-front t b c p cs l = limits-less (mostStanzas t) (λ k. length (bufferOf k b)) (λ m. sumsIn t m + total m (said c p ∷ cs)) (λ m. sumsIn t m + weight m (said c p)) l (λ m. omega arith)
 
+-- and by itself
+pub fitting-one : (t : Tables) (b : two.Buffers) (c : CommandTwo) (p : List ℕ) → With t b c p → Fitting t b (said c p ∷ [])
+unfolding total
+fitting-one t b c p l = limits-less (mostStanzas t) (λ k. length (bufferOf k b)) (λ m. sumsIn t m + weight m (said c p)) (λ m. sumsIn t m + (weight m (said c p) + 0)) l (λ m. omega arith)
+
 -- what is still to come behind it
 pub fitting-rest : (own : Bool) (left : Left) (t : Tables) (b : two.Buffers) (c : CommandTwo) (p : List ℕ) (cs : List Said) → Standing left t b → Faultless own t b c (length p) →
     Fitting t b (said c p ∷ cs) ↔ Fitting (applied t b c p) (filledBy t b c p) cs
@@ -171,12 +177,15 @@ isAsk done = false
 isAsk other = false
 isAsk (bad n) = false
 
--- the word done asks nothing
-done-asks : (m : Machine) (x : List ℕ) → isDone x ≡ true → (v : WordTwo) → commandIn m x ≡ ask v → ⊥
-unfolding commandTwo same isAsk
-done-asks m x e v q =
-    let w : argumentOf (lineIn x) 0 ≡ doneWord = same-eq (argumentOf (lineIn x) 0) doneWord e in
-    go (isBare (lineIn x) (length (bodyIn x)) 0) (ap (λ w. isAsk (rowTwo (wordTwo m w) m (lineIn x) (length (bodyIn x)))) (sym w) ∙ ap isAsk q)
+-- the word done is done, or a fault
+pub done-word : (m : Machine) (line body : List ℕ) → same (argumentOf line 0) doneWord ≡ true → commandTwo m line body ≡ pick (isBare line (length body) 0) done (bad 4)
+unfolding commandTwo same
+done-word m line body e = ap (λ w. rowTwo (wordTwo m w) m line (length body)) (same-eq (argumentOf line 0) doneWord e)
+
+-- it asks nothing
+pub done-asks : (m : Machine) (x : List ℕ) → isDone x ≡ true → (v : WordTwo) → commandIn m x ≡ ask v → ⊥
+unfolding isAsk
+done-asks m x e v q = go (isBare (lineIn x) (length (bodyIn x)) 0) (ap isAsk (sym (done-word m (lineIn x) (bodyIn x) e) ∙ q))
   where
     go : (f : Bool) → isAsk (pick f done (bad 4)) ≡ true → ⊥
     go true e = false≢true e
@@ -206,22 +215,22 @@ module _ (s : Session) (left : Left) where
     -- it is right by itself and keeps the limits exactly if the decision finds no fault and its replies are as they must be
     block-iff : ((judged s t b (x .text) w ≡ 0) × Answered (s .screen) c (x .replies)) ↔ (RightBlock (s .machine) (s .screen) left x × With t (b .second) c p)
     block-iff =
-        let i = decided-exact left t (b .second) (isDone (x .text)) c p (proper (x .text)) g in (
+        let i = decided-exact false left t (b .second) (isDone (x .text)) c p (proper (x .text)) g in (
           λ h. let r = i .0 (h .0) in (record { right = r .0; present = r .1; answered = h .1 }, r .2),
-          λ h. (i .1 (h .0 .right, h .0 .present, h .1), h .0 .answered),
+          λ h. (i .1 (h .0 .right, h .0 .present, h .1, refl), h .0 .answered),
         )
 
-    standing-behind : judged s t b (x .text) w ≡ 0 → Standing left (tablesWith s t b (x .text) w) (buffersWith s t b (x .text) w .second)
+    pub standing-behind : judged s t b (x .text) w ≡ 0 → Standing left (tablesWith s t b (x .text) w) (buffersWith s t b (x .text) w .second)
     standing-behind z = standing-with false left t (b .second) c p g (decided-iff false t (b .second) c (length p) .0 z)
 
   -- a list of blocks is accepted only in phase two
-  first-turn : (s′ : Session) (b : Buffers) (outs : Supply) (xs : List Block) (y : Block) → Accepted s′ b (callsOf two-part outs (xs ++ (y ∷ []))) → s′ .phase ≡ Two
+  pub first-turn : (s′ : Session) (b : Buffers) (outs : Supply) (xs : List Block) (y : Block) → Accepted s′ b (callsOf two-part outs (xs ++ (y ∷ []))) → s′ .phase ≡ Two
   unfolding callsOf AllZero numbers
   first-turn s′ b outs [] y a = accepted s′ b (receive-two (y .text) (outs 0)) (a .0) .turn
   first-turn s′ b outs (x ∷ xs) y a = accepted s′ b (receive-two (x .text) (outs 0)) (a .0) .turn
 
   -- behind a block that is not done
-  behind-block : (t : Tables) (b : Buffers) (x : Block) (w : Whole (x .text)) (outs : Supply) → isDone (x .text) ≡ false → BlockDone s t b x w outs →
+  pub behind-block : (t : Tables) (b : Buffers) (x : Block) (w : Whole (x .text)) (outs : Supply) → isDone (x .text) ≡ false → BlockDone s t b x w outs →
       after (at s Two t) b (blockCalls two-part outs x) ≡ stateOf (at s Two (tablesWith s t b (x .text) w)) (buffersWith s t b (x .text) w)
   behind-block t b x w outs d k =
       k .state ∙ ap (λ q. stateOf (at s q (tablesWith s t b (x .text) w)) (buffersWith s t b (x .text) w)) (goes-on (commandIn (s .machine) (x .text)) (subst (λ f. Proper f (commandIn (s .machine) (x .text))) d (proper (x .text))))
@@ -242,12 +251,12 @@ module _ (s : Session) (left : Left) where
       let i = block-iff t b y (w .0) g in
       let split = accepted-append (at s Two t) b (blockCalls two-part outs y) [] in (
         λ a.
-        let h = block-to s t b y (w .0) outs le (split .0 a .0) (λ v q. absurd (done-asks (s .machine) (y .text) e v q)) in
-        let r = i .0 h in
-        ((r .0, tt), limits-less (mostStanzas t) (λ k. length (bufferOf k (b .second))) (λ m. sumsIn t m + weight m (saidBy (s .machine) y)) (λ m. sumsIn t m + (weight m (saidBy (s .machine) y) + 0)) (r .1) (λ m. omega arith)),
+            let h = block-to s t b y (w .0) outs le (split .0 a .0) (λ v q. absurd (done-asks (s .machine) (y .text) e v q)) in
+            let r = i .0 h in
+            ((r .0, tt), fitting-one t (b .second) (commandIn (s .machine) (y .text)) (payloadIn (s .machine) (y .text)) (r .1)),
         λ h.
-        let z = i .1 (h .0 .0, fitting-front t (b .second) (commandIn (s .machine) (y .text)) (payloadIn (s .machine) (y .text)) [] (h .1)) in
-        split .1 (block-from s t b y (w .0) outs le (z .0) (z .1) .zeros, unfold AllZero in unfold numbers in tt),
+            let z = i .1 (h .0 .0, fitting-front t (b .second) (commandIn (s .machine) (y .text)) (payloadIn (s .machine) (y .text)) [] (h .1)) in
+            split .1 (block-from s t b y (w .0) outs le (z .0) (z .1) .zeros, unfold AllZero in unfold numbers in tt),
       )
   accepted-from (x ∷ xs) y t b outs g w d e l =
       let cs = callsOf two-part (behind outs x) (xs ++ (y ∷ [])) in
@@ -262,16 +271,16 @@ module _ (s : Session) (left : Left) where
       let later : judged s t b (x .text) (w .0) ≡ 0 → Replies → Accepted (at s Two t′) b′ cs ↔ (Right (xs ++ (y ∷ [])) × Fitting t′ (b′ .second) (saids (xs ++ (y ∷ [])))) =
       λ z q. accepted-from xs y t′ b′ (behind outs x) (standing-behind t b x (w .0) g z) (w .1) (d .1) e (subst (λ u. LongEnough (u .session) (u .buffers) cs) (state z q) (le .1)) in (
         λ a.
-        let split-a = split .0 a in
-        let turn = first-turn (after (at s Two t) b (blockCalls two-part outs x) .session) (after (at s Two t) b (blockCalls two-part outs x) .buffers) (behind outs x) xs y (split-a .1) in
-        let h = block-to s t b x (w .0) outs (le .0) (split-a .0) (λ v q. subst Settled (sym turn) tt) in
-        let r = i .0 h in
-        let rest = later (h .0) (h .1) .0 (subst (λ u. Accepted (u .session) (u .buffers) cs) (state (h .0) (h .1)) (split-a .1)) in
-        let f = decided-iff false t (b .second) (commandIn (s .machine) (x .text)) (length (payloadIn (s .machine) (x .text))) .0 (h .0) in
-        ((r .0, rest .0), fitting-rest false left t (b .second) (commandIn (s .machine) (x .text)) (payloadIn (s .machine) (x .text)) (saids (xs ++ (y ∷ []))) g f .1 (rest .1)),
+            let split-a = split .0 a in
+            let turn = first-turn (after (at s Two t) b (blockCalls two-part outs x) .session) (after (at s Two t) b (blockCalls two-part outs x) .buffers) (behind outs x) xs y (split-a .1) in
+            let h = block-to s t b x (w .0) outs (le .0) (split-a .0) (λ v q. subst Settled (sym turn) tt) in
+            let r = i .0 h in
+            let rest = later (h .0) (h .1) .0 (subst (λ u. Accepted (u .session) (u .buffers) cs) (state (h .0) (h .1)) (split-a .1)) in
+            let f = decided-iff false t (b .second) (commandIn (s .machine) (x .text)) (length (payloadIn (s .machine) (x .text))) .0 (h .0) in
+            ((r .0, rest .0), fitting-rest false left t (b .second) (commandIn (s .machine) (x .text)) (payloadIn (s .machine) (x .text)) (saids (xs ++ (y ∷ []))) g f .1 (rest .1)),
         λ h.
-        let z = i .1 (h .0 .0, fitting-front t (b .second) (commandIn (s .machine) (x .text)) (payloadIn (s .machine) (x .text)) (saids (xs ++ (y ∷ []))) (h .1)) in
-        let f = decided-iff false t (b .second) (commandIn (s .machine) (x .text)) (length (payloadIn (s .machine) (x .text))) .0 (z .0) in
-        let rest = later (z .0) (z .1) .1 (h .0 .1, fitting-rest false left t (b .second) (commandIn (s .machine) (x .text)) (payloadIn (s .machine) (x .text)) (saids (xs ++ (y ∷ []))) g f .0 (h .1)) in
-        split .1 (block-from s t b x (w .0) outs (le .0) (z .0) (z .1) .zeros, subst (λ u. Accepted (u .session) (u .buffers) cs) (sym (state (z .0) (z .1))) rest),
+            let z = i .1 (h .0 .0, fitting-front t (b .second) (commandIn (s .machine) (x .text)) (payloadIn (s .machine) (x .text)) (saids (xs ++ (y ∷ []))) (h .1)) in
+            let f = decided-iff false t (b .second) (commandIn (s .machine) (x .text)) (length (payloadIn (s .machine) (x .text))) .0 (z .0) in
+            let rest = later (z .0) (z .1) .1 (h .0 .1, fitting-rest false left t (b .second) (commandIn (s .machine) (x .text)) (payloadIn (s .machine) (x .text)) (saids (xs ++ (y ∷ []))) g f .0 (h .1)) in
+            split .1 (block-from s t b x (w .0) outs (le .0) (z .0) (z .1) .zeros, subst (λ u. Accepted (u .session) (u .buffers) cs) (sym (state (z .0) (z .1))) rest),
       )

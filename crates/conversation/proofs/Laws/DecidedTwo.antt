@@ -18,12 +18,9 @@ use Rattle.session.specs.PhaseOne.{Tables, firstOf}
 use Rattle.conversation.specs.CommandsTwo.{Named, internal, identity, recipient, header, CommandTwo, ask, stanza, key, error, done, other, bad}
 use Rattle.conversation.specs.PhaseTwo.{Kind, errors, stanzas, returned, Buffers, tableOf, bufferOf, viewOf, Label, labelOf, labels, howMany, isAny, passes, isFile, namesFile, belongs, stanzasFor, mostStanzas, hasKey, markOf, indexOf, isAbout, hasErrorFor, isMissing, isSecondKey, isTooMany, isAgainstKey, isClashing, isSpaceless, isHeldBack, when, faultOf, decided, applied, filledBy, rowsOf}
 use Rattle.conversation.specs.Allowed.{isRightTwo, isKeyFor, isErrorFor, isKind, Said, Sum, keys-for, stanzas-for, errors-for, entries, bytes, weight, slotsTwo, Limits}
-use Rattle.conversation.specs.Phases.{isStanzaFor}
+use Rattle.conversation.proofs.Laws.Firsts.{first-iff}
 
 -- ---- the first fault
-
-pub first-iff : (n late : ℕ) → (firstOf n late ≡ 0) ↔ ((n ≡ 0) × (late ≡ 0))
-first-iff n late = cases (eqb n 0) (λ e. let z = eqb-true n 0 e in (λ h. (z, rw e at h), λ h. rw e (h .1))) (λ e. (λ h. absurd (eqb-false n 0 e (rw e at h)), λ h. absurd (eqb-false n 0 e (h .0))))
 
 when-iff : (f : Bool) (n : ℕ) → 0 < n → (when f n ≡ 0) ↔ (f ≡ false)
 when-iff true n h = (λ e. absurd (omega arith), λ e. absurd (true≢false e))
@@ -61,12 +58,22 @@ decided-iff own t b c n = (to, from)
 
     from : Faultless own t b c n → decided own t b c n ≡ 0
     from f =
-        first-iff (faultOf c) _ .1 (f .right,
-        test-iff (isMissing t c) 6 _ (omega arith) .1 (f .there,
-        test-iff (isSecondKey t c) 9 _ (omega arith) .1 (f .first-key,
-        test-iff (isTooMany t c) 10 _ (omega arith) .1 (f .few,
-        test-iff (isClashing t c) 11 _ (omega arith) .1 (f .apart,
-        test-iff (own && isHeldBack t c) 19 _ (omega arith) .1 (f .unheld, when-iff (isSpaceless t b c n) 8 (omega arith) .1 (f .space)))))))
+        first-iff (faultOf c) _ .1 (
+          f .right,
+          test-iff (isMissing t c) 6 _ (omega arith) .1 (
+            f .there,
+            test-iff (isSecondKey t c) 9 _ (omega arith) .1 (
+              f .first-key,
+              test-iff (isTooMany t c) 10 _ (omega arith) .1 (
+                f .few,
+                test-iff (isClashing t c) 11 _ (omega arith) .1 (
+                  f .apart,
+                  test-iff (own && isHeldBack t c) 19 _ (omega arith) .1 (f .unheld, when-iff (isSpaceless t b c n) 8 (omega arith) .1 (f .space)),
+                ),
+              ),
+            ),
+          ),
+        )
 
 -- ---- labels: what is kept of an entry beside its payload is shown by its row
 

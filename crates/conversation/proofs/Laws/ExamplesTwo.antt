@@ -39,13 +39,14 @@ use Rattle.conversation.specs.Kinds as kinds
 use Rattle.conversation.specs.Kinds.{Buffers, second, viewOf, ofFile}
 use Rattle.conversation.specs.PhaseTwo as two
 use Rattle.conversation.specs.PhaseTwo.{howMany, passes, decided}
-use Rattle.conversation.specs.Phases.{All, keep, Whole, lineIn, bodyIn, two-part, Block, Reply, Phase, blocksOf, IsPhase, Supply, callsOf, replyCalls, writtenIn, LongEnough, Lent, afterLent, JustDone, Strand, of-kind, of-errors, of-file, isIn, Rearranged, SameTables}
+use Rattle.conversation.specs.Phases.{All, keep, Whole, lineIn, bodyIn, two-part, Block, Reply, Phase, blocksOf, IsPhase, Supply, callsOf, replyCalls, writtenIn, LongEnough, CallWith, afterEach, JustDone, Strand, of-kind, of-errors, of-file, isIn, Rearranged, SameTables, SameOutcome}
 use Rattle.conversation.specs.ReceivingTwo as receiving-two
 use Rattle.conversation.specs.ReceivingTwo.{atOnce, textOf}
 use Rattle.conversation.specs.Replying as replying
 use Rattle.conversation.specs.Sending as sending
 use Rattle.conversation.specs.Session.{Session, moved}
 use Rattle.conversation.proofs.Laws.Accepted.{accepted}
+use Rattle.conversation.proofs.Laws.Order.{order}
 use Rattle.conversation.proofs.Laws.Refusals.{refusal}
 
 -- the plugin's name, "x"
@@ -70,14 +71,14 @@ start = stateOf (record { machine = RecipientV1; name = plugin; screen = true; p
 abbrev out : List ℕ
 out = replicate 40 0
 
-abbrev sends : List Lent
+abbrev sends : List CallWith
 sends =
     record { call = send one-command.add-recipient (97 ∷ []) [] out; buffers = lent } ∷ record { call = send one-command.add-identity (98 ∷ []) [] out; buffers = lent } ∷
     record { call = send one-command.wrap-file-key [] (replicate 16 0) out; buffers = lent } ∷ record { call = send one-command.wrap-file-key [] (replicate 16 1) out; buffers = lent } ∷
     []
 
 pub just-done : JustDone (start .session)
-unfolding All afterLent sending.sent sending.sentStanza isName isNameByte isText isChecked separator isUpper isLower lower isCharacter valueOf characterOf encoded decoded endsWell wrapped unwrapped all run isGraphic isWordByte before words isArgument areArguments same
+unfolding All afterEach sending.sent sending.sentStanza isName isNameByte isText isChecked separator isUpper isLower lower isCharacter valueOf characterOf encoded decoded endsWell wrapped unwrapped all run isGraphic isWordByte before words isArgument areArguments same
 just-done = record {
   machine = recipientV1;
   name = plugin;
@@ -237,6 +238,12 @@ given-enough = all-enough (start .session) (start .buffers) (command (stanzaA .t
 pub turned-enough : LongEnough (start .session) (start .buffers) (calls turned)
 unfolding callsOf replyCalls
 turned-enough = all-enough (start .session) (start .buffers) (command (stanzaC .text) ∷ command (stanzaA .text) ∷ command (stanzaB .text) ∷ command (message .text) ∷ ok ∷ command (end .text) ∷ [])
+
+-- so the theorem speaks of them
+pub ordered : SameOutcome two-part start start given turned outs outs
+ordered =
+    order two-part start start just-done just-done (record { machine = refl; name = refl; screen = refl; views = λ k. refl; lengths = λ k. refl })
+    given turned given-phase turned-phase rearranged outs outs given-enough turned-enough
 
 -- the state behind a phase
 abbrev behind : Phase → State

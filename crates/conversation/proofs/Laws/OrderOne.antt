@@ -15,7 +15,7 @@ use Rattle.conversation.specs.Session.{Session, openedSession}
 use Rattle.conversation.specs.Kinds.{Buffers, second, viewOf, ofFile}
 use Rattle.conversation.specs.PhaseTwo as two
 use Rattle.conversation.specs.Calls.{receive, outcome, written, State, stateOf, after, Accepted}
-use Rattle.conversation.specs.Phases.{All, keep, lineIn, bodyIn, wordOf, isNamed, commandOf, rowsFrom, isOf, one-part, Block, Phase, blocksOf, Quiet, IsPhase, Supply, skip, replyCalls, callsOf, writtenIn, responsesTo, Starts, SameLengths, SameStart, isKept, of-kind, isIn, Rearranged, SameOutcome}
+use Rattle.conversation.specs.Phases.{Part, All, keep, lineIn, bodyIn, wordOf, isNamed, commandOf, rowsFrom, isOf, one-part, Block, Phase, blocksOf, Quiet, IsPhase, Supply, skip, replyCalls, callsOf, writtenIn, responsesTo, Starts, SameLengths, SameStart, isKept, of-kind, isIn, Rearranged, SameOutcome}
 use Rattle.conversation.specs.Allowed.{isRight, rowsIn, slotsOf, bytesOf, Rising, Allowed}
 use Rattle.conversation.proofs.Laws.Lists.{all-append, all-permuted, all-kept, all-map, keep-map}
 use Rattle.conversation.proofs.Laws.Limits.{grown-rows}
@@ -99,8 +99,9 @@ module _ (machine : Machine) (name : List ℕ) where
           rising = subst Rising (same-rows headers) (a .rising);
         }
 
-  turned : (p q : Phase) → Rearranged one-part machine name p q → Rearranged one-part machine name q p
-  turned p q r = record { same-last = sym (r .same-last); permuted = Permᴰ·symm (r .permuted); same-order = λ k. sym (r .same-order k) }
+  -- in either phase a rearrangement is one both ways
+  pub turned : (part : Part) (p q : Phase) → Rearranged part machine name p q → Rearranged part machine name q p
+  turned part p q r = record { same-last = sym (r .same-last); permuted = Permᴰ·symm (r .permuted); same-order = λ k. sym (r .same-order k) }
 
 -- ---- nothing is written
 
@@ -136,7 +137,7 @@ module _ (machine : Machine) (name : List ℕ) where
   same-outcome b c l p q hp hq r outs outs′ =
       let forth = same-accepted b c l p q hp hq r outs outs′ in
       record {
-        accepted = (forth, same-accepted c b (λ k. sym (l k)) q p hq hp (turned machine name p q r) outs′ outs);
+        accepted = (forth, same-accepted c b (λ k. sym (l k)) q p hq hp (turned machine name one-part p q r) outs′ outs);
         tables = λ a.
             let x = accepted-tables machine name false b outs p hp a in
             let y = accepted-tables machine name false c outs′ q hq (forth a) in

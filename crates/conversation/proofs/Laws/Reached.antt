@@ -34,7 +34,7 @@ use Rattle.conversation.specs.TurnsTwo.{answered}
 use Rattle.conversation.specs.ReceivingTwo.{phaseReceived}
 use Rattle.conversation.specs.SendingTwo.{phaseSent}
 use Rattle.conversation.specs.Calls.{Call, receive, send, receive-two, reply, send-two, respond, Outcome, outcome, sessionAfter, after, lineRead, bodyRead}
-use Rattle.conversation.specs.Phases.{Lent, afterLent, JustDone}
+use Rattle.conversation.specs.Phases.{CallWith, afterEach, JustDone}
 use Rattle.conversation.proofs.Laws.Accepted.{Applied, AppliedTwo, commandAt, payloadAt, AcceptedBy, accepted}
 use Rattle.conversation.proofs.Laws.Refusals.{refusal}
 use Rattle.conversation.proofs.Laws.ViewsTwo.{ReachedTwo, opened-reached-two, applied-reached-two, payload-stored-two, one-leaves, two-leaves, KeptAs}
@@ -262,12 +262,12 @@ after-reached s b [] r = r
 after-reached s b (c ∷ cs) r = after-reached (outcome s b c .session) (outcome s b c .buffers) cs (call-reached s b c r)
 
 -- also where each call is lent its own buffers
-pub lent-reached : (s : Session) (cs : List Lent) → ReachedSession s → ReachedSession (afterLent s cs)
-unfolding afterLent
-lent-reached s [] r = r
-lent-reached s (c ∷ cs) r = lent-reached (outcome s (c .buffers) (c .call) .session) cs (call-reached s (c .buffers) (c .call) r)
+pub each-reached : (s : Session) (cs : List CallWith) → ReachedSession s → ReachedSession (afterEach s cs)
+unfolding afterEach
+each-reached s [] r = r
+each-reached s (c ∷ cs) r = each-reached (outcome s (c .buffers) (c .call) .session) cs (call-reached s (c .buffers) (c .call) r)
 
--- ---- a client session that has just sent done
+-- ---- a session that has just sent or received done
 
 -- it is in phase two, and has nothing of it yet
 pub record JustReached (s : Session) : Type 0 where
@@ -275,22 +275,37 @@ pub record JustReached (s : Session) : Type 0 where
   pub later-opened : LaterOpened (s .tables)
   pub reached : ReachedSession s
 
+-- done of phase one leads to it, received or sent
+just-applied : (s₀ s : Session) (b b′ : one.Buffers) (line body : List ℕ) → ReachedSession s₀ → Applied s₀ b line body s b′ → commandIn (s .machine) (s .name) line body ≡ done → ReachedSession s → JustReached s
+just-applied s₀ s b b′ line body r a d reached =
+    let c = commandIn (s₀ .machine) (s₀ .name) line body in
+    let p = payloadIn (s₀ .machine) (s₀ .name) line body in
+    let d₀ : c ≡ done = sym (ap (λ x. commandIn (x .machine) (x .name) line body) (a .session)) ∙ d in
+    record {
+      turn = ap (λ x. x .phase) (a .session) ∙ ap phaseAfter d₀;
+      later-opened = subst (λ x. LaterOpened (x .tables)) (sym (a .session)) (applied-later (s₀ .tables) b p c (r .later (a .turn)));
+      reached = reached;
+    }
+
 just-from : (s₀ s : Session) (b : Buffers) (word : Word) (arguments body out : List ℕ) → ReachedSession s₀ →
     commandIn (s .machine) (s .name) (lineSent word arguments) body ≡ done → outcome s₀ b (send word arguments body out) .number ≡ 0 → s ≡ outcome s₀ b (send word arguments body out) .session → JustReached s
 just-from s₀ s b word arguments body out r d z e =
+    let o = outcome s₀ b (send word arguments body out) in
     let line = lineSent word arguments in
-    let a = accepted s₀ b (send word arguments body out) z .applied in
-    let c = commandIn (s₀ .machine) (s₀ .name) line body in
-    let p = payloadIn (s₀ .machine) (s₀ .name) line body in
-    let q : s ≡ moved s₀ (phaseAfter c) (one.applied (s₀ .tables) (b .first) c p) = e ∙ a .session in
-    let d₀ : c ≡ done = sym (ap (λ x. commandIn (x .machine) (x .name) line body) q) ∙ d in
-    record {
-      turn = ap (λ x. x .phase) q ∙ ap phaseAfter d₀;
-      later-opened = subst (λ x. LaterOpened (x .tables)) (sym q) (applied-later (s₀ .tables) (b .first) p c (r .later (a .turn)));
-      reached = subst ReachedSession (sym e) (call-reached s₀ b (send word arguments body out) r);
-    }
+    subst JustReached (sym e)
+    (just-applied s₀ (o .session) (b .first) (o .buffers .first) line body r (accepted s₀ b (send word arguments body out) z .applied) (sym (ap (λ x. commandIn (x .machine) (x .name) line body) e) ∙ d) (call-reached s₀ b (send word arguments body out) r))
+
+-- a plugin session that has just received done
+pub just-heard : (s : Session) (b : Buffers) (text : List ℕ) → ReachedSession s → outcome s b (receive text) .number ≡ 0 →
+    commandIn (s .machine) (s .name) (lineRead (readFirst text) text) (bodyRead (readFirst text) text) ≡ done → JustReached (outcome s b (receive text) .session)
+just-heard s b text r z d =
+    let o = outcome s b (receive text) in
+    let line = lineRead (readFirst text) text in
+    let body = bodyRead (readFirst text) text in
+    let a = accepted s b (receive text) z .applied in
+    just-applied s (o .session) (b .first) (o .buffers .first) line body r a (ap (λ x. commandIn (x .machine) (x .name) line body) (a .session) ∙ d) (call-reached s b (receive text) r)
 
 pub just-done : (s : Session) → JustDone s → JustReached s
 just-done s j =
-    just-from (afterLent (opened (j .machine) (j .name) (j .screen) .session) (j .before)) s (j .buffers) (j .word) (j .arguments) (j .body) (j .out)
-    (lent-reached (opened (j .machine) (j .name) (j .screen) .session) (j .before) (opening-reached (j .machine) (j .name) (j .screen))) (j .is-done) (j .accepted) (j .reached)
+    just-from (afterEach (opened (j .machine) (j .name) (j .screen) .session) (j .before)) s (j .buffers) (j .word) (j .arguments) (j .body) (j .out)
+    (each-reached (opened (j .machine) (j .name) (j .screen) .session) (j .before) (opening-reached (j .machine) (j .name) (j .screen))) (j .is-done) (j .accepted) (j .reached)

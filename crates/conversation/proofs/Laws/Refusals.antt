@@ -41,7 +41,7 @@ pub record Refused (s : Session) (b : Buffers) (c : Call) : Type 0 where
   pub size : outcome s b c .size ≡ 0
 
 -- either branch of a conditional
-either : {X : Type 0} (P : X → Type 0) (f : Bool) (x y : X) → P x → P y → P (pick f x y)
+pub either : {X : Type 0} (P : X → Type 0) (f : Bool) (x y : X) → P x → P y → P (pick f x y)
 either P true x y p q = p
 either P false x y p q = q
 

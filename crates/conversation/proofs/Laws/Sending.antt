@@ -21,20 +21,13 @@ use Rattle.session.specs.declared.phases.Phase.the-variants.{One}
 use Rattle.conversation.specs.Session.{Session}
 use Rattle.conversation.specs.Sending.{Sent, refusedSending, shortness, sentStanza, sentLine, sent}
 use Rattle.conversation.proofs.Laws.Receiving.{turn-first}
+use Rattle.conversation.proofs.Laws.Firsts.{first-iff, short-none}
 
 abbrev sessionIn : Machine → List ℕ → Bool → Phase → Tables → Session
 sessionIn m g x p t = record { machine = m; name = g; screen = x; phase = p; tables = t }
 
 abbrev sending : Answer → Session → Buffers → List ℕ → Sent
 sending a s b out = record { answer = a; session = s; buffers = b; output = out }
-
--- the late fault is none where the first of two is none
-late-none : (n late : ℕ) → firstOf n late ≡ 0 → late ≡ 0
-late-none n late e = cases (eqb n 0) (λ f. sym (ap (λ z. pick z late n) f) ∙ e) (λ f. absurd (eqb-false n 0 f (sym (ap (λ z. pick z late n) f) ∙ e)))
-
-short-none : (f : Bool) → _≡_ {A = ℕ} (pick f 15 0) 0 → f ≡ false
-short-none true e = absurd (omega arith)
-short-none false e = refl
 
 -- what is answered and written where the output is long enough
 answered-whole : (w out : List ℕ) → overflows w out ≡ false → (answered w out ≡ bytes (length w))
@@ -45,7 +38,7 @@ module _ (m : Machine) (g : List ℕ) (x : Bool) (t : Tables) (b : Buffers) (l y
       sending (pick (eqb (numberOne m g t b (shortness (stanzaText l y) out) l y) 0) (written l y out) (refused (numberOne m g t b (shortness (stanzaText l y) out) l y))) (sessionIn m g x (phaseSent (numberOne m g t b (shortness (stanzaText l y) out) l y) (commandIn m g l y)) (tablesOne m g t b (shortness (stanzaText l y) out) l y)) (buffersOne m g t b (shortness (stanzaText l y) out) l y)
       (pick (eqb (numberOne m g t b (shortness (stanzaText l y) out) l y) 0) (bufferAfter l y out) out) ≡ sentStanza (sessionIn m g x One t) b l y out
   unfolding sentStanza
-  step-is = go (eqb (numberOne m g t b (shortness (stanzaText l y) out) l y) 0) (λ f. short-none (overflows (stanzaText l y) out) (late-none (decided t b (commandIn m g l y) (length (payloadIn m g l y))) (shortness (stanzaText l y) out) (eqb-true (numberOne m g t b (shortness (stanzaText l y) out) l y) 0 f)))
+  step-is = go (eqb (numberOne m g t b (shortness (stanzaText l y) out) l y) 0) (λ f. short-none (overflows (stanzaText l y) out) (first-iff (decided t b (commandIn m g l y) (length (payloadIn m g l y))) (shortness (stanzaText l y) out) .0 (eqb-true (numberOne m g t b (shortness (stanzaText l y) out) l y) 0 f) .1))
     where
       go : (f : Bool) → (f ≡ true → overflows (stanzaText l y) out ≡ false) →
           sending (pick f (written l y out) (refused (numberOne m g t b (shortness (stanzaText l y) out) l y))) (sessionIn m g x (pick f (phaseAfter (commandIn m g l y)) One) (pick f (applied t b (commandIn m g l y) (payloadIn m g l y)) t)) (pick f (filledBy t b (commandIn m g l y) (payloadIn m g l y)) b)

@@ -33,16 +33,16 @@ use Rattle.conversation.specs.Replying.{Replied, refusedReply, numberRep
 use Rattle.conversation.specs.Sending.{shortness}
 use Rattle.conversation.specs.Session.{Session, moved}
 use Rattle.conversation.specs.Allowed.{OneReply, AnsweredAsk, Answered}
-use Rattle.conversation.proofs.Laws.DecidedTwo.{first-iff}
+use Rattle.conversation.proofs.Laws.Firsts.{first-iff}
 
 -- ---- output
 
 -- where the output buffer is no shorter than the text, nothing is late
-long-enough : (text out : List ℕ) → length text ≤ length out → shortness text out ≡ 0
+pub long-enough : (text out : List ℕ) → length text ≤ length out → shortness text out ≡ 0
 long-enough text out h = rw (le-ltb (length out) (length text) h)
 
 -- and all of the text is written
-all-written : (text out : List ℕ) → length text ≤ length out → take (length text) (filled text out) ≡ text
+pub all-written : (text out : List ℕ) → length text ≤ length out → take (length text) (filled text out) ≡ text
 all-written text out h = rw (le-ltb (length out) (length text) h) (take-append-seam text (drop (length text) out))
 
 first-late : (n late : ℕ) → late ≡ 0 → (firstOf n late ≡ 0) ↔ (n ≡ 0)
@@ -306,8 +306,9 @@ module _ (s : Session) (t : Tables) (b : Buffers) (x : Block) (w : Whole (x .tex
     block-to a h =
         let z = text-iff s t b (x .text) w (outs 0) enough .0 (a .0) in
         let es = text-session s t b (x .text) w (outs 0) enough z in
-        let eb = text-buffers s t b (x .text) w (outs 0) enough z in
-        (z,
-        replies-to s (tablesWith s t b (x .text) w) (buffersWith s t b (x .text) w) c′ (s .screen) (skip 1 outs) (x .replies)
-        (subst (λ n. AllZero n) (ap₂ (λ s b. numbers s b (replyCalls (skip 1 outs) (x .replies))) es eb) (a .1)) (rest-enough z)
-        (λ v e. subst (λ y. Settled (y .session .phase)) (ap₂ (λ s b. after s b (replyCalls (skip 1 outs) (x .replies))) es eb) (h v e)))
+        let eb = text-buffers s t b (x .text) w (outs 0) enough z in (
+          z,
+          replies-to s (tablesWith s t b (x .text) w) (buffersWith s t b (x .text) w) c′ (s .screen) (skip 1 outs) (x .replies)
+              (subst (λ n. AllZero n) (ap₂ (λ s b. numbers s b (replyCalls (skip 1 outs) (x .replies))) es eb) (a .1)) (rest-enough z)
+              (λ v e. subst (λ y. Settled (y .session .phase)) (ap₂ (λ s b. after s b (replyCalls (skip 1 outs) (x .replies))) es eb) (h v e)),
+        )

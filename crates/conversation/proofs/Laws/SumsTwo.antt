@@ -55,17 +55,17 @@ filed x f v n h k = cases (eqb x f) (λ e. rw (e, ← eqb-true x f e) h) (λ e. 
 own-file : (x : ℕ) → _≡_ {A = ℕ} (pick (eqb x x) 1 0) 1
 own-file x = rw (eq-eqb x x refl)
 
-not-any : (q : Label → Bool) (ls : List Label) → isAny q ls ≡ false → howMany q ls ≡ 0
+pub not-any : (q : Label → Bool) (ls : List Label) → isAny q ls ≡ false → howMany q ls ≡ 0
 not-any q ls e = omega (arith, ltb-false 0 (howMany q ls) e)
 
-none-any : (q : Label → Bool) (ls : List Label) → howMany q ls ≡ 0 → isAny q ls ≡ false
+pub none-any : (q : Label → Bool) (ls : List Label) → howMany q ls ≡ 0 → isAny q ls ≡ false
 none-any q ls e = le-ltb 0 (howMany q ls) (omega arith)
 
-or-false : (a b : Bool) → (a || b) ≡ false → (a ≡ false) × (b ≡ false)
+pub or-false : (a b : Bool) → (a || b) ≡ false → (a ≡ false) × (b ≡ false)
 or-false true b e = absurd (true≢false e)
 or-false false b e = (refl, e)
 
-false-or : (a b : Bool) → a ≡ false → b ≡ false → (a || b) ≡ false
+pub false-or : (a b : Bool) → a ≡ false → b ≡ false → (a || b) ≡ false
 false-or true b p q = p
 false-or false b p q = q
 

@@ -1,14 +1,11 @@
 -- One stanza of a window, by what the call came to, and one turn of the loop over a window: for the code.
-use Prim.Native.Nat.{ℕ, suc, _+_, _-_, _<_, _≤_}
-use mathlib.Core.Path.{_≡_, refl, sym, ap, _∙_, subst}
-use mathlib.Core.Bool.{Bool, true, false, false≢true, true≢false}
+use Prim.Native.Nat.{ℕ, suc, _+_, _-_, _≤_}
+use mathlib.Core.Path.{_≡_, refl, sym, ap, _∙_}
+use mathlib.Core.Bool.{Bool, true, false}
 use mathlib.Core.List.{List, [], _∷_}
-use lib.Dec.{leb}
 use lib.ListN.{length, take, drop, length-drop}
 use lib.Seq.{drop-drop}
 use native.Mathlib.Omega.{arith}
-use borrow.Author.Tests.{leb-true}
-use Rattle.refusal.specs.Pick.{pick}
 use Rattle.refusal.specs.Run.{all}
 use Rattle.refusal.specs.Same.{same}
 use Rattle.refusal.proofs.Laws.Lists.{part-rest}
@@ -19,13 +16,10 @@ use Rattle.session.specs.PhaseOne.{Buffers, buffersOf}
 use Rattle.session.specs.Opening.{recipientV1}
 use Rattle.conversation.specs.Session.{Session, opened}
 use Rattle.conversation.specs.Receiving.{Taking, took, declined, Received, received}
-use Rattle.judging.specs.Judging.{Judged, counted, Standing, going, stopped, Turn, turnOf, isDone, turnBy, turned, behind, judgedWith, judgeName, start, judgedText}
-use Rattle.judging.specs.Windows.{leastOf, windowed}
-use Rattle.judging.specs.Said.{judgedSaid, standingIn, lentOf, isDue}
-use Rattle.judging.specs.declared.Progress.{Progress}
-use Rattle.judging.specs.declared.Progress.the-variants as the
+use Rattle.judging.specs.Judging.{Judged, Standing, going, stopped, Turn, turnOf, behindCommand, behindRefusal, turnBy, turned, behind, judgedFrom, judgeName, start, judgedText}
+use Rattle.judging.specs.Said.{buffersIn}
 use Rattle.judging.proofs.Laws.Reading.{received-takes}
-use Rattle.judging.proofs.Laws.Turns.{turned-takes, behind-stays, behind-behind, ended, unrolled-on, unrolled-off}
+use Rattle.judging.proofs.Laws.Turns.{turned-within, behind-stays, behind-behind, ended, unrolled-end, unrolled-on}
 
 -- ---- the opening
 
@@ -40,33 +34,23 @@ empty-list (x ∷ l) h = absurd (omega arith)
 
 -- ---- one stanza: the code calls with the part of the window from `at` to its end
 
-module _ (s after : Session) (b : Buffers) (r i k h : List ℕ) (window : List ℕ) (at : ℕ) (a : Taking) (none : length h ≡ 0)
+module _ (last : Bool) (s after : Session) (b : Buffers) (r i k h : List ℕ) (window : List ℕ) (at : ℕ) (a : Taking) (none : length h ≡ 0)
     (e : _≡_ {A = Received} (record { answer = a; session = after; buffers = buffersOf r i k h }) (received s (take (length window - at) (drop at window)) b)) where
-  by-answer : (a′ : Taking) → a ≡ a′ → behind at (turnBy s (record { answer = a′; session = after; buffers = lentOf r i k })) ≡ behind at (turned s b (drop at window))
+  by-answer : (a′ : Taking) → a ≡ a′ → behind at (turnBy last s (record { answer = a′; session = after; buffers = buffersIn r i k })) ≡ behind at (turned last s b (drop at window))
   by-answer a′ q =
       ap (behind at)
-      (ap (λ x. turnBy s (record { answer = x; session = after; buffers = lentOf r i k })) (sym q)
-      ∙ ap (λ x. turnBy s (record { answer = a; session = after; buffers = buffersOf r i k x })) (sym (empty-list h none))
-      ∙ ap (turnBy s) e
-      ∙ ap (turned s b) (part-rest at window))
+      (ap (λ x. turnBy last s (record { answer = x; session = after; buffers = buffersIn r i k })) (sym q)
+      ∙ ap (λ x. turnBy last s (record { answer = a; session = after; buffers = buffersOf r i k x })) (sym (empty-list h none))
+      ∙ ap (turnBy last s) e
+      ∙ ap (turned last s b) (part-rest at window))
 
-  -- a refusal stops it, with the counts before
-  pub turn-refused : (n m : ℕ) (x : Judged) → a ≡ declined n → m ≡ n → x ≡ counted (s .tables) m → turnOf (stopped x) (lentOf r i k) at ≡ behind at (turned s b (drop at window))
-  turn-refused n m x q p c =
-      ap (λ y. turnOf (stopped y) (lentOf r i k) at) (c ∙ ap (counted (s .tables)) p) ∙ sym (behind-stays (stopped (counted (s .tables) n)) (lentOf r i k) at) ∙ by-answer (declined n) q
+  -- behind a refusal
+  pub turn-refused : (n : ℕ) (d : Standing) → a ≡ declined n → d ≡ behindRefusal last n s → turnOf d (buffersIn r i k) at ≡ behind at (turned last s b (drop at window))
+  turn-refused n d q f = ap (λ x. turnOf x (buffersIn r i k) at) f ∙ sym (behind-stays (behindRefusal last n s) (buffersIn r i k) at) ∙ by-answer (declined n) q
 
-  abbrev stands : Bool → Standing
-  stands f = pick f (stopped (counted (after .tables) 0)) (going after)
-
-  -- done stops it
-  pub turn-done : (w : Word) (n : ℕ) (f : Bool) (x : Judged) → a ≡ took w n → f ≡ isDone w → f ≡ true → x ≡ counted (after .tables) 0 →
-      turnOf (stopped x) (lentOf r i k) (at + n) ≡ behind at (turned s b (drop at window))
-  turn-done w n f x q d t c =
-      ap (λ y. turnOf (stopped y) (lentOf r i k) (at + n)) c ∙ ap (λ g. turnOf (stands g) (lentOf r i k) (at + n)) (sym t ∙ d) ∙ by-answer (took w n) q
-
-  -- any other command lets it go on
-  pub turn-on : (w : Word) (n : ℕ) (f : Bool) → a ≡ took w n → f ≡ isDone w → f ≡ false → turnOf (going after) (lentOf r i k) (at + n) ≡ behind at (turned s b (drop at window))
-  turn-on w n f q d t = ap (λ g. turnOf (stands g) (lentOf r i k) (at + n)) (sym t ∙ d) ∙ by-answer (took w n) q
+  -- behind a command
+  pub turn-command : (w : Word) (n : ℕ) (d : Standing) → a ≡ took w n → d ≡ behindCommand w after → turnOf d (buffersIn r i k) (at + n) ≡ behind at (turned last s b (drop at window))
+  turn-command w n d q f = ap (λ x. turnOf x (buffersIn r i k) (at + n)) f ∙ by-answer (took w n) q
 
   -- what was taken lies within the window
   pub turn-within : (w : Word) (n : ℕ) → a ≡ took w n → at ≤ length window → at + n ≤ length window
@@ -76,52 +60,38 @@ module _ (s after : Session) (b : Buffers) (r i k h : List ℕ) (window : List �
 
 -- ---- one turn of the loop
 
--- how many turns there may still be, with n bytes left
-abbrev pub ahead : Standing → ℕ → ℕ
-ahead (going s) n = suc n
-ahead (stopped x) n = 0
+-- where judging has stopped the window's turn is over
+pub step-stopped : (last : Bool) (d : Standing) (x : Judged) (b : Buffers) (at : ℕ) (text : List ℕ) → d ≡ stopped x → behind at (judgedFrom last d b text) ≡ turnOf d b at
+step-stopped last d x b at text e =
+    ap (λ y. behind at (judgedFrom last y b text)) e ∙ ap (behind at) (ended (suc (length text)) last x b text) ∙ behind-stays (stopped x) b at ∙ ap (λ y. turnOf y b at) (sym e)
 
--- another stanza is looked at only where judging goes on and enough is left
-pub due : (p : Progress) (s : Session) (n : ℕ) (last : Bool) → isDue p n last ≡ true → (standingIn p s ≡ going s) × (leastOf last ≤ n)
-due the.GoesOn s n last h = (refl, leb-true (leastOf last) n h)
-due (the.Stopped x) s n last h = absurd (false≢true h)
-
--- where none is, the window's turn is over
-pub not-due : (p : Progress) (s : Session) (b : Buffers) (window : List ℕ) (at : ℕ) (last : Bool) → isDue p (length window - at) last ≡ false →
-    behind at (windowed last (standingIn p s) b (drop at window)) ≡ turnOf (standingIn p s) b at
-not-due the.GoesOn s b window at last h =
-    ap (behind at) (unrolled-off (leastOf last) s b (drop at window) (ap (leb (leastOf last)) (length-drop at window) ∙ h)) ∙ behind-stays (going s) b at
-not-due (the.Stopped x) s b window at last h =
-    ap (behind at) (ended (suc (length (drop at window))) (leastOf last) (judgedSaid x) b (drop at window)) ∙ behind-stays (stopped (judgedSaid x)) b at
-
-module _ (last : Bool) (window : List ℕ) (at : ℕ) (s : Session) (b : Buffers) (fits : at ≤ length window) (enough : leastOf last ≤ length window - at)
-    (u : Turn) (e : u ≡ behind at (turned s b (drop at window))) where
-  -- the rest of the window's turn
-  pub step-same : (x : Turn) (d : Standing) → d ≡ going s → x ≡ behind at (windowed last d b (drop at window)) →
-      x ≡ behind (u .taken) (windowed last (u .standing) (u .buffers) (drop (u .taken) window))
-  step-same x d q h =
-      h ∙ ap (λ y. behind at (windowed last y b (drop at window))) q
-      ∙ ap (behind at) (unrolled-on (leastOf last) s b (drop at window) (omega (arith, length-drop at window)))
-      ∙ behind-behind at (turned s b (drop at window) .taken) _
-      ∙ ap (λ y. behind (at + turned s b (drop at window) .taken) (windowed last (turned s b (drop at window) .standing) (turned s b (drop at window) .buffers) y)) (drop-drop (turned s b (drop at window) .taken) at window)
-      ∙ ap (λ y. behind (y .taken) (windowed last (y .standing) (y .buffers) (drop (y .taken) window))) (sym e)
-
-  pub step-within : u .taken ≤ length window
+module _ (last : Bool) (window : List ℕ) (at : ℕ) (s : Session) (b : Buffers) (fits : at ≤ length window)
+    (d : Standing) (goes : d ≡ going s) (u : Turn) (e : u ≡ behind at (turned last s b (drop at window))) where
+  pub step-within : (at ≤ u .taken) × (u .taken ≤ length window)
   step-within =
-      let k = turned-takes s b (drop at window) in
-      omega (arith, ap (λ y. y .taken) e, k .within, length-drop at window)
+      let k = turned-within last s b (drop at window) in
+      let l = length-drop at window in
+      let n = ap (λ y. y .taken) e in
+      (omega arith, omega arith)
 
-  pub step-less : (d : Standing) → d ≡ going s → ahead (u .standing) (length window - u .taken) < ahead d (length window - at)
-  step-less d q = subst (λ y. ahead (u .standing) (length window - u .taken) < ahead y (length window - at)) (sym q) (less (u .standing) refl)
-    where
-      less : (y : Standing) → u .standing ≡ y → ahead y (length window - u .taken) < suc (length window - at)
-      less (stopped x) h = omega arith
-      less (going s′) h =
-          let k = turned-takes s b (drop at window) in
-          let m = k .moves s′ (sym (ap (λ y. y .standing) e) ∙ h) in
-          omega (arith, ap (λ y. y .taken) e, k .within, length-drop at window)
+  -- where nothing was taken the window's turn is over
+  pub step-end : u .taken ≡ at → behind at (judgedFrom last d b (drop at window)) ≡ u
+  step-end h =
+      let n = ap (λ y. y .taken) e in
+      ap (λ y. behind at (judgedFrom last y b (drop at window))) goes ∙ ap (behind at) (unrolled-end last s b (drop at window) (omega arith)) ∙ sym e
+
+  -- else the rest of it is judged
+  pub step-on : (u .taken ≡ at → ⊥) → behind at (judgedFrom last d b (drop at window)) ≡ behind (u .taken) (judgedFrom last (u .standing) (u .buffers) (drop (u .taken) window))
+  step-on h =
+      let t = turned last s b (drop at window) in
+      let n = ap (λ y. y .taken) e in
+      ap (λ y. behind at (judgedFrom last y b (drop at window))) goes
+      ∙ ap (behind at) (unrolled-on last s b (drop at window) (λ z. h (omega arith)))
+      ∙ behind-behind at (t .taken) _
+      ∙ ap (λ y. behind (at + t .taken) (judgedFrom last (t .standing) (t .buffers) y)) (drop-drop (t .taken) at window)
+      ∙ ap (λ y. behind (y .taken) (judgedFrom last (y .standing) (y .buffers) (drop (y .taken) window))) (sym e)
 
 -- ---- a whole text
 
-pub whole : (u : Turn) (d : Standing) (b : Buffers) (text : List ℕ) → u ≡ windowed true d b text → d ≡ going start → u ≡ judgedText b text
-whole u d b text e q = e ∙ ap (λ x. windowed true x b text) q
+pub whole : (u : Turn) (d : Standing) (b : Buffers) (text : List ℕ) → u ≡ judgedFrom true d b text → d ≡ going start → u ≡ judgedText b text
+whole u d b text e q = e ∙ ap (λ x. judgedFrom true x b text) q

@@ -1,35 +1,29 @@
 -- Judging stanza after stanza, without the fuel.
 use Prim.Native.Nat.{ℕ, zero, suc, _+_, _<_, _≤_}
-use mathlib.Core.Path.{_≡_, refl, sym, ap, ap₂, _∙_}
-use mathlib.Core.Bool.{Bool, true, false}
-use mathlib.Core.List.{List, [], _∷_, _++_}
-use lib.Dec.{leb}
-use lib.ListN.{length, take, drop, length-drop}
+use mathlib.Core.Path.{_≡_, refl, sym, ap}
+use mathlib.Core.Bool.{Bool}
+use mathlib.Core.List.{List}
+use lib.Dec.{eqb}
+use lib.ListN.{length, drop, length-drop}
 use native.Mathlib.Nat.{zero-add, add-zero, add-assoc}
 use native.Mathlib.Omega.{arith}
-use borrow.Author.Tests.{le-leb}
-use Rattle.refusal.specs.Pick.{pick}
+use borrow.Author.Tests.{eq-eqb, ne-eqb, eqb-false}
+use Rattle.refusal.proofs.Laws.Booleans.{cases}
 use Rattle.session.specs.PhaseOne.{Buffers}
 use Rattle.session.specs.Commands.{Word}
 use Rattle.conversation.specs.Session.{Session}
-use Rattle.conversation.specs.Receiving.{Taking, took, declined, Received, received}
+use Rattle.conversation.specs.Receiving.{Taking, took, declined, received}
 use Rattle.judging.specs.Judging.{Judged, Standing, going, stopped, Turn, turnOf, turnBy, turned, behind, judgedWith, judgedFrom}
 use Rattle.judging.proofs.Laws.Reading.{received-takes}
 
--- ---- one stanza
-
--- it takes no more than the text, and where judging goes on a byte or more
-pub record Takes (n : ℕ) (t : Turn) : Type 0 where
-  pub within : t .taken ≤ n
-  pub moves : (s : Session) → t .standing ≡ going s → 0 < t .taken
-
-pub turned-takes : (s : Session) (b : Buffers) (text : List ℕ) → Takes (length text) (turned s b text)
-turned-takes s b text = any (received s text b .answer) (received-takes s b text)
+-- a stanza takes no more than the text
+pub turned-within : (last : Bool) (s : Session) (b : Buffers) (text : List ℕ) → turned last s b text .taken ≤ length text
+turned-within last s b text = any (received s text b .answer) (received-takes s b text)
   where
     any : (a : Taking) → ((w : Word) (k : ℕ) → a ≡ took w k → (0 < k) × (k ≤ length text)) →
-        Takes (length text) (turnBy s (record { answer = a; session = received s text b .session; buffers = received s text b .buffers }))
-    any (took w k) h = record { within = h w k refl .1; moves = λ s′ e. h w k refl .0 }
-    any (declined n) h = record { within = omega arith; moves = λ s′ e. let z : _≡_ {A = ℕ} 0 1 = cc in absurd (omega arith) }
+        turnBy last s (record { answer = a; session = received s text b .session; buffers = received s text b .buffers }) .taken ≤ length text
+    any (took w k) h = h w k refl .1
+    any (declined n) h = omega arith
 
 -- ---- turns put together
 
@@ -45,49 +39,39 @@ behind-behind j k t = ap (turnOf (t .standing) (t .buffers)) (sym (add-assoc j k
 -- ---- without fuel
 
 -- numbers that stand are kept
-pub ended : (f least : ℕ) (x : Judged) (b : Buffers) (text : List ℕ) → judgedWith f least (stopped x) b text ≡ turnOf (stopped x) b 0
+pub ended : (f : ℕ) (last : Bool) (x : Judged) (b : Buffers) (text : List ℕ) → judgedWith f last (stopped x) b text ≡ turnOf (stopped x) b 0
 unfolding judgedWith
-ended zero least x b text = refl
-ended (suc f) least x b text = refl
+ended zero last x b text = refl
+ended (suc f) last x b text = refl
 
 -- fuel that is more than the text's length is never used up
-more : (f g least : ℕ) (d : Standing) (b : Buffers) (text : List ℕ) → length text < f → length text < g → judgedWith f least d b text ≡ judgedWith g least d b text
+more : (f g : ℕ) (last : Bool) (d : Standing) (b : Buffers) (text : List ℕ) → length text < f → length text < g → judgedWith f last d b text ≡ judgedWith g last d b text
 unfolding judgedWith
-more zero g least d b text h i = absurd (omega arith)
-more (suc f) zero least d b text h i = absurd (omega arith)
-more (suc f) (suc g) least (stopped x) b text h i = refl
-more (suc f) (suc g) least (going s) b text h i =
-    let t = turned s b text in
-    ap (λ u. pick (leb least (length text)) (behind (t .taken) u) (turnOf (going s) b 0)) (next (t .standing) refl (λ s′ l. more f g least (going s′) (t .buffers) (drop (t .taken) text) (omega arith) (omega arith)))
-  where
-    next : (d : Standing) → turned s b text .standing ≡ d →
-        ((s′ : Session) → length (drop (turned s b text .taken) text) < length text → judgedWith f least (going s′) (turned s b text .buffers) (drop (turned s b text .taken) text) ≡ judgedWith g least (going s′) (turned s b text .buffers) (drop (turned s b text .taken) text)) →
-        judgedWith f least d (turned s b text .buffers) (drop (turned s b text .taken) text) ≡ judgedWith g least d (turned s b text .buffers) (drop (turned s b text .taken) text)
-    next (stopped x) e ih = ended f least x (turned s b text .buffers) (drop (turned s b text .taken) text) ∙ sym (ended g least x (turned s b text .buffers) (drop (turned s b text .taken) text))
-    next (going s′) e ih =
-        let k = turned-takes s b text in
-        ih s′ (omega (arith, length-drop (turned s b text .taken) text, k .within, k .moves s′ e))
+more zero g last d b text h i = absurd (omega arith)
+more (suc f) zero last d b text h i = absurd (omega arith)
+more (suc f) (suc g) last (stopped x) b text h i = refl
+more (suc f) (suc g) last (going s) b text h i =
+    let t = turned last s b text in
+    cases (eqb (t .taken) 0)
+    (λ e. rw e)
+    (λ e.
+    let k = length-drop (t .taken) text in
+    let w = turned-within last s b text in
+    let n = eqb-false (t .taken) 0 e in
+    rw e (ap (behind (t .taken)) (more f g last (t .standing) (t .buffers) (drop (t .taken) text) (omega arith) (omega arith))))
 
-module _ (least : ℕ) (s : Session) (b : Buffers) (text : List ℕ) where
-  -- judging is to judge a stanza and then what stands behind it
-  pub unrolled : judgedFrom least (going s) b text ≡
-      pick (leb least (length text)) (behind (turned s b text .taken) (judgedFrom least (turned s b text .standing) (turned s b text .buffers) (drop (turned s b text .taken) text))) (turnOf (going s) b 0)
+module _ (last : Bool) (s : Session) (b : Buffers) (text : List ℕ) where
+  -- a stanza that takes nothing ends it
+  pub unrolled-end : turned last s b text .taken ≡ 0 → judgedFrom last (going s) b text ≡ turned last s b text
   unfolding judgedWith
-  unrolled = ap (λ u. pick (leb least (length text)) (behind (turned s b text .taken) u) (turnOf (going s) b 0)) (next (turned s b text .standing) refl)
-    where
-      next : (d : Standing) → turned s b text .standing ≡ d →
-          judgedWith (length text) least d (turned s b text .buffers) (drop (turned s b text .taken) text) ≡ judgedFrom least d (turned s b text .buffers) (drop (turned s b text .taken) text)
-      next (stopped x) e = ended (length text) least x (turned s b text .buffers) (drop (turned s b text .taken) text)
-      next (going s′) e =
-          let k = turned-takes s b text in
-          more (length text) (suc (length (drop (turned s b text .taken) text))) least (going s′) (turned s b text .buffers) (drop (turned s b text .taken) text)
-          (omega (arith, length-drop (turned s b text .taken) text, k .within, k .moves s′ e)) (omega arith)
+  unrolled-end h = rw (eq-eqb (turned last s b text .taken) 0 h)
 
-  -- where enough is left
-  pub unrolled-on : least ≤ length text → judgedFrom least (going s) b text ≡
-      behind (turned s b text .taken) (judgedFrom least (turned s b text .standing) (turned s b text .buffers) (drop (turned s b text .taken) text))
-  unrolled-on h = unrolled ∙ rw (le-leb least (length text) h)
-
-  -- where it is not
-  pub unrolled-off : leb least (length text) ≡ false → judgedFrom least (going s) b text ≡ turnOf (going s) b 0
-  unrolled-off h = unrolled ∙ rw h
+  -- behind any other judging goes on with what stands behind it
+  pub unrolled-on : (turned last s b text .taken ≡ 0 → ⊥) → judgedFrom last (going s) b text ≡
+      behind (turned last s b text .taken) (judgedFrom last (turned last s b text .standing) (turned last s b text .buffers) (drop (turned last s b text .taken) text))
+  unfolding judgedWith
+  unrolled-on h =
+      let t = turned last s b text in
+      let k = length-drop (t .taken) text in
+      let w = turned-within last s b text in
+      rw (ne-eqb (t .taken) 0 h) (ap (behind (t .taken)) (more (length text) (suc (length (drop (t .taken) text))) last (t .standing) (t .buffers) (drop (t .taken) text) (omega arith) (omega arith)))

@@ -6,8 +6,8 @@ use Rattle.refusal.specs.Number.{numberOf}
 use Rattle.session.specs.Commands.{wordSaid}
 use Rattle.plugin.specs.Session.{sessionOf}
 use Rattle.plugin.specs.Receiving.{takingSaid}
-use Rattle.judging.specs.Said.{judgedSaid, lentOf}
-use Rattle.judging.proofs.Laws.Steps.{turn-refused, turn-done, turn-on, turn-within}
+use Rattle.judging.specs.Said.{standingIn, buffersIn}
+use Rattle.judging.proofs.Laws.Steps.{turn-refused, turn-command, turn-within}
 use borrow.Author.Needs.{needs}
 use Rattle.judging.proofs.advance.Statement.{statement}
 use Rattle.judging.proofs.advance.Tie as tie
@@ -30,11 +30,8 @@ receive-requires c κs = search needs
 enum-known-answer : tie.Need-enum-known-answer
 enum-known-answer c = search needs
 
-number-requires : tie.Need-number-requires
-number-requires c κs = search needs
-
-count-requires : tie.Need-count-requires
-count-requires c κs = search needs
+behind-refusal-requires : tie.Need-behind-refusal-requires
+behind-refusal-requires c κs = search needs
 
 enum-known-answer-2 : tie.Need-enum-known-answer-2
 enum-known-answer-2 c = search needs
@@ -43,15 +40,12 @@ add-next : tie.Need-add-next
 add-next c =
     let a = c .before .before .before .before .before .before .before .before .before .before .before .before .before .before .before .before .before .before .before .before .before .args in
     let r = c .before .before .before .before .before .before .before .before .before .before .before .receive in
-    let h = turn-within (sessionOf (a .session)) (sessionOf (r .result .session)) (lentOf (now (a .recipients)) (now (a .identities)) (now (a .keys))) (r .last .1 .1 .0) (r .last .1 .1 .1 .0) (r .last .1 .1 .1 .1 .0) (r .last .1 .1 .1 .1 .1 .0) (now (a .window)) (a .at) (takingSaid (r .result .answer)) (r .kept .1 .1 .1 .1 .1 .0) (r .ensures)
+    let h = turn-within (a .last) (sessionOf (a .session)) (sessionOf (r .result .session)) (buffersIn (now (a .recipients)) (now (a .identities)) (now (a .keys))) (r .last .1 .1 .0) (r .last .1 .1 .1 .0) (r .last .1 .1 .1 .1 .0) (r .last .1 .1 .1 .1 .1 .0) (now (a .window)) (a .at) (takingSaid (r .result .answer)) (r .kept .1 .1 .1 .1 .1 .0) (r .ensures)
     (wordSaid (c .before .answer2 .given .0 .0)) (c .before .answer2 .given .0 .1 .0) (ap takingSaid (c .before .answer2 .given .1)) (c .before .before .before .before .before .before .before .before .before .before .before .before .before .before .before .before .before .before .before .before .before .pre) in
     omega (arith, h, c .before .before .before .before .before .before .before .before .before .before .before .before .before .before .before .before .before .before .before .before .before .good)
 
-is-done-requires : tie.Need-is-done-requires
-is-done-requires c κs = search needs
-
-count-requires-2 : tie.Need-count-requires-2
-count-requires-2 c κs = search needs
+behind-command-requires : tie.Need-behind-command-requires
+behind-command-requires c κs = search needs
 
 same-length : tie.Need-same-length
 same-length c = search needs
@@ -64,10 +58,10 @@ same-length-3 c = search needs
 
 returns : tie.Need-returns
 returns c =
-    let a = c .before .before .before .before .before .before .before .before .before .before .before .before .before .before .before .before .before .before .before .before .before .before .before .before .args in
-    let r = c .before .before .before .before .before .before .before .before .before .before .before .before .before .before .receive in
-    turn-done (sessionOf (a .session)) (sessionOf (r .result .session)) (lentOf (now (a .recipients)) (now (a .identities)) (now (a .keys))) (r .last .1 .1 .0) (r .last .1 .1 .1 .0) (r .last .1 .1 .1 .1 .0) (r .last .1 .1 .1 .1 .1 .0) (now (a .window)) (a .at) (takingSaid (r .result .answer)) (r .kept .1 .1 .1 .1 .1 .0) (r .ensures)
-    (wordSaid (c .before .before .before .before .answer2 .given .0 .0)) (c .before .before .before .before .answer2 .given .0 .1 .0) (c .before .before .is-done .result) (judgedSaid (c .count2 .result)) (ap takingSaid (c .before .before .before .before .answer2 .given .1)) (c .before .before .is-done .ensures) (c .before .if1 .taken) (c .count2 .ensures)
+    let a = c .before .before .before .before .before .before .before .before .before .before .before .before .before .before .before .before .before .before .before .before .before .before .args in
+    let r = c .before .before .before .before .before .before .before .before .before .before .before .before .receive in
+    turn-refused (a .last) (sessionOf (a .session)) (sessionOf (r .result .session)) (buffersIn (now (a .recipients)) (now (a .identities)) (now (a .keys))) (r .last .1 .1 .0) (r .last .1 .1 .1 .0) (r .last .1 .1 .1 .1 .0) (r .last .1 .1 .1 .1 .1 .0) (now (a .window)) (a .at) (takingSaid (r .result .answer)) (r .kept .1 .1 .1 .1 .1 .0) (r .ensures)
+    (numberOf (c .before .before .answer .given .0 .0)) (standingIn (c .behind-refusal .result) (sessionOf (a .session))) (ap takingSaid (c .before .before .answer .given .1)) (c .behind-refusal .ensures)
 
 same-length-4 : tie.Need-same-length-4
 same-length-4 c = search needs
@@ -80,26 +74,10 @@ same-length-6 c = search needs
 
 returns-2 : tie.Need-returns-2
 returns-2 c =
-    let a = c .before .before .before .before .before .before .before .before .before .before .before .before .before .before .before .before .before .before .before .before .before .before .before .args in
-    let r = c .before .before .before .before .before .before .before .before .before .before .before .before .before .receive in
-    turn-refused (sessionOf (a .session)) (sessionOf (r .result .session)) (lentOf (now (a .recipients)) (now (a .identities)) (now (a .keys))) (r .last .1 .1 .0) (r .last .1 .1 .1 .0) (r .last .1 .1 .1 .1 .0) (r .last .1 .1 .1 .1 .1 .0) (now (a .window)) (a .at) (takingSaid (r .result .answer)) (r .kept .1 .1 .1 .1 .1 .0) (r .ensures)
-    (numberOf (c .before .before .before .answer .given .0 .0)) (c .before .number .result) (judgedSaid (c .count .result)) (ap takingSaid (c .before .before .before .answer .given .1)) (c .before .number .ensures) (c .count .ensures)
-
-same-length-7 : tie.Need-same-length-7
-same-length-7 c = search needs
-
-same-length-8 : tie.Need-same-length-8
-same-length-8 c = search needs
-
-same-length-9 : tie.Need-same-length-9
-same-length-9 c = search needs
-
-returns-3 : tie.Need-returns-3
-returns-3 c =
-    let a = c .before .before .before .before .before .before .before .before .before .before .before .before .before .before .before .before .before .before .before .before .before .before .before .args in
-    let r = c .before .before .before .before .before .before .before .before .before .before .before .before .before .receive in
-    turn-on (sessionOf (a .session)) (sessionOf (r .result .session)) (lentOf (now (a .recipients)) (now (a .identities)) (now (a .keys))) (r .last .1 .1 .0) (r .last .1 .1 .1 .0) (r .last .1 .1 .1 .1 .0) (r .last .1 .1 .1 .1 .1 .0) (now (a .window)) (a .at) (takingSaid (r .result .answer)) (r .kept .1 .1 .1 .1 .1 .0) (r .ensures)
-    (wordSaid (c .before .before .before .answer2 .given .0 .0)) (c .before .before .before .answer2 .given .0 .1 .0) (c .before .is-done .result) (ap takingSaid (c .before .before .before .answer2 .given .1)) (c .before .is-done .ensures) (c .if1 .left)
+    let a = c .before .before .before .before .before .before .before .before .before .before .before .before .before .before .before .before .before .before .before .before .before .before .args in
+    let r = c .before .before .before .before .before .before .before .before .before .before .before .before .receive in
+    turn-command (a .last) (sessionOf (a .session)) (sessionOf (r .result .session)) (buffersIn (now (a .recipients)) (now (a .identities)) (now (a .keys))) (r .last .1 .1 .0) (r .last .1 .1 .1 .0) (r .last .1 .1 .1 .1 .0) (r .last .1 .1 .1 .1 .1 .0) (now (a .window)) (a .at) (takingSaid (r .result .answer)) (r .kept .1 .1 .1 .1 .1 .0) (r .ensures)
+    (wordSaid (c .before .before .answer2 .given .0 .0)) (c .before .before .answer2 .given .0 .1 .0) (standingIn (c .behind-command .result) (sessionOf (r .result .session))) (ap takingSaid (c .before .before .answer2 .given .1)) (c .behind-command .ensures)
 
 pub advance-spec : {M : Type 1} → statement M
 advance-spec =
@@ -111,12 +89,10 @@ advance-spec =
     slice-aggregate-receive
     receive-requires
     enum-known-answer
-    number-requires
-    count-requires
+    behind-refusal-requires
     enum-known-answer-2
     add-next
-    is-done-requires
-    count-requires-2
+    behind-command-requires
     same-length
     same-length-2
     same-length-3
@@ -124,8 +100,4 @@ advance-spec =
     same-length-4
     same-length-5
     same-length-6
-    returns-2
-    same-length-7
-    same-length-8
-    same-length-9
-    returns-3)
+    returns-2)

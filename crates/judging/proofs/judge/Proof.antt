@@ -2,7 +2,7 @@
 use mathlib.Core.Path.{ap, _∙_}
 use denote.Ref.{now}
 use Rattle.judging.specs.Judging.{numbersOf}
-use Rattle.judging.specs.Said.{standingOf, lentOf, turnSaid}
+use Rattle.judging.specs.Said.{standingOf, buffersIn, turnSaid}
 use Rattle.judging.proofs.Laws.Steps.{whole}
 use borrow.Author.Needs.{needs}
 use Rattle.judging.proofs.judge.Statement.{statement}
@@ -30,7 +30,7 @@ returns : tie.Need-returns
 returns c =
     let a = c .before .before .before .before .before .before .before .before .before .before .before .before .before .before .before .before .args in
     let j = c .before .before .before .before .before .before .before .judge-window in
-    let e = whole (turnSaid (j .result) (j .last .1 .1 .1 .0) (j .last .1 .1 .1 .1 .0) (j .last .1 .1 .1 .1 .1 .0)) (standingOf (c .before .before .before .before .before .before .before .before .before .before .before .«open» .result)) (lentOf (now (a .recipients)) (now (a .identities)) (now (a .keys))) (now (a .text)) (j .ensures .0) (c .before .before .before .before .before .before .before .before .before .before .before .«open» .ensures .0) in
+    let e = whole (turnSaid (j .result) (j .last .1 .1 .1 .0) (j .last .1 .1 .1 .1 .0) (j .last .1 .1 .1 .1 .1 .0)) (standingOf (c .before .before .before .before .before .before .before .before .before .before .before .«open» .result)) (buffersIn (now (a .recipients)) (now (a .identities)) (now (a .keys))) (now (a .text)) (j .ensures .0) (c .before .before .before .before .before .before .before .before .before .before .before .«open» .ensures .0) in
     (c .numbers .ensures ∙ ap (λ t. numbersOf (t .standing)) e, ap (λ t. t .buffers) e)
 
 pub judge-spec : {M : Type 1} → statement M

@@ -1,0 +1,2 @@
+-- What is shown of the definitions of phase two, for its code.
+pub mod Commands

@@ -1,0 +1,2 @@
+-- What the code of phase two stands for.
+pub mod Commands
