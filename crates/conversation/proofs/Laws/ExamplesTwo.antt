@@ -1,4 +1,6 @@
--- The order theorem of phase two is not empty, by computation: worked lists of calls of both machines, with several kinds and in two orders.
+-- The order theorem of phase two is not empty: worked lists of calls of both machines, with several kinds and in two orders, by computation; the first two meet
+-- each condition of the theorem. At the end, what each condition is for. (With the same last block, a done further ahead would only have both lists refused: done
+-- once and last is what the paper calls a phase.)
 use Prim.Native.Nat.{ℕ, zero, suc, _≤_}
 use mathlib.Core.Path.{_≡_, refl, sym, ap, _∙_}
 use mathlib.Core.Bool.{Bool, true, false, true≢false}
