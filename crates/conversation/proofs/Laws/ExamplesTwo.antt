@@ -1,16 +1,20 @@
--- The order theorem of phase two is not empty, by computation: worked lists of calls of both machines, with several kinds and in two orders.
-use Prim.Native.Nat.{ℕ, zero, suc}
+-- The order theorem of phase two is not empty: worked lists of calls of both machines, with several kinds and in two orders, by computation; the first two meet
+-- each condition of the theorem. At the end, what each condition is for. (With the same last block, a done further ahead would only have both lists refused: done
+-- once and last is what the paper calls a phase.)
+use Prim.Native.Nat.{ℕ, zero, suc, _≤_}
 use mathlib.Core.Path.{_≡_, refl, sym, ap, _∙_}
 use mathlib.Core.Bool.{Bool, true, false, true≢false}
 use mathlib.Core.List.{List, [], _∷_, _++_, map, Permᴰ·middle, List·Permᴰ·cons, List·Permᴰ·swap, List·Permᴰ·trans}
-use lib.Dec.{eqb, eqb·zero-suc, eqb·suc-suc}
-use lib.ListN.{getD, replicate}
+use lib.Dec.{eqb, lit≤, eqb·zero-suc, eqb·suc-suc}
+use lib.ListN.{length, take, getD, replicate}
 use native.Mathlib.Omega.{arith}
+use borrow.Author.Tests.{eqb-true, eqb-false}
 use Rattle.base64.specs.Alphabet.{isCharacter, valueOf, characterOf}
 use Rattle.base64.specs.Code.{encoded, decoded, endsWell}
 use Rattle.base64.specs.Lines.{wrapped, unwrapped}
 use Rattle.bech32.specs.Charset.{isUpper, isLower, lower}
 use Rattle.bech32.specs.Text.{isName, isNameByte, separator, isChecked, isText}
+use Rattle.refusal.proofs.Laws.Booleans.{cases}
 use Rattle.refusal.specs.Pick.{pick}
 use Rattle.refusal.specs.Run.{all, run}
 use Rattle.refusal.specs.Same.{same}
@@ -31,17 +35,21 @@ use Rattle.session.specs.PhaseOne.{Tables, openedTables}
 use Rattle.session.specs.Views as one-kind
 use Rattle.session.specs.declared.commands.Machine.the-variants.{RecipientV1, IdentityV1}
 use Rattle.session.specs.declared.phases.Phase.the-variants.{Two}
-use Rattle.conversation.specs.Calls.{Call, send, receive-two, reply, State, stateOf, after, numbers, written}
-use Rattle.conversation.specs.CommandsTwo.{internalWord, identityWord, recipientWord, stanzaWord, commandTwo, lineSent}
+use Rattle.conversation.specs.Calls.{Call, send, receive-two, reply, outcome, writtenBy, State, stateOf, after, numbers, written}
+use Rattle.conversation.specs.CommandsTwo.{internalWord, identityWord, recipientWord, stanzaWord, CommandTwo, ask, stanza, key, error, done, other, bad, commandTwo, lineSent}
 use Rattle.conversation.specs.Kinds as kinds
 use Rattle.conversation.specs.Kinds.{Buffers, second, viewOf, ofFile}
 use Rattle.conversation.specs.PhaseTwo as two
 use Rattle.conversation.specs.PhaseTwo.{howMany, passes, decided}
-use Rattle.conversation.specs.Phases.{All, keep, Whole, two-part, Block, Reply, Phase, blocksOf, IsPhase, Supply, callsOf, replyCalls, writtenIn, CallWith, afterEach, JustDone, Strand, of-kind, of-errors, of-file, isIn, Rearranged, SameTables}
+use Rattle.conversation.specs.Phases.{All, keep, Whole, lineIn, bodyIn, two-part, Block, Reply, Phase, blocksOf, IsPhase, Supply, callsOf, replyCalls, writtenIn, LongEnough, CallWith, afterEach, JustDone, Strand, of-kind, of-errors, of-file, isIn, Rearranged, SameTables, SameOutcome}
 use Rattle.conversation.specs.ReceivingTwo as receiving-two
+use Rattle.conversation.specs.ReceivingTwo.{atOnce, textOf}
 use Rattle.conversation.specs.Replying as replying
 use Rattle.conversation.specs.Sending as sending
 use Rattle.conversation.specs.Session.{Session, moved}
+use Rattle.conversation.proofs.Laws.Accepted.{accepted}
+use Rattle.conversation.proofs.Laws.Order.{order}
+use Rattle.conversation.proofs.Laws.Refusals.{refusal}
 
 -- the plugin's name, "x"
 abbrev plugin : List ℕ
@@ -172,6 +180,72 @@ outs = λ i. replicate 16 0
 
 abbrev calls : Phase → List Call
 calls p = callsOf two-part outs (blocksOf p)
+
+-- long enough for every call of both
+at-once-short : (screen : Bool) (c : CommandTwo) → length (textOf (atOnce screen c)) ≤ 16
+unfolding encoded wrapped
+at-once-short true (ask w) = lit≤ tt
+at-once-short false (ask w) = lit≤ tt
+at-once-short screen (stanza f) = lit≤ tt
+at-once-short screen (key f) = lit≤ tt
+at-once-short screen (error n) = lit≤ tt
+at-once-short screen done = lit≤ tt
+at-once-short screen other = lit≤ tt
+at-once-short screen (bad n) = lit≤ tt
+
+ok-short : length (stanzaText (responseLine Ok) []) ≤ 16
+unfolding encoded wrapped
+ok-short = lit≤ tt
+
+taken : (n : ℕ) (l : List ℕ) → length (take n l) ≤ n
+taken zero l = omega arith
+taken (suc n) [] = omega arith
+taken (suc n) (x ∷ l) = omega (arith, taken n l)
+
+module _ (s : Session) (b : Buffers) where
+  -- a refused call writes nothing
+  unless-refused : (c : Call) → (outcome s b c .number ≡ 0 → outcome s b c .size ≤ 16) → length (writtenBy s b c) ≤ 16
+  unless-refused c h =
+      let few : outcome s b c .size ≤ 16 =
+      cases (eqb (outcome s b c .number) 0) (λ e. h (eqb-true (outcome s b c .number) 0 e)) (λ e. omega (arith, refusal s b c (eqb-false (outcome s b c .number) 0 e) .size)) in
+      omega (arith, few, taken (outcome s b c .size) (outcome s b c .output))
+
+  command-short : (text big : List ℕ) → length (writtenBy s b (receive-two text big)) ≤ 16
+  command-short text big =
+      unless-refused (receive-two text big)
+      (λ z. omega (arith, accepted s b (receive-two text big) z .written .size, at-once-short (s .screen) (commandTwo (s .machine) (lineIn text) (bodyIn text))))
+
+  reply-short : (big : List ℕ) → length (writtenBy s b (reply Ok [] big)) ≤ 16
+  reply-short big = unless-refused (reply Ok [] big) (λ z. omega (arith, accepted s b (reply Ok [] big) z .written .size, ok-short))
+
+-- a command, or an ok of the host
+data Heard : Type 0 where
+  command : List ℕ → Heard
+  ok : Heard
+
+abbrev heard : Heard → Call
+heard (command text) = receive-two text (outs 0)
+heard ok = reply Ok [] (outs 0)
+
+all-enough : (s : Session) (b : Buffers) (hs : List Heard) → LongEnough s b (map heard hs)
+unfolding LongEnough
+all-enough s b [] = tt
+all-enough s b (command text ∷ hs) = (command-short s b text, all-enough _ _ hs)
+all-enough s b (ok ∷ hs) = (reply-short s b, all-enough _ _ hs)
+
+pub given-enough : LongEnough (start .session) (start .buffers) (calls given)
+unfolding callsOf replyCalls
+given-enough = all-enough (start .session) (start .buffers) (command (stanzaA .text) ∷ command (message .text) ∷ ok ∷ command (unknown .text) ∷ command (stanzaC .text) ∷ command (stanzaB .text) ∷ command (end .text) ∷ [])
+
+pub turned-enough : LongEnough (start .session) (start .buffers) (calls turned)
+unfolding callsOf replyCalls
+turned-enough = all-enough (start .session) (start .buffers) (command (stanzaC .text) ∷ command (stanzaA .text) ∷ command (stanzaB .text) ∷ command (message .text) ∷ ok ∷ command (end .text) ∷ [])
+
+-- so the theorem speaks of them
+pub ordered : SameOutcome two-part start start given turned outs outs
+ordered =
+    order two-part start start just-done just-done (record { machine = refl; name = refl; screen = refl; views = λ k. refl; lengths = λ k. refl })
+    given turned given-phase turned-phase rearranged outs outs given-enough turned-enough
 
 -- the state behind a phase
 abbrev behind : Phase → State
