@@ -1,2 +1,4 @@
 -- What is shown of the definitions of phase two, for its code.
+pub mod Application
+pub mod AtOnce
 pub mod Commands

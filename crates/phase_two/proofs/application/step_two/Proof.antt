@@ -1,3 +1,8 @@
+use Rattle.phase_two.proofs.Laws.Application.{refused-two, accepted-two}
+use Rattle.refusal.proofs.Laws.Number.{number-not-zero}
+use Rattle.session.specs.PhaseOne.{verdictSaid}
+use lib.Dec.{eqb}
+use mathlib.Core.Path.{_≡_, sym, ap, _∙_}
 use borrow.Author.Needs.{needs}
 use Rattle.phase_two.proofs.application.step_two.Statement.{statement}
 use Rattle.phase_two.proofs.application.step_two.Tie as tie
@@ -24,7 +29,9 @@ apply-two-requires c κs = search needs
 
 -- src/application.rt:99:1
 returns : tie.Need-returns
-returns c = ?
+returns c =
+    let q = c .before .before .first-of .ensures in
+    (q, refused-two _ _ _ _ _ (ap (λ k. eqb k 0) (sym q ∙ ap verdictSaid (c .enum-told .given .1)) ∙ number-not-zero (c .enum-told .given .0 .0)))
 
 -- src/application.rt:99:1
 same-length : tie.Need-same-length
@@ -40,7 +47,9 @@ same-length-3 c = search needs
 
 -- src/application.rt:99:1
 returns-2 : tie.Need-returns-2
-returns-2 c = ?
+returns-2 c =
+    let q = c .before .before .before .before .before .before .before .before .before .before .before .before .first-of .ensures in
+    (q, accepted-two _ _ _ _ _ _ _ _ _ (sym q ∙ ap verdictSaid (c .before .before .before .before .before .before .before .before .before .before .enum-told2 .given .1)) (c .before .before .before .before .before .before .apply-two .ensures))
 
 pub step-two-spec : {M : Type 1} → statement M
 step-two-spec =
