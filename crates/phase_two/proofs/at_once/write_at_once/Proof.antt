@@ -35,9 +35,10 @@ same-length c = search needs
 returns : tie.Need-returns
 returns c =
     let o = now (c .before .before .before .before .before .before .before .before .before .args .out) in
+    let r = c .before .before .before .before .before .before .answer .given .0 .0 in
     let e = sym (c .before .before .before .before .before .before .answer .given .1) in
     let w = c .before .before .write .ensures in
-    (w .0 ∙ written-is _ o ∙ ap (λ a. answered (textOf (atOnceSaid a)) o) e, w .1 ∙ after-is _ o ∙ ap (λ a. filled (textOf (atOnceSaid a)) o) e)
+    (w .0 ∙ written-is r o ∙ ap (λ a. answered (textOf (atOnceSaid a)) o) e, w .1 ∙ after-is r o ∙ ap (λ a. filled (textOf (atOnceSaid a)) o) e)
 
 -- src/at_once.rt:55:1
 returns-2 : tie.Need-returns-2
