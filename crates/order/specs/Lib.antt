@@ -1,0 +1,1 @@
+-- Nothing of its own: the demands are stated over the definitions of the crates below.
