@@ -1,7 +1,7 @@
-use Rattle.responses.specs.Responses.{responseLine}
-use Rattle.stanza.specs.Writing.{written, bufferAfter}
-use denote.Ref.{now}
 use mathlib.Core.Path.{sym, ap, _∙_}
+use denote.Ref.{now}
+use Rattle.stanza.specs.Writing.{written, bufferAfter}
+use Rattle.responses.specs.Responses.{responseLine}
 use borrow.Author.Needs.{needs}
 use Rattle.responses.proofs.write.Statement.{statement}
 use Rattle.responses.proofs.write.Tie as tie

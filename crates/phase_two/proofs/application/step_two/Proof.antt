@@ -1,12 +1,12 @@
-use Rattle.phase_two.specs.Commands.{commandSaid}
+use mathlib.Core.Path.{_≡_, sym, ap, _∙_}
+use lib.Dec.{eqb}
+use denote.Ref.{now}
+use Rattle.refusal.proofs.Laws.Number.{number-not-zero}
+use Rattle.session.specs.PhaseOne.{tablesOf, verdictSaid, firstOf}
 use Rattle.conversation.specs.PhaseTwo.{buffersOf, applied, filledBy}
 use Rattle.conversation.specs.CommandsTwo.{payloadOf}
-use Rattle.session.specs.PhaseOne.{tablesOf, verdictSaid, firstOf}
-use denote.Ref.{now}
+use Rattle.phase_two.specs.Commands.{commandSaid}
 use Rattle.phase_two.proofs.Laws.Application.{refused-two, accepted-two}
-use Rattle.refusal.proofs.Laws.Number.{number-not-zero}
-use lib.Dec.{eqb}
-use mathlib.Core.Path.{_≡_, sym, ap, _∙_}
 use borrow.Author.Needs.{needs}
 use Rattle.phase_two.proofs.application.step_two.Statement.{statement}
 use Rattle.phase_two.proofs.application.step_two.Tie as tie

@@ -1,6 +1,6 @@
-use Rattle.phase_two.proofs.Laws.AtOnce.{size-is, never-refused}
-use Rattle.refusal.specs.Output.{said}
 use mathlib.Core.Path.{sym, ap, _∙_}
+use Rattle.refusal.specs.Output.{said}
+use Rattle.phase_two.proofs.Laws.AtOnce.{size-is, never-refused}
 use borrow.Author.Needs.{needs}
 use Rattle.phase_two.proofs.at_once.at_once_size.Statement.{statement}
 use Rattle.phase_two.proofs.at_once.at_once_size.Tie as tie

@@ -1,9 +1,9 @@
-use Rattle.phase_two.proofs.Laws.AtOnce.{written-is, after-is, silent-is}
-use Rattle.phase_two.specs.AtOnce.{atOnceSaid}
-use Rattle.conversation.specs.ReceivingTwo.{textOf}
-use Rattle.refusal.specs.Output.{answered, filled}
-use denote.Ref.{now}
 use mathlib.Core.Path.{sym, ap, _∙_}
+use denote.Ref.{now}
+use Rattle.refusal.specs.Output.{answered, filled}
+use Rattle.conversation.specs.ReceivingTwo.{textOf}
+use Rattle.phase_two.specs.AtOnce.{atOnceSaid}
+use Rattle.phase_two.proofs.Laws.AtOnce.{written-is, after-is, silent-is}
 use borrow.Author.Needs.{needs}
 use Rattle.phase_two.proofs.at_once.write_at_once.Statement.{statement}
 use Rattle.phase_two.proofs.at_once.write_at_once.Tie as tie
