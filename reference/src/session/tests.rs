@@ -1,6 +1,7 @@
 //! Worked examples, each refusal, and what it leaves behind: each phase at both ends.
 
 mod phase_one;
+mod phase_two;
 
 use super::{written, KINDS};
 
