@@ -7,6 +7,7 @@ mod commands;
 mod judge;
 mod lines;
 mod phase_one;
+mod phase_two;
 mod profile;
 mod random;
 mod recordings;
@@ -31,6 +32,7 @@ pub fn script() -> Vec<u8> {
     judge::sections(&mut script);
     session::sections(&mut script);
     lines::sections(&mut script);
+    phase_two::sections(&mut script);
     script.heading("The last line lacks its LF");
     script.index(b"7");
     script.text.pop();
