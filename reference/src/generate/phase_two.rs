@@ -4,6 +4,7 @@ mod answers;
 mod exchanges;
 mod good;
 mod limits;
+mod lines;
 mod order;
 mod random;
 mod recordings;
@@ -20,6 +21,7 @@ pub(super) fn sections(script: &mut Script) {
     limits::sections(script);
     turns::sections(script);
     order::sections(script);
+    lines::sections(script);
     recordings::sections(script);
     whole::sections(script);
     random::sections(script);

@@ -153,16 +153,18 @@ fn screens(script: &mut Script) {
 fn long_replies(script: &mut Script) {
     script.heading("Replies too long to be written");
     script.enter_client(Screen::Yes, &Start::new(RECIPIENT, SHORT, &[]), [0; 7]);
-    for command in for_the_host() {
-        script.hear(&command.text(), 0);
-        for (word, body, out) in [
-            ("ok", LONGEST_BODY + 1, 65_536),
-            ("ok", 6_300, 0),
-            ("fail", LONGEST_BODY + 1, 0),
-            ("no", 6_200, 9),
-        ] {
-            script.reply(&Answer::with_body(word, &vec![b'r'; body]), out);
-        }
+    let too_long = [b'r'; LONGEST_BODY + 1];
+    for (line, word, out) in [
+        ("request-public", "ok", 65_536),
+        ("request-public", "ok", LIMIT),
+        ("request-secret", "ok", LIMIT + 1),
+        ("request-secret", "ok", 0),
+        ("request-secret", "fail", 65_536),
+        ("msg", "ok", 0),
+        ("confirm AA", "yes", 0),
+    ] {
+        script.hear(&stanza_text(line.as_bytes(), b""), 0);
+        script.reply(&Answer::with_body(word, &too_long), out);
         script.show();
         script.reply(&Answer::new("fail"), 9);
     }

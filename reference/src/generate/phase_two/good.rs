@@ -207,6 +207,26 @@ fn some_unwrapping(script: &mut Script, facts: &Facts) -> Vec<Exchange> {
     work
 }
 
+/// A command that is kept, of a good form and with indices that name something; whether the rules allow it
+/// beside the others is another matter.
+pub(super) fn some_kept(script: &mut Script, start: &Start) -> Exchange {
+    let facts = Facts::of(start);
+    let choice = script.random.below(4);
+    if start.machine == RECIPIENT && choice > 0 && facts.file_keys > 0 {
+        let file = script.random.below(facts.file_keys as usize);
+        return Exchange::stanza(file as u32, "again");
+    }
+    if facts.headers.is_empty() || choice == 0 {
+        return some_error(script, "internal");
+    }
+    let number = script.random.below(facts.headers.len());
+    let file = facts.headers[number].0;
+    match choice {
+        1 => some_error(script, &format!("stanza {file} {number}")),
+        _ => Exchange::file_key(file),
+    }
+}
+
 /// A message, a question or a request, with an answer that fits.
 pub(super) fn some_talk(script: &mut Script) -> Exchange {
     let message = some_message(script);

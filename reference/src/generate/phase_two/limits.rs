@@ -287,8 +287,14 @@ fn long_stanzas(script: &mut Script) {
         }
     }
     script.heading("A command that has not ended after 8,192 bytes");
-    script.enter(End::Client, &Start::recipient(), AMPLE);
-    script.hear(&[b"-> msg\n".as_slice(), &[b'A'; 64], b"\n", &[b'A'; 10]].concat(), LONGEST_ANSWER);
-    script.hear(&[b"-> msg ".as_slice(), &[b'A'; 8_200]].concat(), LONGEST_ANSWER);
-    script.show();
+    let body_line = [[b'A'; 64].as_slice(), b"\n"].concat();
+    for text in [
+        [b"-> msg ".as_slice(), &[b'A'; 8_200]].concat(),
+        [b"-> msg\n".as_slice(), &body_line.repeat(126)].concat(),
+    ] {
+        script.enter(End::Client, &Start::recipient(), AMPLE);
+        script.hear(&text[..8_100], LONGEST_ANSWER);
+        script.hear(&text, LONGEST_ANSWER);
+        script.show();
+    }
 }

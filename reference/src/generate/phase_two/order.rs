@@ -125,8 +125,6 @@ fn replying(script: &mut Script) {
             script.reply(&Answer::new(word), 0);
             script.reply(&Answer::with_body(word, b"b"), 0);
         }
-        script.reply(&Answer::with_body("unsupported", &[b'b'; 6_100]), 0);
-        script.reply(&Answer::with_body("ok", &[b'b'; 6_100]), 0);
         script.reply(&Answer::new("fail"), 9);
     }
 }

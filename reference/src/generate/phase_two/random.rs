@@ -1,7 +1,7 @@
 //! Random phase twos at either end: buffers nearly long enough, commands and answers damaged, calls out of turn.
 
 use super::exchanges::{Answer, Exchange, Screen, Start, AMPLE, LONGEST_ANSWER, WORDS};
-use super::good::{some_exchanges, some_start, some_talk};
+use super::good::{some_exchanges, some_kept, some_start, some_talk};
 use crate::generate::commands::{Command, End, ENDS};
 use crate::generate::phase_one::{damaged_command, damaged_text};
 use crate::generate::Script;
@@ -25,9 +25,19 @@ pub(super) fn sections(script: &mut Script) {
         script.show();
     }
     script.heading("Random phase twos: commands damaged, put in, or in another order");
-    for _ in 0..420 {
+    for _ in 0..330 {
         let (start, exchanges) = some_conversation(script);
         let exchanges = damaged_exchanges(script, exchanges);
+        let end = some_end(script);
+        script.story(end, &start, &exchanges);
+    }
+    script.heading("Random phase twos: commands that the rules forbid beside the others, or do not");
+    for _ in 0..250 {
+        let (start, mut exchanges) = some_conversation(script);
+        for _ in 0..=script.random.below(3) {
+            let at = script.random.below(exchanges.len());
+            exchanges.insert(at, some_kept(script, &start));
+        }
         let end = some_end(script);
         script.story(end, &start, &exchanges);
     }

@@ -42,8 +42,11 @@ fn forms(script: &mut Script) {
         for start in Start::of_both_machines() {
             script.heading(&format!("Forms of commands in phase two, {}, {end:?}", start.machine));
             for line in FORMS {
-                let bodies: &[usize] =
-                    if line == "file-key 3" { &[0, 1, 15, 16, 17, 48] } else { &[0, 1, 16] };
+                let bodies: &[usize] = match line {
+                    "file-key 3" => &[0, 1, 15, 16, 17, 48],
+                    "done" | "msg" | "error internal" => &[0, 1, 16],
+                    _ => &[0, 16],
+                };
                 for &body in bodies {
                     form(script, end, &start, &Command::of_line(line.as_bytes(), &vec![b'b'; body]));
                 }
