@@ -34,17 +34,12 @@ fn for_the_host() -> [Command; 5] {
     ]
 }
 
-/// Each row of the machine's table.
-fn rows(start: &Start) -> Vec<Command> {
-    let of_line = |line: &[u8], body| Command::of_line(line, body);
+/// A command of each row of the table; of the last two each machine names one, and the other is unknown to it.
+fn rows() -> Vec<Command> {
     let mut rows = for_the_host().to_vec();
-    rows.push(of_line(b"error internal", b"no"));
-    if start.machine == RECIPIENT {
-        rows.extend([of_line(b"recipient-stanza 0 s", b"s"), of_line(b"file-key 3", &[b'k'; 16])]);
-    } else {
-        rows.extend([of_line(b"recipient-stanza 0 s", b"s"), of_line(b"file-key 3", &[b'k'; 16])]);
-        rows.push(of_line(b"grease", b""));
-    }
+    rows.push(Command::of_line(b"error internal", b"no"));
+    rows.push(Command::of_line(b"recipient-stanza 0 s", b"s"));
+    rows.push(Command::of_line(b"file-key 3", &[b'k'; 16]));
     rows
 }
 
@@ -52,7 +47,7 @@ fn rows(start: &Start) -> Vec<Command> {
 fn replies(script: &mut Script) {
     for start in Start::of_both_machines() {
         script.heading(&format!("Every reply to every command, {}", start.machine));
-        for command in rows(&start) {
+        for command in rows() {
             script.enter_client(Screen::Yes, &start, AMPLE);
             for word in WORDS {
                 for body in [b"".as_slice(), b"b"] {
@@ -71,7 +66,7 @@ fn replies(script: &mut Script) {
 fn responses(script: &mut Script) {
     for start in Start::of_both_machines() {
         script.heading(&format!("Every response to every command, {}", start.machine));
-        for command in rows(&start) {
+        for command in rows() {
             for word in WORDS {
                 for body in [b"".as_slice(), b"b"] {
                     script.enter(End::Plugin, &start, AMPLE);

@@ -311,6 +311,22 @@ fn held_back_by_stanzas(script: &mut Script) {
             script.exchange_all(end, &[Exchange::file_key(0), Exchange::done()]);
             script.show();
         }
+        script.heading(&format!("One nonconforming stanza among others of its file, {end:?}"));
+        let files: [&[Command]; 4] = [
+            &[nonconforming(0), conforming(0)],
+            &[nonconforming(0), unknown(0), conforming(4)],
+            &[unknown(0), nonconforming(0), unknown(0)],
+            &[nonconforming(0), nonconforming(0)],
+        ];
+        for headers in files {
+            let start = Start::new(IDENTITY, FIDO2_HMAC, headers);
+            for number in 0..headers.len() {
+                let error = Exchange::error(&format!("stanza 0 {number}"), b"");
+                let exchanges = [Exchange::file_key(0), error, Exchange::file_key(0), Exchange::done()];
+                script.story(end, &start, &exchanges);
+                script.story(end, &start, &exchanges[1..]);
+            }
+        }
         script.heading(&format!("Under another name nothing is nonconforming, {end:?}"));
         let phase = [identity(), conforming(0), nonconforming(1)];
         let exchanges = [Exchange::file_key(1), Exchange::file_key(0), Exchange::done()];
