@@ -7,6 +7,7 @@ mod commands;
 mod judge;
 mod lines;
 mod phase_one;
+mod phase_two;
 mod profile;
 mod random;
 mod recordings;
@@ -31,6 +32,7 @@ pub fn script() -> Vec<u8> {
     judge::sections(&mut script);
     session::sections(&mut script);
     lines::sections(&mut script);
+    phase_two::sections(&mut script);
     script.heading("The last line lacks its LF");
     script.index(b"7");
     script.text.pop();
@@ -104,10 +106,10 @@ impl Script {
 
 #[cfg(test)]
 mod tests {
-    use super::{script, session, Script};
+    use super::{phase_two, script, session, Script};
     use crate::replay::Replay;
     use crate::script::is_skipped;
-    use std::collections::BTreeSet;
+    use std::collections::{BTreeMap, BTreeSet};
 
     /// Each line that is not skipped, and its answer without the last LF.
     fn answered(script: &[u8]) -> Vec<(String, String)> {
@@ -128,10 +130,10 @@ mod tests {
     fn the_script_is_always_the_same_and_not_too_long() {
         let first = script();
         assert_eq!(first, script());
-        assert!(first.len() < 3_000_000);
+        assert!(first.len() < 5_500_000);
         assert_ne!(first.last(), Some(&b'\n'));
         let answers: usize = answered(&first).iter().map(|(_, answer)| answer.len() + 1).sum();
-        assert!(answers < 2_000_000);
+        assert!(answers < 3_500_000);
     }
 
     fn first_word(text: &str) -> &str {
@@ -163,19 +165,8 @@ mod tests {
             ("judge", "bad, ok 0, ok 1, ok 2, ok 3, ok 4, ok 8"),
             ("open", "bad, ok, refused 17, refused 18"),
             ("buffers", "bad, none, ok"),
-            (
-                "send",
-                "bad, none, ok, refused 14, refused 15, refused 17, refused 4, refused 5, refused 7, refused 8",
-            ),
-            (
-                "receive",
-                "bad, none, ok, refused 1, refused 13, refused 14, refused 2, refused 3, refused 4, refused 5, \
-                 refused 7, refused 8",
-            ),
             ("entry", "bad, none, ok"),
-            ("show", "bad, none, phase closed, phase one, phase two"),
-            ("response", "bad"),
-            ("reply", "bad"),
+            ("show", "bad, none, phase closed, phase ended, phase one, phase two"),
         ];
         let answered = answered(&script());
         for (call, sorts) in expected {
@@ -183,6 +174,62 @@ mod tests {
             let found: BTreeSet<String> = of_call.map(|(_, answer)| sort(call, answer)).collect();
             assert_eq!(found.into_iter().collect::<Vec<_>>().join(", "), sorts, "{call}");
         }
+        for call in ["send", "receive", "response", "reply"] {
+            for sort in ["bad", "none", "ok"] {
+                let occurs = |(line, answer): &(String, String)| {
+                    first_word(line) == call && first_word(answer) == sort
+                };
+                assert!(answered.iter().any(occurs), "{call} {sort}");
+            }
+        }
+    }
+
+    /// The number of an answer that refuses.
+    fn number(answer: &str) -> Option<u8> {
+        answer.strip_prefix("refused ")?.parse().ok()
+    }
+
+    /// How often each number is given, by the end whose session is open and the call.
+    fn refusals(answered: &[(String, String)]) -> BTreeMap<String, BTreeMap<u8, usize>> {
+        let mut refusals = BTreeMap::<String, BTreeMap<u8, usize>>::new();
+        let mut end = "no";
+        for (line, answer) in answered {
+            match line.split(' ').nth(1) {
+                Some("client") if answer == "ok" => end = "client",
+                Some("plugin") if answer == "ok" => end = "plugin",
+                _ => {}
+            }
+            if let Some(number) = number(answer) {
+                let call = format!("{end} {}", first_word(line));
+                *refusals.entry(call).or_default().entry(number).or_default() += 1;
+            }
+        }
+        refusals
+    }
+
+    /// Each call of a session gives exactly the numbers that the papers list for it, each of them often.
+    #[test]
+    fn every_refusal_of_every_call_occurs() {
+        let expected: [(&str, &[u8]); 6] = [
+            ("client send", &[4, 5, 7, 8, 13, 14, 15, 17]),
+            ("client receive", &[1, 2, 3, 4, 5, 6, 8, 9, 10, 11, 13, 14, 15]),
+            ("client reply", &[12, 13, 14, 15, 17]),
+            ("plugin receive", &[1, 2, 3, 4, 5, 7, 8, 13, 14]),
+            ("plugin send", &[4, 5, 6, 8, 9, 10, 11, 13, 14, 15, 17, 19]),
+            ("plugin response", &[1, 2, 3, 12, 13, 14, 15]),
+        ];
+        let refusals = refusals(&answered(&script()));
+        for (call, numbers) in expected {
+            let counts = &refusals[call];
+            assert_eq!(counts.keys().copied().collect::<Vec<_>>(), numbers, "{call}");
+            for (number, &count) in counts {
+                // Stanzas of more than 8,192 bytes take much of the script.
+                let least = if matches!(number, 3 | 17) { 2 } else { 15 };
+                assert!(count >= least, "{call} refused {number}: {count}");
+            }
+        }
+        let all: BTreeSet<u8> = refusals.values().flat_map(|counts| counts.keys().copied()).collect();
+        assert_eq!(all.into_iter().collect::<Vec<_>>(), (1..=19).collect::<Vec<_>>());
     }
 
     fn session_answers() -> Vec<(String, String)> {
@@ -194,13 +241,12 @@ mod tests {
     /// 13 is the plugin's alone: nothing closes a client session in phase one.
     #[test]
     fn every_refusal_of_phase_one_occurs() {
-        let number = |(_, answer): &(String, String)| answer.strip_prefix("refused ")?.parse().ok();
-        let found: BTreeSet<u8> = session_answers().iter().filter_map(number).collect();
+        let found: BTreeSet<u8> = session_answers().iter().filter_map(|(_, answer)| number(answer)).collect();
         assert_eq!(found.into_iter().collect::<Vec<_>>(), [1, 2, 3, 4, 5, 7, 8, 13, 14, 15, 17, 18]);
     }
 
     #[test]
-    fn every_line_of_show_occurs() {
+    fn every_line_of_show_in_phase_one_occurs() {
         let answers = session_answers();
         let shown = answers.iter().filter(|(line, _)| line == "show").flat_map(|(_, answer)| answer.lines());
         let ends =
@@ -212,5 +258,36 @@ mod tests {
             "recipient invalid", "recipient valid",
         ];
         assert_eq!(found.into_iter().collect::<Vec<_>>(), expected);
+    }
+
+    /// Each command that may be awaited, each sort of entry, and payloads that a buffer is too short for.
+    #[test]
+    fn every_line_of_show_in_phase_two_occurs() {
+        let mut script = Script::new();
+        phase_two::sections(&mut script);
+        let mut shown = BTreeSet::new();
+        for (line, answer) in answered(&script.text) {
+            if line == "show" {
+                shown.extend(answer.lines().map(|line| line.to_string()));
+            }
+        }
+        let words =
+            ["-", "msg", "confirm", "request-public", "request-secret", "recipient-stanza", "file-key"];
+        for word in words.into_iter().chain(["error", "other"]) {
+            assert!(shown.contains(&format!("awaits {word}")), "{word}");
+        }
+        for phase in ["one", "two", "ended", "closed"] {
+            assert!(shown.contains(&format!("phase {phase}")), "{phase}");
+        }
+        let causes = ["internal", "identity\\s0", "identity\\s1", "recipient\\s0", "stanza\\s1\\s1"];
+        for cause in causes {
+            let is_cause =
+                |line: &String| line.starts_with("error ") && line.split(' ').nth(2) == Some(cause);
+            assert!(shown.iter().any(is_cause), "{cause}");
+        }
+        let starts = ["error 383 ", "stanza 0 0 ", "stanza 4 50 ", "key 510 "];
+        for start in starts.into_iter().chain(["stanza 1 0 \\e", "key 5 \\e", "error 0 internal \\e"]) {
+            assert!(shown.iter().any(|line| line.starts_with(start)), "{start}");
+        }
     }
 }

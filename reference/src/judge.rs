@@ -1,6 +1,7 @@
 //! The judging program (document 01): a recorded phase one of recipient-v1, received command by command.
 
-use crate::session::{Buffers, Command, Kind, Plugin, KINDS};
+use crate::session::phase_one::Command;
+use crate::session::{Buffers, Kind, Plugin, KINDS};
 
 /// The machine whose recordings are judged.
 const MACHINE: &[u8] = b"recipient-v1";

@@ -1,7 +1,7 @@
 //! The second program of Flugremio, written from the papers alone (document 01, DESIGN.md, REPLAY.md).
 //!
-//! It has stanza text, indices, Bech32, the stanza check, both ends of phase one and the judging program,
-//! a replay of test scripts, and the generator of the stored script. Phase two is not here yet.
+//! It has stanza text, indices, Bech32, the stanza check, both ends of both phases and the judging program,
+//! a replay of test scripts, and the generator of the stored script.
 
 pub mod base64;
 pub mod bech32;

@@ -1,8 +1,7 @@
 //! The replay of a script (REPLAY.md): the calls of its table, and the answers printed.
-//!
-//! A call that is not built yet is a bad line.
 
 mod session;
+mod show;
 
 use std::io::{self, BufRead, Write};
 
@@ -13,7 +12,8 @@ use crate::profile;
 use crate::refusal::Refusal;
 use crate::script;
 use crate::stanza;
-use session::{finding_word, Sessions};
+use session::Sessions;
+use show::finding_word;
 
 /// OUT, the length of the output buffer lent, is at most this.
 const OUT_LIMIT: u64 = 65_536;
@@ -58,7 +58,7 @@ impl Replay {
         let words = script::words(line)?;
         let words: Vec<&[u8]> = words.iter().map(Vec::as_slice).collect();
         match session::Line::parse(&words) {
-            Some(line) => self.sessions.answer(&line),
+            Some(line) => Some(self.sessions.answer(&line)),
             None => Some(Call::parse(&words)?.make()),
         }
     }

@@ -1,18 +1,24 @@
-//! Both ends of a conversation: opening, phase one, look-ups (document 01, "Phase one" and "Numbers given
-//! back").
-//!
-//! Phase two is not built yet: its first call would follow done.
+//! Both ends of a conversation: opening, whose turn it is, look-ups (document 01, "Phase one", "Phase two" and
+//! "Numbers given back"). `client` and `plugin` have the calls of each end.
 
-mod phase_one;
+mod client;
+pub mod phase_one;
+pub mod phase_two;
+mod plugin;
+mod response;
 mod tables;
 
-pub use phase_one::{Command, FILE_KEY_BYTES};
-pub use tables::{Buffers, Detail, Entry, Kind, Tables, KINDS};
+pub use client::{Client, Heard};
+pub use plugin::{Plugin, Received, Responded};
+pub use response::Response;
+pub use tables::{Buffers, Cause, Detail, Entry, Kind, Tables, KINDS};
 
 use crate::bech32;
 use crate::refusal::Refusal;
 use crate::stanza;
-use phase_one::Step;
+
+/// A file key has so many bytes.
+pub const FILE_KEY_BYTES: usize = 16;
 
 /// What a conversation is for.
 #[derive(Clone, Copy, Debug, PartialEq, Eq)]
@@ -39,6 +45,8 @@ impl Machine {
 pub enum Phase {
     One,
     Two,
+    /// The done of phase two has passed.
+    Ended,
     /// A fault of the other end's making has closed the session.
     Closed,
 }
@@ -50,6 +58,9 @@ pub struct Session {
     /// The plugin's name, in lower case.
     plugin: Vec<u8>,
     phase: Phase,
+    /// The command of phase two whose answer is due: at the client end its host's, at the plugin end the
+    /// client's. None in every other phase.
+    awaits: Option<phase_two::Command>,
     tables: Tables,
 }
 
@@ -60,12 +71,19 @@ impl Session {
         if !bech32::is_name(plugin) {
             return Err(Refusal::Unwritable);
         }
-        Ok(Session { machine, plugin: plugin.to_vec(), phase: Phase::One, tables: Tables::default() })
+        let (phase, awaits, tables) = (Phase::One, None, Tables::default());
+        Ok(Session { machine, plugin: plugin.to_vec(), phase, awaits, tables })
     }
 
     #[must_use]
     pub fn phase(&self) -> Phase {
         self.phase
+    }
+
+    /// The command whose answer is due.
+    #[must_use]
+    pub fn awaits(&self) -> Option<phase_two::Command> {
+        self.awaits
     }
 
     #[must_use]
@@ -80,79 +98,65 @@ impl Session {
         self.tables.payload(kind.into(), number, buffers)
     }
 
-    /// 13 if the session is over, 14 if it is not in phase one.
-    fn in_phase_one(&self) -> Result<(), Refusal> {
+    /// 13 if the session is over, 14 if it is in the other phase.
+    fn in_phase(&self, phase: Phase) -> Result<(), Refusal> {
         match self.phase {
-            Phase::One => Ok(()),
-            Phase::Two => Err(Refusal::OutOfTurn),
-            Phase::Closed => Err(Refusal::SessionOver),
+            Phase::Ended | Phase::Closed => Err(Refusal::SessionOver),
+            now if now == phase => Ok(()),
+            _ => Err(Refusal::OutOfTurn),
         }
+    }
+
+    /// Whether a command of phase two may come: 13, then 14 in phase one or while an answer is due.
+    fn may_command(&self) -> Result<(), Refusal> {
+        self.in_phase(Phase::Two)?;
+        if self.awaits.is_some() {
+            return Err(Refusal::OutOfTurn);
+        }
+        Ok(())
+    }
+
+    /// The command whose answer may come: 13, then 14 in phase one or while none is due.
+    fn awaited(&self) -> Result<phase_two::Command, Refusal> {
+        self.in_phase(Phase::Two)?;
+        self.awaits.ok_or(Refusal::OutOfTurn)
     }
 
     /// Does what an accepted command of phase one does.
-    fn apply(&mut self, step: &Step, buffers: &mut Buffers) {
+    fn apply_phase_one(&mut self, step: &phase_one::Step, buffers: &mut Buffers) {
         if let Some(addition) = &step.addition {
             self.tables.keep(addition, buffers);
         }
-        if step.command == Command::Done {
+        if step.command == phase_one::Command::Done {
             self.phase = Phase::Two;
         }
     }
+
+    /// Does what an accepted command of phase two does; whether it waits is the end's to say.
+    fn apply_phase_two(&mut self, step: &phase_two::Step, buffers: &mut Buffers) {
+        if let Some(addition) = &step.addition {
+            self.tables.keep(addition, buffers);
+        }
+        if step.command == phase_two::Command::Done {
+            self.phase = Phase::Ended;
+        }
+    }
+
+    /// Hands on what a call that receives came to. A refusal of the other end's making closes the session,
+    /// and then nothing is awaited any more.
+    fn received<T>(&mut self, received: Result<T, Refusal>) -> Result<T, Refusal> {
+        if received.as_ref().is_err_and(|&refusal| closes(refusal)) {
+            self.phase = Phase::Closed;
+            self.awaits = None;
+        }
+        received
+    }
 }
 
-/// The client end.
-#[derive(Clone, Debug, PartialEq, Eq)]
-pub struct Client {
-    session: Session,
-    screen: bool,
-}
-
-impl Client {
-    /// A client session has a screen unless told otherwise.
-    pub const SCREEN: bool = true;
-
-    /// Opens a session with the default for the screen.
-    pub fn open(machine: &[u8], plugin: &[u8]) -> Result<Self, Refusal> {
-        Self::open_with(machine, plugin, Self::SCREEN)
-    }
-
-    /// Opens a session with or without a screen.
-    pub fn open_with(machine: &[u8], plugin: &[u8], screen: bool) -> Result<Self, Refusal> {
-        Ok(Client { session: Session::open(machine, plugin)?, screen })
-    }
-
-    #[must_use]
-    pub fn session(&self) -> &Session {
-        &self.session
-    }
-
-    /// Whether the session can show and ask; phase two goes by it.
-    #[must_use]
-    pub fn has_screen(&self) -> bool {
-        self.screen
-    }
-
-    /// Sends a command of phase one: writes its stanza to the front of `out` and gives the length.
-    /// `arguments` has all of them, the command first. It is judged by the text that it makes, and a
-    /// command that the machine does not name can be sent too.
-    ///
-    /// The order is 13, 14, 17, 4, 5, 7, 8, 15. A refusal leaves everything as it was.
-    pub fn send(
-        &mut self,
-        arguments: &[u8],
-        body: &[u8],
-        buffers: &mut Buffers,
-        out: &mut [u8],
-    ) -> Result<usize, Refusal> {
-        self.session.in_phase_one()?;
-        let text = written(arguments, body)?;
-        let stanza = stanza::read(&text)?;
-        let step = phase_one::judge(&self.session, &stanza, buffers)?;
-        let out = out.get_mut(..text.len()).ok_or(Refusal::OutputTooShort)?;
-        out.copy_from_slice(&text);
-        self.session.apply(&step, buffers);
-        Ok(text.len())
-    }
+/// Whether a refusal in receiving closes the session.
+fn closes(refusal: Refusal) -> bool {
+    use Refusal::{NotEnded, OutOfTurn, OutputTooShort, SessionOver};
+    !matches!(refusal, NotEnded | SessionOver | OutOfTurn | OutputTooShort)
 }
 
 /// The text of a stanza; 17 if there is none.
@@ -163,54 +167,26 @@ fn written(arguments: &[u8], body: &[u8]) -> Result<Vec<u8>, Refusal> {
     Ok(text)
 }
 
-/// The plugin end.
-#[derive(Clone, Debug, PartialEq, Eq)]
-pub struct Plugin {
-    session: Session,
+/// Puts the text at the front of the output buffer and gives its length; 15 leaves the buffer as it was.
+fn put(text: &[u8], out: &mut [u8]) -> Result<usize, Refusal> {
+    let out = out.get_mut(..text.len()).ok_or(Refusal::OutputTooShort)?;
+    out.copy_from_slice(text);
+    Ok(text.len())
 }
 
-/// What the plugin end has received: how many bytes of the text the stanza was, and its command.
-#[derive(Clone, Copy, Debug, PartialEq, Eq)]
-pub struct Received {
-    pub taken: usize,
-    pub command: Command,
-}
-
-impl Plugin {
-    /// Opens a session.
-    pub fn open(machine: &[u8], plugin: &[u8]) -> Result<Self, Refusal> {
-        Ok(Plugin { session: Session::open(machine, plugin)? })
-    }
-
-    #[must_use]
-    pub fn session(&self) -> &Session {
-        &self.session
-    }
-
-    /// Receives the first stanza of the text, a command of phase one.
-    ///
-    /// The order is 13, 14, 1 to 3, 4, 5, 7, 8. A refusal leaves tables and buffers as they were; 1 and
-    /// 3 to 8 close the session.
-    pub fn receive(&mut self, text: &[u8], buffers: &mut Buffers) -> Result<Received, Refusal> {
-        let received = self.try_receive(text, buffers);
-        if received.is_err_and(closes) {
-            self.session.phase = Phase::Closed;
-        }
-        received
-    }
-
-    fn try_receive(&mut self, text: &[u8], buffers: &mut Buffers) -> Result<Received, Refusal> {
-        self.session.in_phase_one()?;
-        let stanza = stanza::read(text)?;
-        let step = phase_one::judge(&self.session, &stanza, buffers)?;
-        self.session.apply(&step, buffers);
-        Ok(Received { taken: stanza.taken(), command: step.command })
+/// The first argument of a text, and what stands behind its space, if there is more.
+fn split_word(arguments: &[u8]) -> (&[u8], Option<&[u8]>) {
+    match arguments.iter().position(|&byte| byte == b' ') {
+        Some(space) => (&arguments[..space], Some(&arguments[space + 1..])),
+        None => (arguments, None),
     }
 }
 
-/// Whether a refusal in receiving closes the session.
-fn closes(refusal: Refusal) -> bool {
-    !matches!(refusal, Refusal::NotEnded | Refusal::SessionOver | Refusal::OutOfTurn)
+/// A stanza's decoded body.
+fn body(stanza: &stanza::Stanza) -> Vec<u8> {
+    let mut body = vec![0; stanza.body_len()];
+    stanza.decode_body(&mut body).expect("the buffer has the body's length");
+    body
 }
 
 #[cfg(test)]

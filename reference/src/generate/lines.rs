@@ -9,7 +9,7 @@ pub(super) fn sections(script: &mut Script) {
     wrong_words(script);
     wrong_numbers(script);
     session_lines(script);
-    not_built_yet(script);
+    answers_and_commands(script);
     every_raw_byte(script);
     odd_but_good(script);
     skipped(script);
@@ -217,13 +217,13 @@ const BAD_SESSION_LINES: &[&str] = &[
     "Judge a",
 ];
 
-/// Calls of phase two, at both ends.
-fn not_built_yet(script: &mut Script) {
+/// Calls of phase two, at both ends and in both phases.
+fn answers_and_commands(script: &mut Script) {
     let lines = [
         "response ->\\sok\\n\\n 9", "response \\e 0", "reply ok \\e 9", "reply yes \\e 9",
         "reply maybe \\e 9",
     ];
-    script.heading("Not built yet: responses and replies, a client that receives, a plugin that sends");
+    script.heading("Responses and replies, a client that receives, a plugin that sends");
     for end in ENDS {
         script.open(end, RECIPIENT, b"interop", ROOMY);
         for last in [Command::add_recipient(b"kept"), Command::done()] {

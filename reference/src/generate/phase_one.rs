@@ -141,7 +141,7 @@ fn some_header(script: &mut Script, plugin: &[u8], file: usize) -> Command {
 }
 
 /// One to so many arguments of 1 to 6 bytes.
-fn some_words(script: &mut Script, most: usize) -> Vec<u8> {
+pub(super) fn some_words(script: &mut Script, most: usize) -> Vec<u8> {
     let mut words: Vec<Vec<u8>> = Vec::new();
     for _ in 0..=script.random.below(most) {
         let len = 1 + script.random.below(6);
@@ -205,7 +205,7 @@ fn damaged_phase(script: &mut Script, mut phase: Vec<Command>) -> Vec<Command> {
 }
 
 /// The command with other arguments, another body or another word.
-fn damaged_command(script: &mut Script, command: &Command) -> Command {
+pub(super) fn damaged_command(script: &mut Script, command: &Command) -> Command {
     let Command { mut word, mut arguments, mut body } = command.clone();
     match script.random.below(8) {
         0 => arguments.clear(),

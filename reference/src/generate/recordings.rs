@@ -3,12 +3,15 @@
 use super::commands::Command;
 use crate::stanza;
 
-/// What the client sent in one conversation, its responses of phase two included.
+/// One conversation.
 pub(super) struct Recording {
     pub(super) name: &'static str,
     pub(super) machine: &'static str,
     pub(super) plugin: &'static [u8],
+    /// What the client sent, its responses of phase two included.
     pub(super) text: &'static [u8],
+    /// What the plugin sent.
+    pub(super) plugin_text: &'static [u8],
 }
 
 macro_rules! recording {
@@ -18,6 +21,7 @@ macro_rules! recording {
             machine: $machine,
             plugin: $plugin,
             text: include_bytes!(concat!("../../transcripts/", $name, ".c2p.bin")),
+            plugin_text: include_bytes!(concat!("../../transcripts/", $name, ".p2c.bin")),
         }
     };
 }
@@ -33,40 +37,55 @@ pub(super) static RECORDINGS: [Recording; 8] = [
     recording!("dec-chat-notty", "identity-v1", b"interop"),
 ];
 
+/// All stanzas of a text, in order.
+fn stanzas(mut text: &[u8]) -> Vec<Command> {
+    let mut commands = Vec::new();
+    while !text.is_empty() {
+        let stanza = stanza::read(text).expect("a recording is whole stanzas");
+        let mut body = vec![0; stanza.body_len()];
+        stanza.decode_body(&mut body).expect("the buffer has the body's length");
+        commands.push(Command::of_line(stanza.arguments(), &body));
+        text = &text[stanza.taken()..];
+    }
+    commands
+}
+
 impl Recording {
-    /// All stanzas, in order.
-    pub(super) fn commands(&self) -> Vec<Command> {
-        let mut commands = Vec::new();
-        let mut text = self.text;
-        while !text.is_empty() {
-            let stanza = stanza::read(text).expect("a recording is whole stanzas");
-            let mut body = vec![0; stanza.body_len()];
-            stanza.decode_body(&mut body).expect("the buffer has the body's length");
-            commands.push(Command::of_line(stanza.arguments(), &body));
-            text = &text[stanza.taken()..];
-        }
-        commands
+    /// How many stanzas of the client are phase one, its done included.
+    fn phase_one_len(&self) -> usize {
+        1 + stanzas(self.text).iter().position(|command| command.word == b"done").expect("a done")
     }
 
-    /// The stanzas up to done.
+    /// The client's stanzas up to done.
     pub(super) fn phase_one(&self) -> Vec<Command> {
-        let mut commands = self.commands();
-        let done = commands.iter().position(|command| command.word == b"done").expect("a done");
-        commands.truncate(done + 1);
-        commands
+        stanzas(self.text)[..self.phase_one_len()].to_vec()
+    }
+
+    /// The plugin's stanzas, done included.
+    pub(super) fn phase_two(&self) -> Vec<Command> {
+        stanzas(self.plugin_text)
+    }
+
+    /// The client's stanzas behind done.
+    pub(super) fn responses(&self) -> Vec<Command> {
+        stanzas(self.text)[self.phase_one_len()..].to_vec()
     }
 }
 
 #[cfg(test)]
 mod tests {
     use super::*;
+    use crate::generate::commands::text_of_all;
 
     #[test]
     fn recordings_are_made_of_their_commands() {
         for recording in &RECORDINGS {
-            let texts: Vec<Vec<u8>> = recording.commands().iter().map(Command::text).collect();
-            assert_eq!(texts.concat(), recording.text, "{}", recording.name);
+            let sent = [recording.phase_one(), recording.responses()].concat();
+            assert_eq!(text_of_all(&sent), recording.text, "{}", recording.name);
+            assert_eq!(text_of_all(&recording.phase_two()), recording.plugin_text, "{}", recording.name);
             assert!(recording.phase_one().len() >= 3, "{}", recording.name);
+            // Each command but done has its response.
+            assert_eq!(recording.phase_two().len(), recording.responses().len() + 1, "{}", recording.name);
         }
     }
 }

@@ -1,13 +1,11 @@
-//! The lines that open a session and call it, and what `show` prints (REPLAY.md).
-//!
-//! Of phase one both ends are here; the lines of phase two are bad lines, since it is not built yet.
+//! The lines that open a session and call it (REPLAY.md); `show` has a file of its own.
 
+use super::show::{phase_one_word, phase_two_word, response_word, show};
 use super::{length, Answer};
 use crate::bech32;
-use crate::profile::Finding;
 use crate::refusal::Refusal;
 use crate::script;
-use crate::session::{Buffers, Client, Command, Detail, Kind, Phase, Plugin, Session, KINDS};
+use crate::session::{Buffers, Client, Plugin, Response, Session, KINDS};
 
 /// A line of REPLAY.md's table that opens a session or calls the open one.
 #[derive(Debug, PartialEq, Eq)]
@@ -44,7 +42,9 @@ enum Screen {
 pub(super) enum Call<'a> {
     Buffers { lens: [usize; KINDS] },
     Send { arguments: Vec<u8>, body: &'a [u8], out: usize },
-    Receive { text: &'a [u8] },
+    Receive { text: &'a [u8], out: usize },
+    Response { text: &'a [u8], out: usize },
+    Reply { reply: Response, body: &'a [u8], out: usize },
     Entry { kind: bech32::Kind, number: u64 },
     Show,
 }
@@ -74,10 +74,10 @@ impl<'a> Call<'a> {
             [b"send", command, arguments, body, out] => {
                 Some(Call::Send { arguments: joined(command, arguments), body, out: length(out)? })
             }
-            [b"receive", text, out] => {
-                // Phase one is not answered, so nothing is written there.
-                length(out)?;
-                Some(Call::Receive { text })
+            [b"receive", text, out] => Some(Call::Receive { text, out: length(out)? }),
+            [b"response", text, out] => Some(Call::Response { text, out: length(out)? }),
+            [b"reply", reply, body, out] => {
+                Some(Call::Reply { reply: answer(reply)?, body, out: length(out)? })
             }
             [b"entry", kind_word, number] => {
                 Some(Call::Entry { kind: kind(kind_word)?, number: script::number(number, u64::MAX)? })
@@ -95,6 +95,11 @@ fn screen(word: &[u8]) -> Option<Screen> {
         b"default" => Some(Screen::Default),
         _ => None,
     }
+}
+
+/// What a host replies, by its one word.
+fn answer(word: &[u8]) -> Option<Response> {
+    Response::ALL.into_iter().find(|&response| response_word(response).as_bytes() == word)
 }
 
 fn kind(word: &[u8]) -> Option<bech32::Kind> {
@@ -136,11 +141,10 @@ enum End {
 }
 
 impl Sessions {
-    /// Answers the line; none for a call that is not built yet.
-    pub(super) fn answer(&mut self, line: &Line) -> Option<Result<Answer, Refusal>> {
+    pub(super) fn answer(&mut self, line: &Line) -> Result<Answer, Refusal> {
         match (line, &mut self.0) {
-            (Line::Open(opening), _) => Some(self.open(opening)),
-            (Line::Call(_), None) => Some(Ok(Answer::words("none"))),
+            (Line::Open(opening), _) => self.open(opening),
+            (Line::Call(_), None) => Ok(Answer::words("none")),
             (Line::Call(call), Some(open)) => open.make(call),
         }
     }
@@ -174,98 +178,69 @@ impl End {
 }
 
 impl Open {
-    /// Makes a call of the open session; none for a call that this end does not have yet.
-    fn make(&mut self, call: &Call) -> Option<Result<Answer, Refusal>> {
-        let Open { end, buffers } = self;
-        match (call, end) {
-            (Call::Buffers { lens }, _) => {
-                buffers.resize(*lens);
-                Some(Ok(Answer::words("ok")))
+    /// Makes a call of the open session; none for a call that this end does not have.
+    fn make(&mut self, call: &Call) -> Result<Answer, Refusal> {
+        match call {
+            Call::Buffers { lens } => {
+                self.buffers.resize(*lens);
+                Ok(Answer::words("ok"))
             }
-            (Call::Send { arguments, body, out }, End::Client(client)) => {
-                Some(send(client, arguments, body, buffers, *out))
+            Call::Send { arguments, body, out } => self.send(arguments, body, *out),
+            Call::Receive { text, out } => self.receive(text, *out),
+            Call::Response { text, out } => self.response(text, *out),
+            Call::Reply { reply, body, out } => self.reply(*reply, body, *out),
+            Call::Entry { kind, number } => {
+                Ok(Answer::words("ok").bytes(self.end.session().entry(*kind, *number, &self.buffers)))
             }
-            (Call::Receive { text }, End::Plugin(plugin)) => Some(receive(plugin, text, buffers)),
-            (Call::Send { .. }, End::Plugin(_)) | (Call::Receive { .. }, End::Client(_)) => None,
-            (Call::Entry { kind, number }, end) => {
-                Some(Ok(Answer::words("ok").bytes(end.session().entry(*kind, *number, buffers))))
-            }
-            (Call::Show, end) => Some(Ok(show(end.session(), buffers))),
+            Call::Show => Ok(show(self.end.session(), &self.buffers)),
         }
     }
-}
 
-/// `ok TEXT`.
-fn send(
-    client: &mut Client,
-    arguments: &[u8],
-    body: &[u8],
-    buffers: &mut Buffers,
-    out: usize,
-) -> Result<Answer, Refusal> {
-    let mut out = vec![0; out];
-    let len = client.send(arguments, body, buffers, &mut out)?;
-    Ok(Answer::words("ok").bytes(&out[..len]))
-}
-
-/// `ok TAKEN WHAT \e`.
-fn receive(plugin: &mut Plugin, text: &[u8], buffers: &mut Buffers) -> Result<Answer, Refusal> {
-    let received = plugin.receive(text, buffers)?;
-    let what = what(received.command).as_bytes();
-    Ok(Answer::words("ok").number(received.taken as u64).bytes(what).bytes(b""))
-}
-
-/// The command's word, or other.
-fn what(command: Command) -> &'static str {
-    match command {
-        Command::AddRecipient => "add-recipient",
-        Command::AddIdentity => "add-identity",
-        Command::WrapFileKey => "wrap-file-key",
-        Command::RecipientStanza => "recipient-stanza",
-        Command::Done => "done",
-        Command::Other => "other",
+    /// `ok TEXT`.
+    fn send(&mut self, arguments: &[u8], body: &[u8], out: usize) -> Result<Answer, Refusal> {
+        let mut out = vec![0; out];
+        let len = match &mut self.end {
+            End::Client(client) => client.send(arguments, body, &mut self.buffers, &mut out)?,
+            End::Plugin(plugin) => plugin.send(arguments, body, &mut self.buffers, &mut out)?,
+        };
+        Ok(Answer::words("ok").bytes(&out[..len]))
     }
-}
 
-/// The phase, what is awaited (nothing, in phase one), a line for each entry, and the end.
-fn show(session: &Session, buffers: &Buffers) -> Answer {
-    let phase = match session.phase() {
-        Phase::One => "phase one",
-        Phase::Two => "phase two",
-        Phase::Closed => "phase closed",
-    };
-    let mut answer = Answer::words(phase).line("awaits -");
-    for (kind, word) in [
-        (Kind::Recipient, "recipient"),
-        (Kind::Identity, "identity"),
-        (Kind::FileKey, "file-key"),
-        (Kind::Header, "header"),
-    ] {
-        for (number, entry) in (0..).zip(session.tables().of(kind)) {
-            let payload = session.tables().payload(kind, number, buffers);
-            answer = show_entry(answer.line(word).number(number), entry.detail, payload);
-        }
+    /// `ok TAKEN WHAT TEXT`. The plugin receives phase one, which is not answered.
+    fn receive(&mut self, text: &[u8], out: usize) -> Result<Answer, Refusal> {
+        let mut out = vec![0; out];
+        let (taken, what, len) = match &mut self.end {
+            End::Client(client) => {
+                let heard = client.receive(text, &mut self.buffers, &mut out)?;
+                (heard.taken, phase_two_word(heard.command), heard.written)
+            }
+            End::Plugin(plugin) => {
+                let received = plugin.receive(text, &mut self.buffers)?;
+                (received.taken, phase_one_word(received.command), 0)
+            }
+        };
+        Ok(Answer::words("ok").number(taken as u64).word(what).bytes(&out[..len]))
     }
-    answer.line("end")
-}
 
-/// What stands behind an entry's number.
-fn show_entry(answer: Answer, detail: Detail, payload: &[u8]) -> Answer {
-    match detail {
-        Detail::Text { valid } => answer.bytes(payload).word(if valid { "valid" } else { "invalid" }),
-        Detail::FileKey => answer.bytes(payload),
-        Detail::Header { file, finding } => {
-            answer.number(file.into()).bytes(payload).word(finding_word(finding))
-        }
+    /// `ok TAKEN WHAT BODY`.
+    fn response(&mut self, text: &[u8], out: usize) -> Result<Answer, Refusal> {
+        let End::Plugin(plugin) = &mut self.end else {
+            return Ok(Answer::words("none"));
+        };
+        let mut out = vec![0; out];
+        let responded = plugin.response(text, &mut out)?;
+        let what = response_word(responded.response);
+        Ok(Answer::words("ok").number(responded.taken as u64).word(what).bytes(&out[..responded.body_len]))
     }
-}
 
-/// The word for what the stanza check finds.
-pub(super) fn finding_word(finding: Finding) -> &'static str {
-    match finding {
-        Finding::Conforming => "conforming",
-        Finding::Nonconforming => "nonconforming",
-        Finding::Unknown => "unknown",
+    /// `ok TEXT`.
+    fn reply(&mut self, reply: Response, body: &[u8], out: usize) -> Result<Answer, Refusal> {
+        let End::Client(client) = &mut self.end else {
+            return Ok(Answer::words("none"));
+        };
+        let mut out = vec![0; out];
+        let len = client.reply(reply, body, &mut out)?;
+        Ok(Answer::words("ok").bytes(&out[..len]))
     }
 }
 
@@ -286,7 +261,7 @@ mod tests {
     fn with_no_session_open() {
         for line in [
             "buffers 0 0 0 0 0 0 0", "send a b c 1", "receive a 0", "receive \\e 65536", "entry recipient 0",
-            "entry identity 18446744073709551615", "show",
+            "entry identity 18446744073709551615", "show", "response a 0", "reply no \\e 0",
         ] {
             assert_eq!(answers(&[line]), ["none"], "{line}");
         }
@@ -321,8 +296,19 @@ mod tests {
             "open client recipient-v1 a Screen 0 0 0 0 0 0 0",
             "open host recipient-v1 a 0 0 0 0 0 0 0",
             "open client recipient-v1 a screen 0 0 0 0 0 0 65537",
-            "response a 1",
-            "reply ok \\e 1",
+            "response",
+            "response a",
+            "response a 65537",
+            "response a 1 2",
+            "response  1",
+            "reply ok \\e",
+            "reply ok \\e x",
+            "reply ok \\e 65537",
+            "reply ok \\e 1 2",
+            "reply maybe \\e 1",
+            "reply OK \\e 1",
+            "reply ok\\syes \\e 1",
+            "reply \\e \\e 1",
         ] {
             assert_eq!(answers(&[line]), ["bad line 1"], "{line}");
             assert_eq!(answers(&[PLUGIN, line])[1..], ["bad line 2"], "{line}");
@@ -331,9 +317,9 @@ mod tests {
     }
 
     #[test]
-    fn calls_of_phase_two_are_not_built() {
-        assert_eq!(answers(&[PLUGIN, "send done \\e \\e 9"]), ["ok", "bad line 2"]);
-        assert_eq!(answers(&[CLIENT, "receive ->\\sdone\\n\\n 9"]), ["ok", "bad line 2"]);
+    fn calls_that_an_end_does_not_have() {
+        assert_eq!(answers(&[PLUGIN, "reply ok \\e 9", "reply yes a 0"])[1..], ["none", "none"]);
+        assert_eq!(answers(&[CLIENT, "response ->\\sok\\n\\n 9", "response \\e 0"])[1..], ["none", "none"]);
     }
 
     #[test]
@@ -421,6 +407,127 @@ mod tests {
         let expected = [
             "ok", "ok ->\\sadd-identity\\sabc\\n\\n", "refused 18", "refused 17", "ok abc", "ok",
             "phase one", "awaits -", "end",
+        ];
+        assert_eq!(answers, expected);
+    }
+
+    #[test]
+    fn a_phase_two_received() {
+        let answers = answers(&[
+            "open client identity-v1 interop screen 0 99 0 99 99 0 99",
+            "send add-identity a \\e 99",
+            "send recipient-stanza 7\\stag \\e 99",
+            "receive ->\\smsg\\n\\n 9",
+            "send done \\e \\e 9",
+            "receive ->\\sconfirm\\seWVz\\n\\nrest 0",
+            "show",
+            "receive ->\\smsg\\n\\n 9",
+            "reply ok \\e 9",
+            "reply no \\e 9",
+            "reply no \\e 10",
+            "receive ->\\serror\\sidentity\\s0\\nYQ\\n 7",
+            "receive ->\\sfile-key\\s7\\nMDEyMzQ1Njc4OWFiY2RlZg\\n 6",
+            "receive ->\\sfile-key\\s7\\nMDEyMzQ1Njc4OWFiY2RlZg\\n 7",
+            "receive ->\\srecipient-stanza\\n\\n 99",
+            "receive ->\\sdone\\n\\n 0",
+            "show",
+            "receive \\e 0",
+        ]);
+        let expected = [
+            "ok", "ok ->\\sadd-identity\\sa\\n\\n", "ok ->\\srecipient-stanza\\s7\\stag\\n\\n", "refused 14",
+            "ok ->\\sdone\\n\\n", "ok 17 confirm \\e", "phase two", "awaits confirm", "identity 0 a invalid",
+            "header 0 7 tag\\n unknown", "end", "refused 14", "refused 12", "refused 15",
+            "ok ->\\sok\\sno\\n\\n", "ok 23 error ->\\sok\\n\\n", "refused 15",
+            "ok 37 file-key ->\\sok\\n\\n", "ok 21 other ->\\sunsupported\\n\\n", "ok 9 done \\e",
+            "phase ended", "awaits -", "identity 0 a invalid", "header 0 7 tag\\n unknown",
+            "error 0 identity\\s0 a", "key 7 0123456789abcdef", "end", "refused 13",
+        ];
+        assert_eq!(answers, expected);
+    }
+
+    #[test]
+    fn a_phase_two_sent() {
+        let answers = answers(&[
+            "open plugin recipient-v1 interop 99 0 99 0 9 99 0",
+            "receive ->\\sadd-recipient\\sage1interop1qyqszqg83syvs\\n\\n 0",
+            "receive ->\\swrap-file-key\\nMDEyMzQ1Njc4OWFiY2RlZg\\n 0",
+            "response ->\\sok\\n\\n 9",
+            "receive ->\\sdone\\n\\n 0",
+            "send request-secret \\e PIN 99",
+            "show",
+            "response ->\\sok\\nMTIzNA\\nrest 3",
+            "response ->\\sok\\nMTIzNA\\nrest 4",
+            "send grease a b 99",
+            "response ->\\sunsupported\\n\\n 0",
+            "send recipient-stanza 0\\stag body 99",
+            "response ->\\sok\\n\\n 0",
+            "send error internal \\e 99",
+            "send done \\e \\e 9",
+            "show",
+        ]);
+        let expected = [
+            "ok",
+            "ok 44 add-recipient \\e",
+            "ok 40 wrap-file-key \\e",
+            "refused 14",
+            "ok 9 done \\e",
+            "ok ->\\srequest-secret\\nUElO\\n",
+            "phase two",
+            "awaits request-secret",
+            "recipient 0 age1interop1qyqszqg83syvs valid",
+            "file-key 0 0123456789abcdef",
+            "end",
+            "refused 15",
+            "ok 13 ok 1234",
+            "ok ->\\sgrease\\sa\\nYg\\n",
+            "ok 16 unsupported \\e",
+            "ok ->\\srecipient-stanza\\s0\\stag\\nYm9keQ\\n",
+            "ok 7 ok \\e",
+            "refused 11",
+            "ok ->\\sdone\\n\\n",
+            "phase ended",
+            "awaits -",
+            "recipient 0 age1interop1qyqszqg83syvs valid",
+            "file-key 0 0123456789abcdef",
+            "stanza 0 0 tag\\nbody",
+            "end",
+        ];
+        assert_eq!(answers, expected);
+    }
+
+    /// Stanzas are numbered within their file, and shown file by file; so are keys.
+    #[test]
+    fn files_are_shown_in_rising_order() {
+        let mut script = vec!["open client recipient-v1 a default 9 0 32 0 0 20 0"];
+        script.extend(["send add-recipient a \\e 99", "send add-recipient b \\e 99"]);
+        script.extend(["send wrap-file-key \\e 0123456789abcdef 99"; 2]);
+        script.push("send done \\e \\e 9");
+        for line in [
+            "receive ->\\srecipient-stanza\\s1\\sabcd\\n\\n 9",
+            "receive ->\\srecipient-stanza\\s0\\sefgh\\n\\n 9",
+            "receive ->\\srecipient-stanza\\s1\\sijkl\\n\\n 9",
+            "receive ->\\srecipient-stanza\\s0\\smnop\\n\\n 9",
+            "buffers 0 0 0 0 0 12 0",
+            "show",
+        ] {
+            script.push(line);
+        }
+        let shown = answers(&script);
+        let stanzas: Vec<&String> = shown.iter().filter(|line| line.starts_with("stanza ")).collect();
+        assert_eq!(stanzas, ["stanza 0 0 efgh\\n", "stanza 0 1 \\e", "stanza 1 0 abcd\\n", "stanza 1 1 \\e"]);
+    }
+
+    #[test]
+    fn a_closed_session_awaits_nothing() {
+        let answers = answers(&[
+            PLUGIN, "receive ->\\sdone\\n\\n 0", "send error internal \\e 99", "send msg \\e \\e 99",
+            "response ->\\sok\\n\\n 0", "send grease \\e \\e 99", "show", "response ->\\sok\\n\\n 0", "show",
+            "response ->\\sok\\n\\n 0",
+        ]);
+        let expected = [
+            "ok", "ok 9 done \\e", "ok ->\\serror\\sinternal\\n\\n", "refused 14", "ok 7 ok \\e",
+            "ok ->\\sgrease\\n\\n", "phase two", "awaits other", "error 0 internal \\e", "end", "refused 12",
+            "phase closed", "awaits -", "error 0 internal \\e", "end", "refused 13",
         ];
         assert_eq!(answers, expected);
     }

@@ -1,15 +1,12 @@
 //! One command of phase one: its form (4, 5) and what the tables say to it (7, 8). Both ends judge by this.
 
 use super::tables::{Addition, Buffers, Detail, Kind};
-use super::{Machine, Session};
+use super::{body, split_word, Machine, Session, FILE_KEY_BYTES};
 use crate::bech32;
 use crate::index;
 use crate::profile;
 use crate::refusal::Refusal;
 use crate::stanza::Stanza;
-
-/// A file key has so many bytes.
-pub const FILE_KEY_BYTES: usize = 16;
 
 /// What a stanza's first argument says in phase one.
 #[derive(Clone, Copy, Debug, PartialEq, Eq)]
@@ -58,20 +55,6 @@ pub(super) fn judge(session: &Session, stanza: &Stanza, buffers: &Buffers) -> Re
         }
     }
     Ok(Step { command, addition })
-}
-
-/// The first argument of a text, and what stands behind its space, if there is more.
-fn split_word(arguments: &[u8]) -> (&[u8], Option<&[u8]>) {
-    match arguments.iter().position(|&byte| byte == b' ') {
-        Some(space) => (&arguments[..space], Some(&arguments[space + 1..])),
-        None => (arguments, None),
-    }
-}
-
-fn body(stanza: &Stanza) -> Vec<u8> {
-    let mut body = vec![0; stanza.body_len()];
-    stanza.decode_body(&mut body).expect("the buffer has the body's length");
-    body
 }
 
 /// What the command would keep: none for done and for other commands; 4, then 5, for a wrong form.

@@ -6,9 +6,8 @@ use crate::profile::Finding;
 /// How many kinds of entries there are.
 pub const KINDS: usize = 7;
 
-/// What an entry is; each kind has its own numbering from 0 and its own buffer.
-///
-/// The last three belong to phase two, which is not built yet: their tables stay empty.
+/// What an entry is; each kind has its own numbering from 0 and its own buffer. The last three belong to
+/// phase two: errors, returned stanzas and returned keys.
 #[derive(Clone, Copy, Debug, PartialEq, Eq)]
 pub enum Kind {
     Recipient,
@@ -80,6 +79,29 @@ pub enum Detail {
     FileKey,
     /// Of a header stanza: its file's index, and what the stanza check found.
     Header { file: u32, finding: Finding },
+    /// Of an error: what it names.
+    Error { cause: Cause },
+    /// Of a returned stanza.
+    Stanza { file: u32 },
+    /// Of a returned key.
+    Key { file: u32 },
+}
+
+/// What an error names.
+#[derive(Clone, Copy, Debug, PartialEq, Eq)]
+pub enum Cause {
+    Internal,
+    Identity {
+        number: u32,
+    },
+    Recipient {
+        number: u32,
+    },
+    /// A header stanza, by its number among all of the session, and its file.
+    Stanza {
+        file: u32,
+        number: u32,
+    },
 }
 
 /// A command's entry before it has a slot.
@@ -99,6 +121,11 @@ impl Tables {
     #[must_use]
     pub fn of(&self, kind: Kind) -> &[Entry] {
         &self.0[kind as usize]
+    }
+
+    /// What is kept beside the payloads of a kind, in order.
+    pub fn details(&self, kind: Kind) -> impl Iterator<Item = Detail> + '_ {
+        self.of(kind).iter().map(|entry| entry.detail)
     }
 
     /// Whether there is a slot, and the payloads so far and this one are together no longer than the

@@ -1,0 +1,70 @@
+//! The scripts for the class, in `scripts/` of the repository: each answers what stands beside it.
+
+use std::collections::BTreeSet;
+use std::fs;
+use std::path::{Path, PathBuf};
+
+use reference::replay;
+
+fn folder() -> PathBuf {
+    Path::new(env!("CARGO_MANIFEST_DIR")).join("../scripts")
+}
+
+/// The names of the files with this ending.
+fn names(ending: &str) -> BTreeSet<String> {
+    let files = fs::read_dir(folder()).unwrap().map(|file| file.unwrap().file_name().into_string().unwrap());
+    files.filter_map(|file| file.strip_suffix(ending).map(str::to_string)).collect()
+}
+
+fn text(name: &str, ending: &str) -> String {
+    fs::read_to_string(folder().join(format!("{name}{ending}"))).unwrap()
+}
+
+fn answers(script: &str) -> String {
+    let mut output = Vec::new();
+    replay::run(script.as_bytes(), &mut output).unwrap();
+    String::from_utf8(output).unwrap()
+}
+
+#[test]
+fn every_script_prints_what_is_beside_it() {
+    assert_eq!(names(".txt"), names(".out"));
+    assert_eq!(names(".txt").len(), 7);
+    for name in names(".txt") {
+        assert_eq!(answers(&text(&name, ".txt")), text(&name, ".out"), "{name}");
+    }
+}
+
+#[test]
+fn no_script_has_a_bad_line() {
+    for name in names(".txt") {
+        assert!(!text(&name, ".out").lines().any(|line| line.starts_with("bad") || line == "none"), "{name}");
+        assert!(text(&name, ".txt").starts_with("# "), "{name}");
+    }
+}
+
+/// Each text that the one end prints stands in a line of the other.
+#[test]
+fn whole_conversations_fit_together() {
+    for name in ["conversation-recipient-v1", "conversation-identity-v1"] {
+        let script = text(name, ".txt");
+        let (client, plugin) = script.split_at(script.find("open plugin").unwrap());
+        for (one, other) in [(client, plugin), (plugin, client)] {
+            for answer in answers(one).lines().filter(|answer| answer.starts_with("ok ")) {
+                for written in answer.split(' ').filter(|word| word.starts_with("->")) {
+                    assert!(other.contains(&format!(" {written} ")), "{name}: {written}");
+                }
+            }
+        }
+        assert_eq!(text(name, ".out").matches("phase ended").count(), 2);
+    }
+}
+
+/// The README has a line for each.
+#[test]
+fn every_script_is_listed() {
+    let readme = fs::read_to_string(folder().join("README.md")).unwrap();
+    for name in names(".txt") {
+        assert!(readme.contains(&format!("| `{name}` |")), "{name}");
+    }
+}
