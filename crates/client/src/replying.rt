@@ -31,7 +31,7 @@ fn reply_to(word: WordTwo, response: Response, body: &[u8], out: &mut [u8]) -> G
 {
     if !responses::fits_whole(word, response, body.len()) {
         return Given {
-            answer: Written::Refused(Refusal::Unfit),
+            answer: Written::Refused(Refusal::UnfitResponse),
             phase: Phase::Awaiting(word),
         };
     }
