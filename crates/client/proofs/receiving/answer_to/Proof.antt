@@ -1,0 +1,30 @@
+use borrow.Author.Needs.{needs}
+use Rattle.client.proofs.receiving.answer_to.Statement.{statement}
+use Rattle.client.proofs.receiving.answer_to.Tie as tie
+use Rattle.client.proofs.receiving.answer_to.Reads as reads
+use Rattle.client.proofs.receiving.answer_to.Lts as lts
+use Rattle.phase_two.proofs.word_two_of.Reads as word-two-of-reads
+
+-- src/receiving.rt:52:46
+enum-told : tie.Need-enum-told
+enum-told c = search needs
+
+-- src/receiving.rt:52:46
+word-two-of-requires : tie.Need-word-two-of-requires
+word-two-of-requires c κs = search needs
+
+-- src/receiving.rt:53:26
+enum-known-verdict : tie.Need-enum-known-verdict
+enum-known-verdict c = search needs
+
+-- src/receiving.rt:48:1
+returns : tie.Need-returns
+returns c = ?
+
+-- src/receiving.rt:48:1
+returns-2 : tie.Need-returns-2
+returns-2 c = ?
+
+pub answer-to-spec : {M : Type 1} → statement M
+answer-to-spec =
+    tie.close (tie.spec enum-told word-two-of-requires enum-known-verdict returns returns-2)
