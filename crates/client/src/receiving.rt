@@ -65,7 +65,7 @@ fn phase_behind(screen: bool, verdict: Verdict, command: CommandTwo) -> Phase
 }
 
 // Writes what is answered at once to a command that was accepted.
-fn write_judged(verdict: Verdict, answer: AtOnce, out: &mut [u8])
+fn write_answer(verdict: Verdict, answer: AtOnce, out: &mut [u8])
     ensures { λ _. ⌜ now (out .exit) ≡ pick (eqb (verdictSaid verdict) 0) (filled (textOf (atOnceSaid answer)) (now (out .entry))) (now (out .entry)) ⌝ }
 {
     match verdict {
@@ -110,7 +110,7 @@ fn receive_command(
     );
     let verdict = step.verdict;
     let after = step.tables;
-    write_judged(verdict, at_once, out);
+    write_answer(verdict, at_once, out);
     let answer = answer_to(verdict, command, taken, size);
     let phase = phase_behind(screen, verdict, command);
     Taken {

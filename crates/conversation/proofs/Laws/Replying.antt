@@ -47,11 +47,11 @@ module _ (w : WordTwo) (s : Session) (r : Response) (y out : List ℕ) where
   replied-unfit e = rw (sym e)
 
   -- one that fits, and was written
-  pub replied-bytes : (n : ℕ) (o : List ℕ) → true ≡ fitsWhole w r y → bytes n ≡ written (responseLine r) y out → o ≡ bufferAfter (responseLine r) y out → reply (bytes n) (answered s) o ≡ repliedTo w s r y out
+  pub replied-bytes : (a : Answer) (n : ℕ) (o : List ℕ) → a ≡ bytes n → true ≡ fitsWhole w r y → a ≡ written (responseLine r) y out → o ≡ bufferAfter (responseLine r) y out → reply a (answered s) o ≡ repliedTo w s r y out
   unfolding repliedTo
-  replied-bytes n o f e q = rw (sym f) (by-bytes s out _ _ (isWritable (responseLine r) y) (overflows (stanzaText (responseLine r) y) out) n o e q)
+  replied-bytes a n o h f e q = rw (sym f, h) (by-bytes s out _ _ (isWritable (responseLine r) y) (overflows (stanzaText (responseLine r) y) out) n o (sym h ∙ e) q)
 
   -- one that fits, and was not
-  pub replied-refused : (n : ℕ) (o : List ℕ) → true ≡ fitsWhole w r y → refused n ≡ written (responseLine r) y out → o ≡ bufferAfter (responseLine r) y out → reply (refused n) s o ≡ repliedTo w s r y out
+  pub replied-refused : (a : Answer) (n : ℕ) (o : List ℕ) → a ≡ refused n → true ≡ fitsWhole w r y → a ≡ written (responseLine r) y out → o ≡ bufferAfter (responseLine r) y out → reply a s o ≡ repliedTo w s r y out
   unfolding repliedTo
-  replied-refused n o f e q = rw (sym f) (by-refused s out _ _ (isWritable (responseLine r) y) (overflows (stanzaText (responseLine r) y) out) n o e q)
+  replied-refused a n o h f e q = rw (sym f, h) (by-refused s out _ _ (isWritable (responseLine r) y) (overflows (stanzaText (responseLine r) y) out) n o (sym h ∙ e) q)

@@ -1,3 +1,6 @@
+use mathlib.Core.Path.{ap}
+use Rattle.refusal.proofs.Laws.Number.{number-not-zero}
+use Rattle.conversation.specs.ReceivingTwo.{took}
 use borrow.Author.Needs.{needs}
 use Rattle.client.proofs.receiving.answer_to.Statement.{statement}
 use Rattle.client.proofs.receiving.answer_to.Tie as tie
@@ -19,11 +22,11 @@ enum-known-verdict c = search needs
 
 -- src/receiving.rt:48:1
 returns : tie.Need-returns
-returns c = ?
+returns c = let a = c .before .before .before .args in rw (c .before .enum-told .given .1) (ap (λ w. took w (a .taken) (a .written)) (c .word-two-of .ensures))
 
 -- src/receiving.rt:48:1
 returns-2 : tie.Need-returns-2
-returns-2 c = ?
+returns-2 c = rw (c .before .verdict .given .1, number-not-zero (c .before .verdict .given .0 .0))
 
 pub answer-to-spec : {M : Type 1} → statement M
 answer-to-spec =

@@ -1,3 +1,4 @@
+use Rattle.refusal.proofs.Laws.Number.{number-not-zero}
 use borrow.Author.Needs.{needs}
 use Rattle.client.proofs.receiving.phase_behind.Statement.{statement}
 use Rattle.client.proofs.receiving.phase_behind.Tie as tie
@@ -24,11 +25,11 @@ phase-refused-two-requires c κs = search needs
 
 -- src/receiving.rt:58:1
 returns : tie.Need-returns
-returns c = ?
+returns c = rw (c .before .enum-told .given .1) (c .phase-received-two .ensures)
 
 -- src/receiving.rt:58:1
 returns-2 : tie.Need-returns-2
-returns-2 c = ?
+returns-2 c = rw (c .before .before .verdict .given .1, number-not-zero (c .before .before .verdict .given .0 .0)) (c .phase-refused-two .ensures)
 
 pub phase-behind-spec : {M : Type 1} → statement M
 phase-behind-spec =

@@ -1,3 +1,14 @@
+use Prim.Native.Nat.{_≤_}
+use mathlib.Core.Path.{_≡_, ap₂, _∙_}
+use lib.ListN.{length}
+use denote.Ref.{now}
+use Rattle.stanza.specs.Parts.{argumentsIn, bodyIn}
+use Rattle.stanza.proofs.Laws.RoundTrip.{body-limit}
+use Rattle.session.proofs.Laws.Bodies.{body-whole}
+use Rattle.session.specs.declared.phases.Phase.the-variants.{Two}
+use Rattle.conversation.specs.PhaseTwo.{buffersOf}
+use Rattle.conversation.specs.ReceivingTwo.{receivedStanza}
+use Rattle.client.specs.Session.{sessionIn}
 use borrow.Author.Needs.{needs}
 use Rattle.client.proofs.receiving.receive_stanza.Statement.{statement}
 use Rattle.client.proofs.receiving.receive_stanza.Tie as tie
@@ -50,7 +61,14 @@ same-length-4 c = search needs
 
 -- src/receiving.rt:124:1
 returns : tie.Need-returns
-returns c = ?
+returns c =
+    let a = c .before .before .before .before .before .before .before .before .before .before .before .before .before .before .before .before .before .before .before .before .before .before .before .before .args in
+    let text = now (a .text) in
+    let long : length (bodyIn text (a .s)) ≤ 6144 = body-limit text (a .s .line) (a .s .body) (a .s .taken) (c .before .before .before .before .before .before .before .before .before .before .before .before .before .before .before .before .before .before .before .before .before .before .before .before .pre) in
+    let body : now (c .before .before .before .before .before .before .before .before .before .before .before .before .before .name-text .result) ≡ bodyIn text (a .s) = c .before .before .before .before .before .before .before .before .before .before .before .before .before .name-text .ensures ∙ c .before .before .before .before .before .before .before .before .before .before .before .before .before .before .before .before .decode .ensures .1 ∙ body-whole text (a .s) 6144 long in
+    λ name.
+    c .before .before .before .before .before .before .before .before .receive-command .ensures name
+    ∙ ap₂ (λ l y. receivedStanza (sessionIn (a .machine) name (a .screen) Two (a .tables)) (buffersOf (now (a .errors)) (now (a .stanzas)) (now (a .returned))) (now (a .out)) l y (a .s .taken)) (c .before .before .before .before .before .before .before .before .before .before .before .before .before .before .before .before .before .before .arguments-of .ensures) body
 
 pub receive-stanza-spec : {M : Type 1} → statement M
 receive-stanza-spec =

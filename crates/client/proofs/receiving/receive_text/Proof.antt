@@ -1,3 +1,11 @@
+use mathlib.Core.Path.{sym, ap, _∙_}
+use denote.Ref.{now}
+use Rattle.refusal.specs.Number.{numberOf}
+use Rattle.stanza.specs.Reading.{readSaid}
+use Rattle.session.specs.Opening.{nameOf}
+use Rattle.session.specs.PhaseOne.{tablesOf}
+use Rattle.conversation.specs.PhaseTwo.{buffersOf}
+use Rattle.conversation.proofs.Laws.ReceivingTwo.{refusal-is}
 use borrow.Author.Needs.{needs}
 use Rattle.client.proofs.receiving.receive_text.Statement.{statement}
 use Rattle.client.proofs.receiving.receive_text.Tie as tie
@@ -17,7 +25,7 @@ enum-known-first c = search needs
 
 -- src/receiving.rt:170:29
 receive-stanza-requires : tie.Need-receive-stanza-requires
-receive-stanza-requires c κs = ?
+receive-stanza-requires c κs = sym (c .before .before .before .before .before .before .before .read .ensures) ∙ ap readSaid (c .before .before .before .before .before .first .given .1)
 
 -- src/receiving.rt:181:24
 enum-known-first-2 : tie.Need-enum-known-first-2
@@ -45,11 +53,15 @@ same-length-4 c = search needs
 
 -- src/receiving.rt:156:1
 returns : tie.Need-returns
-returns c = ?
+returns c = λ name. rw (sym (c .before .before .before .before .before .before .before .before .before .before .before .before .before .before .before .before .read .ensures), c .before .before .before .before .before .before .before .before .before .before .before .before .before .before .first .given .1) (c .before .before .before .before .before .before .before .before .receive-stanza .ensures name)
 
 -- src/receiving.rt:156:1
 returns-2 : tie.Need-returns-2
-returns-2 c = ?
+returns-2 c =
+    let a = c .before .before .before .before .before .before .before .before .before .before .args in
+    λ name.
+    rw (sym (c .before .before .before .before .read .ensures), c .before .before .first2 .given .1, c .phase-refused-two .ensures)
+    (refusal-is (a .machine) (nameOf name) (a .screen) (tablesOf (a .tables)) (buffersOf (now (a .errors)) (now (a .stanzas)) (now (a .returned))) (now (a .out)) (numberOf (c .before .before .first2 .given .0 .0)))
 
 pub receive-text-spec : {M : Type 1} → statement M
 receive-text-spec =

@@ -31,11 +31,11 @@ enum-told-4 c = search needs
 
 -- src/replying.rt:52:1
 returns : tie.Need-returns
-returns c = ?
+returns c = λ machine name screen tables. rw (c .enum-told .given .1)
 
 -- src/replying.rt:52:1
 returns-2 : tie.Need-returns-2
-returns-2 c = ?
+returns-2 c = λ machine name screen tables. rw (c .enum-told2 .given .1)
 
 -- src/replying.rt:52:1
 same-length : tie.Need-same-length
@@ -43,15 +43,15 @@ same-length c = search needs
 
 -- src/replying.rt:52:1
 returns-3 : tie.Need-returns-3
-returns-3 c = ?
+returns-3 c = λ machine name screen tables. rw (c .before .before .before .before .before .phase .given .1) (c .before .before .reply-to .ensures machine name screen tables)
 
 -- src/replying.rt:52:1
 returns-4 : tie.Need-returns-4
-returns-4 c = ?
+returns-4 c = λ machine name screen tables. rw (c .enum-told3 .given .1)
 
 -- src/replying.rt:52:1
 returns-5 : tie.Need-returns-5
-returns-5 c = ?
+returns-5 c = λ machine name screen tables. rw (c .enum-told4 .given .1)
 
 pub reply-in-spec : {M : Type 1} → statement M
 reply-in-spec =

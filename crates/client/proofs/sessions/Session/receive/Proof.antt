@@ -1,3 +1,12 @@
+use mathlib.Core.Path.{sym, ap, _∙_}
+use denote.Ref.{now}
+use Rattle.refusal.specs.Number.{numberOf}
+use Rattle.refusal.proofs.Laws.Number.{number-not-zero}
+use Rattle.session.specs.Opening.{nameOf}
+use Rattle.session.specs.PhaseOne.{tablesOf, verdictSaid}
+use Rattle.conversation.specs.PhaseTwo.{buffersOf}
+use Rattle.conversation.proofs.Laws.ReceivingTwo.{received-out-of-turn, received-in-turn}
+use Rattle.client.specs.Session.{sessionOf}
 use borrow.Author.Needs.{needs}
 use Rattle.client.proofs.sessions.Session.receive.Statement.{statement}
 use Rattle.client.proofs.sessions.Session.receive.Tie as tie
@@ -24,7 +33,10 @@ receive-text-requires c κs = search needs
 
 -- src/receiving.rt:193:5
 returns : tie.Need-returns
-returns c = ?
+returns c =
+    let a = c .before .before .before .before .before .before .before .before .before .args in
+    received-out-of-turn (sessionOf (a .self)) (now (a .text)) (buffersOf (now (a .errors)) (now (a .stanzas)) (now (a .returned))) (now (a .out)) (numberOf (c .before .turn .given .0 .0))
+    (sym (ap verdictSaid (c .before .turn .given .1)) ∙ c .before .before .before .turn-two .ensures) (number-not-zero (c .before .turn .given .0 .0))
 
 -- src/receiving.rt:193:5
 same-length : tie.Need-same-length
@@ -44,7 +56,11 @@ same-length-4 c = search needs
 
 -- src/receiving.rt:193:5
 returns-2 : tie.Need-returns-2
-returns-2 c = ?
+returns-2 c =
+    let a = c .before .before .before .before .before .before .before .before .before .before .before .before .before .before .before .before .before .before .before .before .before .before .before .args in
+    let s = a .self in
+    c .before .before .before .before .before .before .before .before .before .receive-text .ensures (s .name)
+    ∙ received-in-turn (s .machine) (nameOf (s .name)) (s .screen) (s .phase) (tablesOf (s .tables)) (now (a .text)) (buffersOf (now (a .errors)) (now (a .stanzas)) (now (a .returned))) (now (a .out)) (sym (ap verdictSaid (c .before .before .before .before .before .before .before .before .before .before .before .before .before .before .before .enum-told .given .1)) ∙ c .before .before .before .before .before .before .before .before .before .before .before .before .before .before .before .before .before .turn-two .ensures)
 
 pub receive-spec : {M : Type 1} → statement M
 receive-spec =

@@ -15,7 +15,7 @@ same-length c = search needs
 
 -- src/replying.rt:79:5
 returns : tie.Need-returns
-returns c = ?
+returns c = let s = c .before .before .before .before .before .before .before .before .args .self in c .before .before .reply-in .ensures (s .machine) (s .name) (s .screen) (s .tables)
 
 pub reply-spec : {M : Type 1} → statement M
 reply-spec = tie.close (tie.spec reply-in-requires same-length returns)

@@ -1,8 +1,9 @@
+use Rattle.refusal.proofs.Laws.Number.{number-not-zero}
 use borrow.Author.Needs.{needs}
-use Rattle.client.proofs.receiving.write_judged.Statement.{statement}
-use Rattle.client.proofs.receiving.write_judged.Tie as tie
-use Rattle.client.proofs.receiving.write_judged.Reads as reads
-use Rattle.client.proofs.receiving.write_judged.Lts as lts
+use Rattle.client.proofs.receiving.write_answer.Statement.{statement}
+use Rattle.client.proofs.receiving.write_answer.Tie as tie
+use Rattle.client.proofs.receiving.write_answer.Reads as reads
+use Rattle.client.proofs.receiving.write_answer.Lts as lts
 use Rattle.phase_two.proofs.write_at_once.Reads as write-at-once-reads
 
 -- src/receiving.rt:73:46
@@ -22,12 +23,12 @@ same-length c = search needs
 
 -- src/receiving.rt:68:1
 returns : tie.Need-returns
-returns c = ?
+returns c = rw (c .before .before .before .before .enum-told .given .1) (c .before .before .write-at-once .ensures .1)
 
 -- src/receiving.rt:68:1
 returns-2 : tie.Need-returns-2
-returns-2 c = ?
+returns-2 c = rw (c .enum-told2 .given .1, number-not-zero (c .enum-told2 .given .0 .0))
 
-pub write-judged-spec : {M : Type 1} → statement M
-write-judged-spec =
+pub write-answer-spec : {M : Type 1} → statement M
+write-answer-spec =
     tie.close (tie.spec enum-told write-at-once-requires enum-told-2 same-length returns returns-2)
