@@ -34,7 +34,7 @@ struct Done {
 }
 
 // 15 where n bytes are more than the output takes.
-fn check_output(n: usize, capacity: usize) -> Verdict
+pub fn check_output(n: usize, capacity: usize) -> Verdict
     ensures { λ r. ⌜ verdictSaid r ≡ pick (ltb capacity n) 15 0 ⌝ }
 {
     if capacity < n {

@@ -19,7 +19,9 @@ pub mod OrderTwo
 pub mod PresentTwo
 pub mod Reached
 pub mod Receiving
+pub mod ReceivingTwo
 pub mod Refusals
+pub mod Replying
 pub mod Runs
 pub mod Sending
 pub mod Steps
