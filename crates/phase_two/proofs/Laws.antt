@@ -1,2 +1,3 @@
 -- What is shown of the definitions of phase two, for its code.
 pub mod Commands
+pub mod Questions

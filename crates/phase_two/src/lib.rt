@@ -2,6 +2,8 @@
 mod application;
 mod at_once;
 mod commands;
+mod decision;
+mod questions;
 mod turns;
 
 pub use application::StepTwo;
@@ -17,6 +19,7 @@ pub use commands::parse_two;
 pub use commands::payload_length_two;
 pub use commands::put_line_two;
 pub use commands::word_two_of;
+pub use decision::decide_two;
 pub use turns::Awaited;
 pub use turns::awaited_command;
 pub use turns::phase_received_two;
