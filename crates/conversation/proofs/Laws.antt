@@ -20,8 +20,10 @@ pub mod PresentTwo
 pub mod Reached
 pub mod Receiving
 pub mod Refusals
+pub mod Responding
 pub mod Runs
 pub mod Sending
+pub mod SendingTwo
 pub mod Steps
 pub mod StepsTwo
 pub mod SumsTwo
