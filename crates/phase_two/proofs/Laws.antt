@@ -1,3 +1,5 @@
 -- What is shown of the definitions of phase two, for its code.
+pub mod Application
+pub mod AtOnce
 pub mod Commands
 pub mod Questions

@@ -6,7 +6,12 @@ use Prim.Native.Nat.{ℕ}
 use lib.ListN.{getD}
 use Rattle.refusal.specs.Pick.{pick}
 use Rattle.refusal.specs.Same.{same}
+use Rattle.refusal.specs.Run.{all}
 use Rattle.refusal.proofs.Laws.Same.{same-eq}
+use Rattle.base64.specs.Code.{encoded}
+use Rattle.base64.specs.Lines.{wrapped}
+use Rattle.stanza.specs.Arguments.{isGraphic, isArgument, areArguments, words as words-of, before}
+use Rattle.stanza.specs.Writing.{isWritable}
 use Rattle.responses.specs.declared.Response.{Response}
 use Rattle.responses.specs.declared.Response.the-variants.{Ok, Yes, No, Fail, Unsupported}
 use Rattle.responses.specs.declared.WordTwo.{WordTwo}
@@ -82,3 +87,12 @@ read-line Yes = refl
 read-line No = refl
 read-line Fail = refl
 read-line Unsupported = refl
+
+-- every response can be written without a body
+pub bodiless : (r : Response) → isWritable (responseLine r) [] ≡ true
+unfolding words-of before areArguments isArgument all isGraphic wrapped encoded
+bodiless Ok = refl
+bodiless Yes = refl
+bodiless No = refl
+bodiless Fail = refl
+bodiless Unsupported = refl

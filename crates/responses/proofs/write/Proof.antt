@@ -75,7 +75,7 @@ same-length c = search needs
 
 -- src/lib.rt:177:1
 returns : tie.Need-returns
-returns c = 
+returns c =
     let b = now (c .before .before .before .before .before .before .before .before .before .args .body) in
     let o = now (c .before .before .before .before .before .before .before .before .before .args .out) in
     let e = sym (c .before .before .before .before .before .enum-told .given .1) in
@@ -88,7 +88,7 @@ same-length-2 c = search needs
 
 -- src/lib.rt:177:1
 returns-2 : tie.Need-returns-2
-returns-2 c = 
+returns-2 c =
     let b = now (c .before .before .before .before .before .before .before .before .before .args .body) in
     let o = now (c .before .before .before .before .before .before .before .before .before .args .out) in
     let e = sym (c .before .before .before .before .before .enum-told2 .given .1) in
@@ -101,7 +101,7 @@ same-length-3 c = search needs
 
 -- src/lib.rt:177:1
 returns-3 : tie.Need-returns-3
-returns-3 c = 
+returns-3 c =
     let b = now (c .before .before .before .before .before .before .before .before .before .args .body) in
     let o = now (c .before .before .before .before .before .before .before .before .before .args .out) in
     let e = sym (c .before .before .before .before .before .enum-told3 .given .1) in
@@ -114,7 +114,7 @@ same-length-4 c = search needs
 
 -- src/lib.rt:177:1
 returns-4 : tie.Need-returns-4
-returns-4 c = 
+returns-4 c =
     let b = now (c .before .before .before .before .before .before .before .before .before .args .body) in
     let o = now (c .before .before .before .before .before .before .before .before .before .args .out) in
     let e = sym (c .before .before .before .before .before .enum-told4 .given .1) in
@@ -127,7 +127,7 @@ same-length-5 c = search needs
 
 -- src/lib.rt:177:1
 returns-5 : tie.Need-returns-5
-returns-5 c = 
+returns-5 c =
     let b = now (c .before .before .before .before .before .before .before .before .before .args .body) in
     let o = now (c .before .before .before .before .before .before .before .before .before .args .out) in
     let e = sym (c .before .before .before .before .before .enum-told5 .given .1) in

@@ -1,3 +1,4 @@
+use mathlib.Core.Path.{refl}
 use borrow.Author.Needs.{needs}
 use Rattle.phase_two.proofs.application.apply_two.Statement.{statement}
 use Rattle.phase_two.proofs.application.apply_two.Tie as tie
@@ -73,7 +74,7 @@ enum-told-4 c = search needs
 
 -- src/application.rt:47:1
 returns : tie.Need-returns
-returns c = ?
+returns c = rw (c .enum-told .given .1) (refl, (refl, (refl, refl)))
 
 -- src/application.rt:47:1
 same-length : tie.Need-same-length
@@ -81,7 +82,7 @@ same-length c = search needs
 
 -- src/application.rt:47:1
 returns-2 : tie.Need-returns-2
-returns-2 c = ?
+returns-2 c = rw (c .before .before .before .before .before .before .before .before .command .given .1, c .before .before .store-lines .ensures .0, c .before .before .store-lines .ensures .1, c .before .before .before .before .before .before .rest-of .ensures, c .before .before .before .before .wide .ensures) (refl, (refl, (refl, refl)))
 
 -- src/application.rt:47:1
 same-length-2 : tie.Need-same-length-2
@@ -89,7 +90,7 @@ same-length-2 c = search needs
 
 -- src/application.rt:47:1
 returns-3 : tie.Need-returns-3
-returns-3 c = ?
+returns-3 c = rw (c .before .before .before .before .before .before .before .command2 .given .1, c .before .before .store .ensures .0, c .before .before .store .ensures .1, c .before .before .before .before .wide2 .ensures) (refl, (refl, (refl, refl)))
 
 -- src/application.rt:47:1
 same-length-3 : tie.Need-same-length-3
@@ -97,19 +98,19 @@ same-length-3 c = search needs
 
 -- src/application.rt:47:1
 returns-4 : tie.Need-returns-4
-returns-4 c = ?
+returns-4 c = rw (c .before .before .before .before .before .before .before .before .command3 .given .1, c .before .before .store2 .ensures .0, c .before .before .store2 .ensures .1, c .before .before .before .before .before .index-of .ensures, c .before .before .before .before .mark-of .ensures) (refl, (refl, (refl, refl)))
 
 -- src/application.rt:47:1
 returns-5 : tie.Need-returns-5
-returns-5 c = ?
+returns-5 c = rw (c .enum-told2 .given .1) (refl, (refl, (refl, refl)))
 
 -- src/application.rt:47:1
 returns-6 : tie.Need-returns-6
-returns-6 c = ?
+returns-6 c = rw (c .enum-told3 .given .1) (refl, (refl, (refl, refl)))
 
 -- src/application.rt:47:1
 returns-7 : tie.Need-returns-7
-returns-7 c = ?
+returns-7 c = rw (c .enum-told4 .given .1) (refl, (refl, (refl, refl)))
 
 pub apply-two-spec : {M : Type 1} → statement M
 apply-two-spec =

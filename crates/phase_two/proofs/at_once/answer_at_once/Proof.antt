@@ -38,19 +38,19 @@ enum-told-7 c = search needs
 
 -- src/at_once.rt:19:1
 returns-2 : tie.Need-returns-2
-returns-2 c = ?
+returns-2 c = rw (c .before .enum-told .given .1, c .if1 .left)
 
 -- src/at_once.rt:19:1
 returns-3 : tie.Need-returns-3
-returns-3 c = ?
+returns-3 c = rw (c .enum-told2 .given .1)
 
 -- src/at_once.rt:19:1
 returns-4 : tie.Need-returns-4
-returns-4 c = ?
+returns-4 c = rw (c .enum-told3 .given .1)
 
 -- src/at_once.rt:19:1
 returns-5 : tie.Need-returns-5
-returns-5 c = ?
+returns-5 c = rw (c .enum-told4 .given .1)
 
 -- src/at_once.rt:19:1
 returns-6 : tie.Need-returns-6
@@ -58,7 +58,7 @@ returns-6 c = search needs
 
 -- src/at_once.rt:19:1
 returns-7 : tie.Need-returns-7
-returns-7 c = ?
+returns-7 c = rw (c .enum-told6 .given .1)
 
 -- src/at_once.rt:19:1
 returns-8 : tie.Need-returns-8

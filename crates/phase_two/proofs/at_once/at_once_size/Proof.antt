@@ -1,3 +1,6 @@
+use Rattle.phase_two.proofs.Laws.AtOnce.{size-is, never-refused}
+use Rattle.refusal.specs.Output.{said}
+use mathlib.Core.Path.{sym, ap, _∙_}
 use borrow.Author.Needs.{needs}
 use Rattle.phase_two.proofs.at_once.at_once_size.Statement.{statement}
 use Rattle.phase_two.proofs.at_once.at_once_size.Tie as tie
@@ -31,11 +34,11 @@ enum-told-2 c = search needs
 
 -- src/at_once.rt:39:1
 returns : tie.Need-returns
-returns c = ?
+returns c = rw (c .before .before .before .before .before .before .answer .given .1) (size-is (c .before .before .before .before .before .before .answer .given .0 .0) _ (ap said (sym (c .before .size2 .given .1)) ∙ c .before .before .before .size .ensures))
 
 -- src/at_once.rt:39:1
 returns-2 : tie.Need-returns-2
-returns-2 c = ?
+returns-2 c = absurd (never-refused (c .before .before .before .before .before .answer .given .0 .0) _ (ap said (sym (c .enum-told .given .1)) ∙ c .before .before .size .ensures))
 
 -- src/at_once.rt:39:1
 returns-3 : tie.Need-returns-3

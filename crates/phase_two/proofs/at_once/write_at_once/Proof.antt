@@ -1,3 +1,9 @@
+use Rattle.phase_two.proofs.Laws.AtOnce.{written-is, after-is, silent-is}
+use Rattle.phase_two.specs.AtOnce.{atOnceSaid}
+use Rattle.conversation.specs.ReceivingTwo.{textOf}
+use Rattle.refusal.specs.Output.{answered, filled}
+use denote.Ref.{now}
+use mathlib.Core.Path.{sym, ap, _∙_}
 use borrow.Author.Needs.{needs}
 use Rattle.phase_two.proofs.at_once.write_at_once.Statement.{statement}
 use Rattle.phase_two.proofs.at_once.write_at_once.Tie as tie
@@ -27,11 +33,20 @@ same-length c = search needs
 
 -- src/at_once.rt:55:1
 returns : tie.Need-returns
-returns c = ?
+returns c =
+    let o = now (c .before .before .before .before .before .before .before .before .before .args .out) in
+    let r = c .before .before .before .before .before .before .answer .given .0 .0 in
+    let e = sym (c .before .before .before .before .before .before .answer .given .1) in
+    let w = c .before .before .write .ensures in
+    (w .0 ∙ written-is r o ∙ ap (λ a. answered (textOf (atOnceSaid a)) o) e, w .1 ∙ after-is r o ∙ ap (λ a. filled (textOf (atOnceSaid a)) o) e)
 
 -- src/at_once.rt:55:1
 returns-2 : tie.Need-returns-2
-returns-2 c = ?
+returns-2 c =
+    let o = now (c .before .before .before .args .out) in
+    let e = sym (c .enum-told .given .1) in
+    let w = silent-is o in
+    (w .0 ∙ ap (λ a. answered (textOf (atOnceSaid a)) o) e, w .1 ∙ ap (λ a. filled (textOf (atOnceSaid a)) o) e)
 
 pub write-at-once-spec : {M : Type 1} → statement M
 write-at-once-spec =

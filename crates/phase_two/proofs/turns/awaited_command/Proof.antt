@@ -34,7 +34,7 @@ returns-2 c = search needs
 
 -- src/turns.rt:50:1
 returns-3 : tie.Need-returns-3
-returns-3 c = ?
+returns-3 c = rw (c .before .phase .given .1)
 
 -- src/turns.rt:50:1
 returns-4 : tie.Need-returns-4

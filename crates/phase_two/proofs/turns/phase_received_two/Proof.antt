@@ -10,7 +10,7 @@ enum-known-command c = search needs
 
 -- src/turns.rt:69:17
 returns : tie.Need-returns
-returns c = ?
+returns c = rw (c .before .before .command .given .1, c .if1 .taken)
 
 -- src/turns.rt:73:34
 enum-told : tie.Need-enum-told

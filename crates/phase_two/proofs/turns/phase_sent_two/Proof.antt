@@ -34,19 +34,19 @@ enum-told-6 c = search needs
 
 -- src/turns.rt:83:1
 returns : tie.Need-returns
-returns c = ?
+returns c = rw (c .before .command .given .1)
 
 -- src/turns.rt:83:1
 returns-2 : tie.Need-returns-2
-returns-2 c = ?
+returns-2 c = rw (c .enum-told .given .1)
 
 -- src/turns.rt:83:1
 returns-3 : tie.Need-returns-3
-returns-3 c = ?
+returns-3 c = rw (c .enum-told2 .given .1)
 
 -- src/turns.rt:83:1
 returns-4 : tie.Need-returns-4
-returns-4 c = ?
+returns-4 c = rw (c .enum-told3 .given .1)
 
 -- src/turns.rt:83:1
 returns-5 : tie.Need-returns-5
@@ -54,7 +54,7 @@ returns-5 c = search needs
 
 -- src/turns.rt:83:1
 returns-6 : tie.Need-returns-6
-returns-6 c = ?
+returns-6 c = rw (c .enum-told5 .given .1)
 
 -- src/turns.rt:83:1
 returns-7 : tie.Need-returns-7
