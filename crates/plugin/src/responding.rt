@@ -39,15 +39,15 @@ struct Replied {
 // A response to the command that awaits it.
 fn receive_fitting(
     word: WordTwo,
-    response: Response,
+    found: Response,
     text: &[u8],
     s: Stanza,
     out: &mut [u8],
 ) -> Replied
     requires { ⌜ readFirst (now text) ≡ stanza (s .line) (s .body) (s .taken) ⌝ }
-    ensures { λ r. ⌜ ((machine : Machine) (name : Name) (tables : Tables) → repliedSaid machine name tables r (now (out .exit)) ≡ respondedAs word (sessionIn machine name (Phase.Awaiting word) tables) (response response) (bodyIn (now (text .entry)) s) (s .taken) (now (out .entry))) ⌝ }
+    ensures { λ r. ⌜ ((machine : Machine) (name : Name) (tables : Tables) → repliedSaid machine name tables r (now (out .exit)) ≡ respondedAs word (sessionIn machine name (Phase.Awaiting word) tables) (response found) (bodyIn (now (text .entry)) s) (s .taken) (now (out .entry))) ⌝ }
 {
-    if !responses::fits_whole(word, response, s.body) {
+    if !responses::fits_whole(word, found, s.body) {
         return Replied {
             answer: Answering::Refused(Refusal::UnfitResponse),
             phase: Phase::Closed,
@@ -56,7 +56,7 @@ fn receive_fitting(
     let written = stanza::body_of(text, s, out);
     match written {
         Written::Bytes(n) => Replied {
-            answer: Answering::Response(response, s.taken, n),
+            answer: Answering::Response(found, s.taken, n),
             phase: Phase::Two,
         },
         Written::Refused(r) => Replied {
@@ -74,7 +74,7 @@ fn receive_answer(word: WordTwo, text: &[u8], s: Stanza, out: &mut [u8]) -> Repl
     let line = stanza::arguments_of(text, s);
     let reading = responses::read_line(line);
     match reading {
-        Reading::Response(response) => receive_fitting(word, response, text, s, out),
+        Reading::Response(found) => receive_fitting(word, found, text, s, out),
         Reading::Nothing => Replied {
             answer: Answering::Refused(Refusal::UnfitResponse),
             phase: Phase::Closed,
