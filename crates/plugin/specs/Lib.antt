@@ -2,3 +2,4 @@
 pub mod Session
 pub mod Receiving
 pub mod Responding
+pub mod Sending

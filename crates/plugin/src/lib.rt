@@ -2,11 +2,13 @@
 // are kept in buffers that each call is lent.
 mod receiving;
 mod responding;
+mod sending;
 mod sessions;
 
 pub use receiving::Received;
 pub use receiving::Taking;
 pub use responding::Answering;
 pub use responding::Responded;
+pub use sending::Sent;
 pub use sessions::Opening;
 pub use sessions::Session;
