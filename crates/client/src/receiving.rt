@@ -13,7 +13,6 @@ ghost use Rattle.phase_two.specs.AtOnce.{atOnceSaid};
 ghost use Rattle.phase_two.specs.Commands.{commandSaid};
 ghost use Rattle.client.specs.Session.{sessionIn, sessionOf};
 ghost use Rattle.client.specs.Receiving.{answerOf, phaseBehind, takingSaid, receivedSaid, takenSaid};
-use crate::sending::check_output;
 use crate::sessions::Session;
 use phase_two::AtOnce;
 use phase_two::CommandTwo;
@@ -96,7 +95,7 @@ fn receive_command(
     let decided = phase_two::decide_two(false, tables, command, n, errors, stanzas, returned);
     let at_once = phase_two::answer_at_once(screen, command);
     let size = phase_two::at_once_size(at_once);
-    let late = check_output(size, out.len());
+    let late = session::check_output(size, out.len());
     let step = phase_two::step_two(
         decided,
         late,

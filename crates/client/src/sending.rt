@@ -1,13 +1,10 @@
 // Phase one sent: a command is put together, judged as the text that it makes, kept, and written.
 ghost use mathlib.Core.Path.{_≡_};
 ghost use mathlib.Core.Bool.{Bool};
-ghost use lib.Dec.{ltb, eqb};
-ghost use lib.ListN.{length};
-ghost use Rattle.refusal.specs.Output.{said, bytes, refused};
-ghost use Rattle.refusal.specs.Pick.{pick};
-ghost use Rattle.stanza.specs.Writing.{sized, written, bufferAfter};
+ghost use Rattle.refusal.specs.Output.{bytes};
+ghost use Rattle.stanza.specs.Writing.{sized};
 ghost use Rattle.session.specs.Commands.{wordSaid, lineSent};
-ghost use Rattle.session.specs.PhaseOne.{buffersOf, verdictSaid};
+ghost use Rattle.session.specs.PhaseOne.{buffersOf};
 ghost use Rattle.conversation.specs.Sending.{sent, sentLine};
 ghost use Rattle.client.specs.Session.{sessionIn, sessionOf};
 ghost use Rattle.client.specs.Sending.{sentSaid, doneSaid};
@@ -33,27 +30,6 @@ struct Done {
     tables: Tables,
 }
 
-// 15 where n bytes are more than the output takes.
-pub fn check_output(n: usize, capacity: usize) -> Verdict
-    ensures { λ r. ⌜ verdictSaid r ≡ pick (ltb capacity n) 15 0 ⌝ }
-{
-    if capacity < n {
-        return Verdict::Refused(Refusal::ShortOutput);
-    }
-    Verdict::Accepted
-}
-
-// Writes a stanza that was accepted.
-fn write_judged(verdict: Verdict, line: &[u8], body: &[u8], out: &mut [u8]) -> Written
-    ensures answer { λ r. ⌜ said r ≡ pick (eqb (verdictSaid verdict) 0) (written (now (line .entry)) (now (body .entry)) (now (out .entry))) (refused (verdictSaid verdict)) ⌝ }
-    ensures output { λ r. ⌜ now (out .exit) ≡ pick (eqb (verdictSaid verdict) 0) (bufferAfter (now (line .entry)) (now (body .entry)) (now (out .entry))) (now (out .entry)) ⌝ }
-{
-    match verdict {
-        Verdict::Accepted => stanza::write(line, body, out),
-        Verdict::Refused(r) => Written::Refused(r),
-    }
-}
-
 // A stanza of n bytes that can be written.
 fn send_stanza(
     machine: Machine,
@@ -74,7 +50,7 @@ fn send_stanza(
     let bytes = name.bytes;
     let length = name.length;
     let plugin = session::name_text(&bytes, length);
-    let late = check_output(n, out.len());
+    let late = session::check_output(n, out.len());
     let step = session::step_one(
         machine,
         plugin,
@@ -90,7 +66,7 @@ fn send_stanza(
     let verdict = step.verdict;
     let command = step.command;
     let after = step.tables;
-    let answer = write_judged(verdict, line, body, out);
+    let answer = session::write_judged(verdict, line, body, out);
     let phase = session::phase_sent(verdict, command);
     Done {
         answer: answer,

@@ -22,8 +22,10 @@ pub mod Receiving
 pub mod ReceivingTwo
 pub mod Refusals
 pub mod Replying
+pub mod Responding
 pub mod Runs
 pub mod Sending
+pub mod SendingTwo
 pub mod Steps
 pub mod StepsTwo
 pub mod SumsTwo

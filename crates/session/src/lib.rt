@@ -4,6 +4,7 @@ mod bodies;
 mod commands;
 mod look_up;
 mod opening;
+mod output;
 mod phase_one;
 mod phases;
 
@@ -20,6 +21,8 @@ pub use opening::Settings;
 pub use opening::machine_named;
 pub use opening::name_text;
 pub use opening::read_settings;
+pub use output::check_output;
+pub use output::write_judged;
 pub use phase_one::Step;
 pub use phase_one::Tables;
 pub use phase_one::Verdict;

@@ -30,7 +30,7 @@ abbrev sending : Answer → Session → Buffers → List ℕ → Sent
 sending a s b out = record { answer = a; session = s; buffers = b; output = out }
 
 -- what is answered and written where the output is long enough
-answered-whole : (w out : List ℕ) → overflows w out ≡ false → (answered w out ≡ bytes (length w))
+pub answered-whole : (w out : List ℕ) → overflows w out ≡ false → (answered w out ≡ bytes (length w))
 answered-whole w out e = ap (λ f. pick f (refused 15) (bytes (length w))) e
 
 module _ (m : Machine) (g : List ℕ) (x : Bool) (t : Tables) (b : Buffers) (l y out : List ℕ) (w : isWritable l y ≡ true) where

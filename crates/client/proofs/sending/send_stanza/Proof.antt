@@ -15,8 +15,8 @@ use Rattle.client.proofs.sending.send_stanza.Statement.{statement}
 use Rattle.client.proofs.sending.send_stanza.Tie as tie
 use Rattle.client.proofs.sending.send_stanza.Reads as reads
 use Rattle.client.proofs.sending.send_stanza.Lts as lts
-use Rattle.client.proofs.sending.check_output.Reads as check-output-reads
-use Rattle.client.proofs.sending.write_judged.Reads as write-judged-reads
+use Rattle.session.proofs.check_output.Reads as check-output-reads
+use Rattle.session.proofs.write_judged.Reads as write-judged-reads
 use Rattle.session.proofs.name_text.Reads as name-text-reads
 use Rattle.session.proofs.step_one.Reads as step-one-reads
 use Rattle.session.proofs.phase_sent.Reads as phase-sent-reads

@@ -1,10 +1,10 @@
 use mathlib.Core.Path.{refl}
 use Rattle.refusal.proofs.Laws.Number.{number-not-zero}
 use borrow.Author.Needs.{needs}
-use Rattle.client.proofs.sending.write_judged.Statement.{statement}
-use Rattle.client.proofs.sending.write_judged.Tie as tie
-use Rattle.client.proofs.sending.write_judged.Reads as reads
-use Rattle.client.proofs.sending.write_judged.Lts as lts
+use Rattle.session.proofs.output.write_judged.Statement.{statement}
+use Rattle.session.proofs.output.write_judged.Tie as tie
+use Rattle.session.proofs.output.write_judged.Reads as reads
+use Rattle.session.proofs.output.write_judged.Lts as lts
 use Rattle.stanza.proofs.write.Reads as write-reads
 
 -- src/sending.rt:52:56

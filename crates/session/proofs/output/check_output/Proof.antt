@@ -1,8 +1,8 @@
 use borrow.Author.Tests.{lt-ltb, le-ltb}
-use Rattle.client.proofs.sending.check_output.Statement.{statement}
-use Rattle.client.proofs.sending.check_output.Tie as tie
-use Rattle.client.proofs.sending.check_output.Reads as reads
-use Rattle.client.proofs.sending.check_output.Lts as lts
+use Rattle.session.proofs.output.check_output.Statement.{statement}
+use Rattle.session.proofs.output.check_output.Tie as tie
+use Rattle.session.proofs.output.check_output.Reads as reads
+use Rattle.session.proofs.output.check_output.Lts as lts
 
 -- src/sending.rt:41:9
 returns : tie.Need-returns
