@@ -61,15 +61,7 @@ fn send_stanza(
 {
     let command = phase_two::parse_two(machine, line, body.len());
     let payload = phase_two::payload_length_two(command, line, body);
-    let decided = phase_two::decide_two(
-        true,
-        tables,
-        command,
-        payload,
-        errors,
-        stanzas,
-        returned,
-    );
+    let decided = phase_two::decide_two(true, tables, command, payload, errors, stanzas, returned);
     let late = session::check_output(n, out.len());
     let step = phase_two::step_two(
         decided,
