@@ -132,7 +132,7 @@ pub fn any_invalid(table: Table64) -> bool
 }
 
 // Whether an entry is a nonconforming header stanza of a file.
-fn is_faulty(file: usize, e: Entry) -> bool
+fn is_nonconforming(file: usize, e: Entry) -> bool
     ensures { λ r. ⌜ r ≡ (isNonconforming (labelOf e) && isFile file (labelOf e)) ⌝ }
 {
     if e.mark != 1 {
@@ -149,7 +149,7 @@ pub fn has_nonconforming(headers: Table256, file: usize) -> bool
     let mut i = 0;
     while i < end {
         let e = headers.slots[i];
-        if is_faulty(file, e) {
+        if is_nonconforming(file, e) {
             return true;
         }
         i += 1;
@@ -184,10 +184,10 @@ fn is_named(errors: Table384, mark: u8, n: usize) -> bool
 }
 
 // Whether an entry is sound, or has had its error.
-fn is_settled(unsound: bool, errors: Table384, mark: u8, n: usize) -> bool
-    ensures { λ r. ⌜ r ≡ (not unsound || isAny (isNaming mark n) (labels (of384 errors))) ⌝ }
+fn is_settled(owing: bool, errors: Table384, mark: u8, n: usize) -> bool
+    ensures { λ r. ⌜ r ≡ (not owing || isAny (isNaming mark n) (labels (of384 errors))) ⌝ }
 {
-    if unsound {
+    if owing {
         return is_named(errors, mark, n);
     }
     true
@@ -225,7 +225,7 @@ fn are_headers_reported(headers: Table256, errors: Table384) -> bool
     true
 }
 
-// Whether all that is unsound has had its error.
+// Whether all that is invalid or nonconforming has had its error.
 pub fn all_reported(tables: Tables) -> bool
     ensures { λ r. ⌜ r ≡ allReported (tablesOf tables) ⌝ }
 {

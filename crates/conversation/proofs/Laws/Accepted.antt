@@ -49,6 +49,7 @@ use Rattle.conversation.specs.Responding as responding
 use Rattle.conversation.specs.Calls.{Call, receive, send, receive-two, reply, send-two, respond, Outcome, takingNumber, sentNumber, takingTwoNumber, respondedNumber, receivedOutcome, sentOutcome, receivedTwoOutcome, repliedOutcome, sentTwoOutcome, respondedOutcome, outcome, lineRead, bodyRead}
 use Rattle.conversation.proofs.Laws.Firsts.{first-iff, short-none}
 use Rattle.conversation.proofs.Laws.Receiving.{turn-first}
+use Rattle.conversation.proofs.Laws.ReceivingTwo.{turn-second}
 
 -- ---- what is said of an accepted call
 
@@ -122,13 +123,6 @@ AcceptedBy s b (respond text out) =
     (r : Response) × Answered s b r line body body out (outcome s b (respond text out))
 
 -- ---- tests that give 0
-
-turn-two : (p : Phase) → turnTwo p ≡ 0 → p ≡ Two
-turn-two One h = absurd (omega arith)
-turn-two Two h = refl
-turn-two (Awaiting w) h = absurd (omega arith)
-turn-two Ended h = absurd (omega arith)
-turn-two Closed h = absurd (omega arith)
 
 -- reading never refuses with 0
 read-number : (m : ℕ) (w : List ℕ) (x : Scan) → found m w x ≡ refused 0 → ⊥
@@ -301,7 +295,7 @@ module _ (s : Session) (b : Buffers) where
   unfolding receiving-two.received
   received-two text out =
       branch (ReceivedTwo (lineRead (readFirst text) text) (bodyRead (readFirst text) text) out) numberReceivedTwo (eqb (turnTwo (s .phase)) 0) _ _
-      (λ f. as-two text out (readFirst text) (turn-two (s .phase) (eqb-true (turnTwo (s .phase)) 0 f)) refl) (λ f. eqb-false (turnTwo (s .phase)) 0 f)
+      (λ f. as-two text out (readFirst text) (turn-second (s .phase) (eqb-true (turnTwo (s .phase)) 0 f)) refl) (λ f. eqb-false (turnTwo (s .phase)) 0 f)
 
   -- what is sent
   abbrev SentTwo : List ℕ → List ℕ → List ℕ → sending-two.Sent → Type 0
@@ -335,7 +329,7 @@ module _ (s : Session) (b : Buffers) where
   unfolding sending-two.sent
   sent-two word arguments body out =
       branch (SentTwo (two-command.lineSent word arguments) body out) numberSentTwo (eqb (turnTwo (s .phase)) 0) _ _
-      (λ f. line-two (two-command.lineSent word arguments) body out (turn-two (s .phase) (eqb-true (turnTwo (s .phase)) 0 f))) (λ f. eqb-false (turnTwo (s .phase)) 0 f)
+      (λ f. line-two (two-command.lineSent word arguments) body out (turn-second (s .phase) (eqb-true (turnTwo (s .phase)) 0 f))) (λ f. eqb-false (turnTwo (s .phase)) 0 f)
 
 -- ---- phase two: answers
 

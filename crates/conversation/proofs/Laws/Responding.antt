@@ -19,17 +19,13 @@ use Rattle.session.specs.declared.phases.Phase.the-variants.{Two, Awaiting, Clo
 use Rattle.conversation.specs.Session.{Session}
 use Rattle.conversation.specs.TurnsTwo.{answered as replied}
 use Rattle.conversation.specs.Responding.{Answering, took-response, declined-response, Responded, refusedResponse, respondedAs}
+use Rattle.refusal.proofs.Laws.Output.{whole}
 
 abbrev sessionIn : Machine → List ℕ → Bool → Phase → Tables → Session
 sessionIn m g x p t = record { machine = m; name = g; screen = x; phase = p; tables = t }
 
 abbrev responding : Answering → Session → List ℕ → Responded
 responding a s out = record { answer = a; session = s; output = out }
-
--- the body was written, or it is longer than the output buffer
-whole : (f : Bool) (n m : ℕ) → bytes n ≡ pick f (refused 15) (bytes m) → (f ≡ false) × (n ≡ m)
-whole true n m e = let z : _≡_ {A = ℕ} 0 1 = cc in absurd (omega arith)
-whole false n m e = (refl, cc)
 
 short : (f : Bool) (n m : ℕ) → refused n ≡ pick f (refused 15) (bytes m) → (f ≡ true) × (n ≡ 15)
 short true n m e = (refl, cc)

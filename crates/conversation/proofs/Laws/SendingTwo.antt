@@ -25,6 +25,7 @@ use Rattle.conversation.specs.TurnsTwo.{turnTwo}
 use Rattle.conversation.specs.SendingTwo.{phaseSent, Sent, refusedSending, numberSent, sentLine, sent}
 use Rattle.conversation.proofs.Laws.Firsts.{first-iff, short-none}
 use Rattle.conversation.proofs.Laws.Sending.{answered-whole}
+use Rattle.conversation.proofs.Laws.ReceivingTwo.{turn-second}
 
 abbrev sessionIn : Machine → List ℕ → Bool → Phase → Tables → Session
 sessionIn m g x p t = record { machine = m; name = g; screen = x; phase = p; tables = t }
@@ -73,13 +74,6 @@ unfolding sentLine
 sent-unwritable s b l y out w = rw w
 
 -- ---- whose turn it is
-
-pub turn-second : (p : Phase) → turnTwo p ≡ 0 → p ≡ Two
-turn-second One e = absurd (omega arith)
-turn-second Two e = refl
-turn-second (Awaiting w) e = absurd (omega arith)
-turn-second Ended e = absurd (omega arith)
-turn-second Closed e = absurd (omega arith)
 
 pub sent-out-of-turn : (s : Session) (word : WordTwo) (arguments body : List ℕ) (b : Buffers) (out : List ℕ) (n : ℕ) → n ≡ turnTwo (s .phase) → eqb n 0 ≡ false → sending (refused n) s b out ≡ sent s word arguments body b out
 unfolding sent

@@ -11,7 +11,7 @@ use borrow.Author.Tests.{ltb-true, ltb-false}
 use Rattle.refusal.specs.Output.{bytes, refused, answered, filled}
 use Rattle.refusal.specs.Pick.{pick}
 
-whole : (f : Bool) (n m : ℕ) → bytes n ≡ pick f (refused 15) (bytes m) → (f ≡ false) × (n ≡ m)
+pub whole : (f : Bool) (n m : ℕ) → bytes n ≡ pick f (refused 15) (bytes m) → (f ≡ false) × (n ≡ m)
 whole true n m e = let z : _≡_ {A = ℕ} 0 1 = cc in absurd (omega arith)
 whole false n m e = (refl, cc)
 

@@ -10,7 +10,7 @@ use Rattle.phase_two.proofs.questions.has_nonconforming.Tie as tie
 use Rattle.phase_two.proofs.questions.has_nonconforming.Reads as reads
 use Rattle.phase_two.proofs.questions.has_nonconforming.Lts as lts
 use Rattle.phase_two.proofs.questions.entries_256.Reads as entries-256-reads
-use Rattle.phase_two.proofs.questions.is_faulty.Reads as is-faulty-reads
+use Rattle.phase_two.proofs.questions.is_nonconforming.Reads as is-nonconforming-reads
 
 abbrev Inv-loop : tie.InvT-loop
 Inv-loop file headers end i₀ i = (left (λ l. isNonconforming l && isFile file l) (of256 headers) i ≡ howMany (λ l. isNonconforming l && isFile file l) (labels (of256 headers))) × (i ≤ end)
@@ -35,12 +35,12 @@ element-copy-out-e : tie.Need-element-copy-out-e Inv-loop μ-loop
 element-copy-out-e c = omega arith
 
 -- src/questions.rt:152:12
-is-faulty-requires : tie.Need-is-faulty-requires Inv-loop μ-loop
-is-faulty-requires c κs = omega arith
+is-nonconforming-requires : tie.Need-is-nonconforming-requires Inv-loop μ-loop
+is-nonconforming-requires c κs = omega arith
 
 -- src/questions.rt:153:13
 returns : tie.Need-returns Inv-loop μ-loop
-returns c = any-here (λ l. isNonconforming l && isFile (c .before .before .before .before .before .before .args .file) l) (of256 (c .before .before .before .before .before .before .args .t1)) (c .before .before .before .before .loop .i) (c .before .before .before .before .loop .inv .0) (omega arith) (sym (c .before .is-faulty .ensures) ∙ c .if1 .taken)
+returns c = any-here (λ l. isNonconforming l && isFile (c .before .before .before .before .before .before .args .file) l) (of256 (c .before .before .before .before .before .before .args .t1)) (c .before .before .before .before .loop .i) (c .before .before .before .before .loop .inv .0) (omega arith) (sym (c .before .is-nonconforming .ensures) ∙ c .if1 .taken)
 
 -- src/questions.rt:155:9
 add-i : tie.Need-add-i Inv-loop μ-loop
@@ -52,7 +52,7 @@ loop-less c = omega arith
 
 -- src/questions.rt:150:5
 loop-again : tie.Need-loop-again Inv-loop μ-loop
-loop-again c = (any-on (λ l. isNonconforming l && isFile (c .before .before .before .before .before .before .args .file) l) (of256 (c .before .before .before .before .before .before .args .t1)) (c .before .before .before .before .loop .i) (c .before .before .before .before .loop .inv .0) (omega arith) (sym (c .before .is-faulty .ensures) ∙ c .if1 .left), omega arith)
+loop-again c = (any-on (λ l. isNonconforming l && isFile (c .before .before .before .before .before .before .args .file) l) (of256 (c .before .before .before .before .before .before .args .t1)) (c .before .before .before .before .loop .i) (c .before .before .before .before .loop .inv .0) (omega arith) (sym (c .before .is-nonconforming .ensures) ∙ c .if1 .left), omega arith)
 
 -- src/questions.rt:145:1
 returns-2 : tie.Need-returns-2 Inv-loop μ-loop
@@ -68,7 +68,7 @@ has-nonconforming-spec =
     loop-holds
     mul-e
     element-copy-out-e
-    is-faulty-requires
+    is-nonconforming-requires
     returns
     add-i
     loop-less
