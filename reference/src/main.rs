@@ -1,19 +1,23 @@
-//! `reference replay` answers the script on standard input; `reference generate` prints the test script;
+//! `reference replay` answers the script on standard input; `reference generate` prints the test script,
+//! `reference generate phase-one` what of it the library's replay program can answer so far;
 //! `reference judge` judges a recorded phase one on standard input.
 
 use std::io::{self, BufWriter, Read, Write};
 use std::process::ExitCode;
 
+use reference::generate::Extent;
 use reference::{generate, judge, replay};
 
-const USAGE: &str = "usage: reference replay < SCRIPT | reference generate | reference judge < RECORDING";
+const USAGE: &str =
+    "usage: reference replay < SCRIPT | reference generate [phase-one] | reference judge < RECORDING";
 
 fn main() -> ExitCode {
     let words: Vec<String> = std::env::args().skip(1).collect();
     let words: Vec<&str> = words.iter().map(String::as_str).collect();
     let done = match words[..] {
         ["replay"] => print_answers(),
-        ["generate"] => io::stdout().lock().write_all(&generate::script()),
+        ["generate"] => print_script(Extent::Whole),
+        ["generate", "phase-one"] => print_script(Extent::PhaseOne),
         ["judge"] => print_verdict(),
         _ => {
             eprintln!("{USAGE}");
@@ -27,6 +31,10 @@ fn main() -> ExitCode {
             ExitCode::FAILURE
         }
     }
+}
+
+fn print_script(extent: Extent) -> io::Result<()> {
+    io::stdout().lock().write_all(&generate::script(extent))
 }
 
 fn print_answers() -> io::Result<()> {
