@@ -2,4 +2,5 @@
 pub mod Application
 pub mod AtOnce
 pub mod Commands
+pub mod LookUp
 pub mod Questions
