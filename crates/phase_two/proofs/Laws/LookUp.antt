@@ -142,7 +142,7 @@ looked-of t b f k w =
     let at = rows-at b f es (rowOf b empty) k in
     let s = shown-empty t b n w in
     let out : t .count ≤ n → length (ofFile f (view t b)) ≤ k =
-        λ l. elim (decLt k (length (ofFile f (view t b)))) [ yes h ↦ absurd (omega (arith, at h .0)) | no h ↦ omega arith ] in
+    λ l. elim (decLt k (length (ofFile f (view t b)))) [ yes h ↦ absurd (omega (arith, at h .0)) | no h ↦ omega arith ] in
     record {
       part = λ h l. looked t b n (w .kept-so) (omega (arith, at h .0)) .part l ∙ sym (ap (λ r. r .payload) (at h .1));
       none = (λ e. ⊎-elim (λ l. inl (out l)) (λ l. inr l) (s .0 e), λ o. s .1 (⊎-elim (λ l. inl (omega (arith, rows-none b f es k l))) (λ l. inr l) o));
