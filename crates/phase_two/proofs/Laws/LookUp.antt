@@ -20,16 +20,13 @@ use Rattle.conversation.specs.Kinds.{ofFile}
 use Rattle.conversation.specs.PhaseTwo.{Label, labelOf, labels, howMany, isFile, errors, stanzas, returned}
 use Rattle.conversation.proofs.Laws.ViewsTwo.{ReachedTwo, kept-two}
 use Rattle.phase_two.specs.LookUp.{numberOf, foundOf, messageOf, stanzaOf, keyOf}
-use Rattle.phase_two.proofs.Laws.Questions.{entries-are, slotLabel}
+use Rattle.phase_two.proofs.Laws.Questions.{entries-are, labels-count, slotLabel}
 
 -- ---- the loop: the slots before i have been passed, and the k-th of the rest is looked for
 
 -- how many labels there are, by the slots
 pub labels-within : {Y : Type 0} (f : Entry → Y) (t : Table) (w : ℕ) → length (map f (t .slots)) ≡ w → length (labels t) ≡ min (t .count) w
 labels-within f t w e = sym (entries-are f t (min (t .count) w) w e refl .0)
-
-labels-count : (t : Table) → length (labels t) ≡ min (t .count) (length (t .slots))
-labels-count t = length-map (take (t .count) (t .slots)) labelOf ∙ length-take (t .count) (t .slots)
 
 labels-at : (t : Table) (i : ℕ) → i < length (labels t) → drop i (labels t) ≡ slotLabel t i ∷ drop (i + 1) (labels t)
 labels-at t i h =

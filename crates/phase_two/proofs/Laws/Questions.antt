@@ -19,7 +19,7 @@ use Rattle.conversation.specs.PhaseTwo.{Label, labelOf, labels, howMany, isAny,
 sized : {X Y : Type 0} (f : X → Y) (l : List X) (n : ℕ) → length (map f l) ≡ n → length l ≡ n
 sized f l n e = sym (length-map l f) ∙ e
 
-labels-count : (t : Table) → length (labels t) ≡ min (t .count) (length (t .slots))
+pub labels-count : (t : Table) → length (labels t) ≡ min (t .count) (length (t .slots))
 labels-count t = length-map (take (t .count) (t .slots)) labelOf ∙ length-take (t .count) (t .slots)
 
 pub entries-are : {Y : Type 0} (f : Entry → Y) (t : Table) (n w : ℕ) → length (map f (t .slots)) ≡ w → n ≡ min (t .count) w → (n ≡ length (labels t)) × (n ≤ w)
