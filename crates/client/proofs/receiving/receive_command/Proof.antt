@@ -14,7 +14,7 @@ use Rattle.client.proofs.receiving.receive_command.Lts as lts
 use Rattle.client.proofs.receiving.answer_to.Reads as answer-to-reads
 use Rattle.client.proofs.receiving.phase_behind.Reads as phase-behind-reads
 use Rattle.client.proofs.receiving.write_answer.Reads as write-answer-reads
-use Rattle.client.proofs.sending.check_output.Reads as check-output-reads
+use Rattle.session.proofs.check_output.Reads as check-output-reads
 use Rattle.phase_two.proofs.step_two.Reads as step-two-reads
 use Rattle.phase_two.proofs.answer_at_once.Reads as answer-at-once-reads
 use Rattle.phase_two.proofs.at_once_size.Reads as at-once-size-reads
