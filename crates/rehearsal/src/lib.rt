@@ -1,10 +1,10 @@
 // What a line of a script does to a host: its words, what it asks for, the session that it opens or talks to, and the answer. It reads and prints nothing.
 mod answers;
+mod first_phase;
 mod host;
 mod parts;
-mod first_phase;
-mod second_phase;
 mod requests;
+mod second_phase;
 mod settings;
 mod turns;
 mod words;

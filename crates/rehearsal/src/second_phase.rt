@@ -3,12 +3,12 @@ use crate::answers::Answer;
 use crate::answers::answer_of;
 use crate::answers::place_response;
 use crate::answers::place_two;
+use crate::first_phase::Talked;
+use crate::first_phase::bytes_of;
 use crate::host::from_plugin;
 use crate::host::to_plugin;
 use crate::parts::front;
 use crate::parts::least;
-use crate::first_phase::Talked;
-use crate::first_phase::bytes_of;
 use crate::requests::Exchange;
 use crate::requests::Talk;
 use crate::words::Words;
@@ -150,13 +150,7 @@ pub fn exchange(
 }
 
 // reply ANSWER BODY OUT, where OUT is n
-fn reply(
-    n: usize,
-    response: Response,
-    body: &[u8],
-    buffer: &mut [u8],
-    session: Session,
-) -> Talked {
+fn reply(n: usize, response: Response, body: &[u8], buffer: &mut [u8], session: Session) -> Talked {
     let out = least(n, buffer.len());
     let replied = session.reply(response, body, &mut buffer[..out]);
     let written = replied.answer;

@@ -1,14 +1,14 @@
 // The calls of a host, lent its session's buffers whole: each is cut to the length that the host keeps.
 use crate::answers::Answer;
+use crate::first_phase::Talked;
+use crate::first_phase::talk_first;
 use crate::host::Host;
 use crate::parts::clear;
 use crate::parts::least;
-use crate::first_phase::Talked;
-use crate::first_phase::talk_first;
-use crate::second_phase::exchange;
-use crate::second_phase::talk_second;
 use crate::requests::Exchange;
 use crate::requests::Talk;
+use crate::second_phase::exchange;
+use crate::second_phase::talk_second;
 use crate::settings::set;
 use crate::words::Words;
 use script::Call;

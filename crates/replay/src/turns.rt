@@ -61,16 +61,7 @@ pub fn make_call(
             keys,
             headers,
         ),
-        Request::PhaseTwo(t) => talk_two(
-            t,
-            text,
-            w,
-            buffer,
-            host,
-            errors,
-            stanzas,
-            returned,
-        ),
+        Request::PhaseTwo(t) => talk_two(t, text, w, buffer, host, errors, stanzas, returned),
         Request::Exchange(e) => exchange_in(e, text, w, buffer, host),
         Request::Look(l) => answered(
             call_look(
