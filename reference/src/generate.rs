@@ -22,27 +22,17 @@ use random::Random;
 
 const SEED: u64 = 0x466c_7567_7265_6d69;
 
-/// How far a script goes.
-#[derive(Clone, Copy, PartialEq, Eq)]
-pub enum Extent {
-    /// Up to the end of phase one.
-    PhaseOne,
-    Whole,
-}
-
-/// The script. Its last line lacks its LF.
+/// The whole script. Its last line lacks its LF.
 #[must_use]
-pub fn script(extent: Extent) -> Vec<u8> {
+pub fn script() -> Vec<u8> {
     let mut script = Script::new();
     text::sections(&mut script);
     bech32::sections(&mut script);
     profile::sections(&mut script);
     judge::sections(&mut script);
     session::sections(&mut script);
-    lines::sections(&mut script, extent);
-    if extent == Extent::Whole {
-        phase_two::sections(&mut script);
-    }
+    lines::sections(&mut script);
+    phase_two::sections(&mut script);
     script.heading("The last line lacks its LF");
     script.index(b"7");
     script.text.pop();
@@ -116,7 +106,7 @@ impl Script {
 
 #[cfg(test)]
 mod tests {
-    use super::{phase_two, script, session, Extent, Script};
+    use super::{phase_two, script, session, Script};
     use crate::replay::Replay;
     use crate::script::is_skipped;
     use std::collections::{BTreeMap, BTreeSet};
@@ -138,8 +128,8 @@ mod tests {
 
     #[test]
     fn the_script_is_always_the_same_and_not_too_long() {
-        let first = script(Extent::Whole);
-        assert_eq!(first, script(Extent::Whole));
+        let first = script();
+        assert_eq!(first, script());
         assert!(first.len() < 5_500_000);
         assert_ne!(first.last(), Some(&b'\n'));
         let answers: usize = answered(&first).iter().map(|(_, answer)| answer.len() + 1).sum();
@@ -178,7 +168,7 @@ mod tests {
             ("entry", "bad, none, ok"),
             ("show", "bad, none, phase closed, phase ended, phase one, phase two"),
         ];
-        let answered = answered(&script(Extent::Whole));
+        let answered = answered(&script());
         for (call, sorts) in expected {
             let of_call = answered.iter().filter(|(line, _)| first_word(line) == call);
             let found: BTreeSet<String> = of_call.map(|(_, answer)| sort(call, answer)).collect();
@@ -228,7 +218,7 @@ mod tests {
             ("plugin send", &[4, 5, 6, 8, 9, 10, 11, 13, 14, 15, 17, 19]),
             ("plugin response", &[1, 2, 3, 12, 13, 14, 15]),
         ];
-        let refusals = refusals(&answered(&script(Extent::Whole)));
+        let refusals = refusals(&answered(&script()));
         for (call, numbers) in expected {
             let counts = &refusals[call];
             assert_eq!(counts.keys().copied().collect::<Vec<_>>(), numbers, "{call}");

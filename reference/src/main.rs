@@ -1,23 +1,20 @@
-//! `reference replay` answers the script on standard input; `reference generate` prints the test script,
-//! `reference generate phase-one` what of it the library's replay program can answer so far;
+//! `reference replay` answers the script on standard input; `reference generate` prints the test script;
 //! `reference judge` judges a recorded phase one on standard input.
 
 use std::io::{self, BufWriter, Read, Write};
 use std::process::ExitCode;
 
-use reference::generate::Extent;
 use reference::{generate, judge, replay};
 
 const USAGE: &str =
-    "usage: reference replay < SCRIPT | reference generate [phase-one] | reference judge < RECORDING";
+    "usage: reference replay < SCRIPT | reference generate | reference judge < RECORDING";
 
 fn main() -> ExitCode {
     let words: Vec<String> = std::env::args().skip(1).collect();
     let words: Vec<&str> = words.iter().map(String::as_str).collect();
     let done = match words[..] {
         ["replay"] => print_answers(),
-        ["generate"] => print_script(Extent::Whole),
-        ["generate", "phase-one"] => print_script(Extent::PhaseOne),
+        ["generate"] => io::stdout().lock().write_all(&generate::script()),
         ["judge"] => print_verdict(),
         _ => {
             eprintln!("{USAGE}");
@@ -31,10 +28,6 @@ fn main() -> ExitCode {
             ExitCode::FAILURE
         }
     }
-}
-
-fn print_script(extent: Extent) -> io::Result<()> {
-    io::stdout().lock().write_all(&generate::script(extent))
 }
 
 fn print_answers() -> io::Result<()> {

@@ -1,45 +1,18 @@
-// What a line came to, and the line that is printed for it.
-use crate::parts::front;
+// The line that is printed for what a line came to.
 use crate::print::Output;
 use crate::print::print_bytes;
 use crate::print::print_end;
 use crate::print::print_number;
 use crate::print::print_ok;
 use crate::print::print_word;
+use crate::print::print_words;
 use judging::Judged;
-use refusal::Refusal;
-use refusal::Written;
-use session::Word;
+use rehearsal::Answer;
+use rehearsal::NAMES;
+use rehearsal::front;
 
 // The words of an answer that is one of a few, which number them.
 const FINDINGS: [u8; 44] = *b"holds fails conforming nonconforming unknown";
-
-// The words of the commands that are received, which number them.
-const COMMANDS: [u8; 68] = *b"add-recipient add-identity wrap-file-key recipient-stanza done other";
-
-// The answer is printed already, up to a place of the output buffer; the line is no call; no session is open for it; it is refused; or it
-// is accepted: with nothing to tell, one of a few words, a number, a text of some bytes at the front of the buffer lent, a command received
-// with how many bytes it took, or a verdict.
-pub enum Answer {
-    Printed(usize),
-    Bad,
-    Unopened,
-    Refused(Refusal),
-    Accepted,
-    Finding(usize),
-    Number(u64),
-    Text(usize),
-    Received(Word, usize),
-    Judged(Judged),
-}
-
-// The answer of a call that wrote to the front of the buffer lent.
-pub fn answer_of(written: Written) -> Answer {
-    match written {
-        Written::Bytes(n) => Answer::Text(n),
-        Written::Refused(r) => Answer::Refused(r),
-    }
-}
 
 // Prints the answer of a line, unless that is skipped.
 pub fn print_answer(
@@ -56,13 +29,13 @@ pub fn print_answer(
     match answer {
         Answer::Printed(next) => next,
         Answer::Bad => print_numbered(b"bad line", number, out, at),
-        Answer::Unopened => print_bytes(b"none\n", out, at),
+        Answer::Missing => print_bytes(b"none\n", out, at),
         Answer::Refused(r) => print_numbered(b"refused", refusal::number(r) as u64, out, at),
         Answer::Accepted => print_bytes(b"ok\n", out, at),
         Answer::Finding(k) => print_text(stanza::argument(&FINDINGS, k), out, at),
         Answer::Number(n) => print_numbered(b"ok", n, out, at),
         Answer::Text(n) => print_text(front(buffer, n), out, at),
-        Answer::Received(word, taken) => print_received(word, taken as u64, out, at),
+        Answer::Received(k, taken, n) => print_received(k, taken as u64, front(buffer, n), out, at),
         Answer::Judged(judged) => print_judged(judged, out, at),
     }
 }
@@ -81,24 +54,11 @@ pub fn print_text(bytes: &[u8], out: &mut Output, at: usize) -> usize {
     print_end(out, b)
 }
 
-// A command that was received; in phase one nothing is answered at once.
-fn print_received(word: Word, taken: u64, out: &mut Output, at: usize) -> usize {
+// A command or a response that was received: the number of its word, how many bytes it took, and what was answered at once, or its body.
+fn print_received(k: usize, taken: u64, bytes: &[u8], out: &mut Output, at: usize) -> usize {
     let a = print_ok(out, at);
     let b = print_number(taken, out, a);
-    let c = print_word(stanza::argument(&COMMANDS, place_of(word)), out, b);
-    print_bytes(b" \\e\n", out, c)
-}
-
-// The number of a command's word.
-fn place_of(word: Word) -> usize {
-    match word {
-        Word::AddRecipient => 0,
-        Word::AddIdentity => 1,
-        Word::WrapFileKey => 2,
-        Word::RecipientStanza => 3,
-        Word::Done => 4,
-        Word::Other => 5,
-    }
+    print_words(stanza::argument(&NAMES, k), bytes, out, b)
 }
 
 // The judging program's verdict.

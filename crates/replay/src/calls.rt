@@ -1,18 +1,18 @@
 // The calls that need no session, a function for each: it judges the words of the line and makes the call.
-use crate::answers::Answer;
-use crate::answers::answer_of;
-use crate::parts::front;
 use crate::print::Output;
 use crate::print::print_number;
 use crate::print::print_ok;
 use crate::print::print_words;
-use crate::words::Words;
-use crate::words::last_word;
-use crate::words::word;
 use bech32::Kind;
 use bech32::Reading;
 use profile::Conformity;
 use refusal::Written;
+use rehearsal::Answer;
+use rehearsal::Words;
+use rehearsal::answer_of;
+use rehearsal::front;
+use rehearsal::last_word;
+use rehearsal::word;
 use script::Call;
 use script::Number;
 use stanza::First;

@@ -2,29 +2,24 @@
 // answered by its number, and the run goes on.
 mod answers;
 mod calls;
-mod host;
 mod lines;
-mod parts;
 mod print;
-mod requests;
-mod sessions;
-mod settings;
+mod returned;
 mod show;
 mod turns;
-mod words;
 
 use answers::print_answer;
-use host::no_session;
 use lines::advance;
 use lines::start;
-use parts::Buffer;
-use parts::front;
 use print::Output;
 use print::flush;
+use rehearsal::Buffer;
+use rehearsal::front;
+use rehearsal::no_session;
+use rehearsal::read_line;
 use turns::make_call;
-use words::read_line;
 
-// The line buffer takes a byte more than the longest line, so that a longer one shows. The last four buffers are those of the session's kinds.
+// The line buffer takes a byte more than the longest line, so that a longer one shows. The last seven buffers are those of the session's kinds.
 fn main() {
     let mut chunk = io::large_buffer();
     let mut line = [0u8; 65537];
@@ -35,6 +30,9 @@ fn main() {
     let mut identities = [0u8; 65536];
     let mut keys = [0u8; 65536];
     let mut headers = [0u8; 65536];
+    let mut errors = [0u8; 65536];
+    let mut stanzas = [0u8; 65536];
+    let mut returned = [0u8; 65536];
     run(
         &mut chunk,
         &mut line,
@@ -45,6 +43,9 @@ fn main() {
         &mut identities,
         &mut keys,
         &mut headers,
+        &mut errors,
+        &mut stanzas,
+        &mut returned,
     );
 }
 
@@ -60,6 +61,9 @@ fn run(
     identities: &mut Buffer,
     keys: &mut Buffer,
     headers: &mut Buffer,
+    errors: &mut Buffer,
+    stanzas: &mut Buffer,
+    returned: &mut Buffer,
 ) {
     let mut s = start();
     let mut host = no_session();
@@ -78,6 +82,9 @@ fn run(
             identities,
             keys,
             headers,
+            errors,
+            stanzas,
+            returned,
         );
         let answer = t.answer;
         s.at = print_answer(answer, w.skipped, s.lines, buffer, out, s.at);

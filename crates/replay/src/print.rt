@@ -2,12 +2,12 @@
 // those in use, these are written to standard output first.
 ghost use Prim.Native.Nat.{_≤_};
 ghost use lib.ListN.{length};
-use crate::parts::append;
-use crate::parts::front;
-use crate::parts::least;
 use libc::STDERR_FILENO;
 use libc::STDOUT_FILENO;
 use refusal::Written;
+use rehearsal::append;
+use rehearsal::front;
+use rehearsal::least;
 
 // The output buffer.
 pub type Output = [u8; 131072];
@@ -41,12 +41,17 @@ pub fn print_bytes(bytes: &[u8], out: &mut Output, at: usize) -> usize {
     append(bytes, out, from)
 }
 
-// A space and a number in decimal.
-pub fn print_number(n: u64, out: &mut Output, at: usize) -> usize {
+// A number in decimal.
+pub fn print_decimal(n: u64, out: &mut Output, at: usize) -> usize {
     let mut text = [0u8; 20];
     let k = io::decimal(n, &mut text);
+    print_bytes(&text[..k], out, at)
+}
+
+// A space and a number.
+pub fn print_number(n: u64, out: &mut Output, at: usize) -> usize {
     let next = print_bytes(b" ", out, at);
-    print_bytes(&text[..k], out, next)
+    print_decimal(n, out, next)
 }
 
 // A piece of a byte string with its escapes; it is not empty.

@@ -1,13 +1,16 @@
-// What the lines `entry` and `show` print: texts and tables as the buffers lent now show them.
+// What the lines `entry` and `show` print: texts and tables as the buffers lent now show them; those of phase two have a file of their own.
 use crate::answers::print_text;
-use crate::parts::least;
 use crate::print::Output;
 use crate::print::print_bytes;
 use crate::print::print_end;
 use crate::print::print_number;
 use crate::print::print_word;
-use crate::requests::Look;
+use crate::returned::print_returned;
 use client::Session;
+use rehearsal::Look;
+use rehearsal::NAMES;
+use rehearsal::least;
+use rehearsal::place_two;
 use session::Phase;
 use session::Tables;
 use tables::Entry;
@@ -35,6 +38,9 @@ pub fn print_look<'a>(
     identities: &'a [u8],
     keys: &[u8],
     headers: &[u8],
+    errors: &[u8],
+    stanzas: &[u8],
+    returned: &[u8],
     out: &mut Output,
     at: usize,
 ) -> usize {
@@ -43,17 +49,28 @@ pub fn print_look<'a>(
         Look::Entry(kind, n) => print_text(tables.entry(kind, n, recipients, identities), out, at),
         Look::Show => {
             let phase = session.phase;
-            let next = print_phase(phase, out, at);
-            print_tables(tables, recipients, identities, keys, headers, out, next)
+            let a = print_phase(phase, out, at);
+            let b = print_given(tables, recipients, identities, keys, headers, out, a);
+            print_returned(tables, errors, stanzas, returned, out, b)
         }
     }
 }
 
-// The lines of the phase, and of what is awaited: nothing in phase one.
+// The lines of the phase, and of the command that awaits an answer.
 fn print_phase(phase: Phase, out: &mut Output, at: usize) -> usize {
     let a = print_bytes(b"phase", out, at);
     let b = print_word(stanza::argument(&PHASES, place_of(phase)), out, a);
-    print_bytes(b"\nawaits -\n", out, b)
+    let c = print_bytes(b"\nawaits", out, b);
+    let d = print_awaited(phase, out, c);
+    print_end(out, d)
+}
+
+// The word of the command that awaits an answer.
+fn print_awaited(phase: Phase, out: &mut Output, at: usize) -> usize {
+    match phase {
+        Phase::Awaiting(word) => print_word(stanza::argument(&NAMES, place_two(word)), out, at),
+        _ => print_bytes(b" -", out, at),
+    }
 }
 
 // The number of a phase.
@@ -67,8 +84,8 @@ fn place_of(phase: Phase) -> usize {
     }
 }
 
-// All tables; those of phase two are empty yet.
-fn print_tables(
+// The tables of phase one.
+fn print_given(
     tables: Tables,
     recipients: &[u8],
     identities: &[u8],
@@ -80,8 +97,7 @@ fn print_tables(
     let a = print_table(0, tables.recipients, recipients, out, at);
     let b = print_table(1, tables.identities, identities, out, a);
     let c = print_table(FILE_KEY, tables.keys, keys, out, b);
-    let d = print_headers(tables.headers, headers, out, c);
-    print_bytes(b"end\n", out, d)
+    print_headers(tables.headers, headers, out, c)
 }
 
 // The entries of a table of 64 slots.

@@ -1,9 +1,9 @@
--- Which call a line of a script makes, by its first word: the number of the word among the words of the calls that are built.
+-- Which call a line of a script makes, by its first word: the number of the word among the words of the calls.
 use Prim.Native.Nat.{ℕ}
 use mathlib.Core.List.{List, [], _∷_}
 use Rattle.script.specs.Choice.{recipientWord, identityWord}
 use Rattle.script.specs.declared.calls.Call.{Call}
-use Rattle.script.specs.declared.calls.Call.the-variants.{Stanza, Write, Index, Checksum, Recipient, Identity, WriteRecipient, WriteIdentity, Profile, Judge, Open, Buffers, Send, Receive, Entry, Show, Other}
+use Rattle.script.specs.declared.calls.Call.the-variants.{Stanza, Write, Index, Checksum, Recipient, Identity, WriteRecipient, WriteIdentity, Profile, Judge, Open, Buffers, Send, Receive, Response, Reply, Entry, Show, Other}
 
 -- "stanza"
 abbrev pub stanzaWord : List ℕ
@@ -53,6 +53,14 @@ sendWord = 115 ∷ 101 ∷ 110 ∷ 100 ∷ []
 abbrev pub receiveWord : List ℕ
 receiveWord = 114 ∷ 101 ∷ 99 ∷ 101 ∷ 105 ∷ 118 ∷ 101 ∷ []
 
+-- "response"
+abbrev pub responseWord : List ℕ
+responseWord = 114 ∷ 101 ∷ 115 ∷ 112 ∷ 111 ∷ 110 ∷ 115 ∷ 101 ∷ []
+
+-- "reply"
+abbrev pub replyWord : List ℕ
+replyWord = 114 ∷ 101 ∷ 112 ∷ 108 ∷ 121 ∷ []
+
 -- "entry"
 abbrev pub entryWord : List ℕ
 entryWord = 101 ∷ 110 ∷ 116 ∷ 114 ∷ 121 ∷ []
@@ -63,7 +71,7 @@ showWord = 115 ∷ 104 ∷ 111 ∷ 119 ∷ []
 
 -- all of them
 abbrev pub callWords : List (List ℕ)
-callWords = stanzaWord ∷ writeWord ∷ indexWord ∷ checksumWord ∷ recipientWord ∷ identityWord ∷ writeRecipientWord ∷ writeIdentityWord ∷ profileWord ∷ judgeWord ∷ openWord ∷ buffersWord ∷ sendWord ∷ receiveWord ∷ entryWord ∷ showWord ∷ []
+callWords = stanzaWord ∷ writeWord ∷ indexWord ∷ checksumWord ∷ recipientWord ∷ identityWord ∷ writeRecipientWord ∷ writeIdentityWord ∷ profileWord ∷ judgeWord ∷ openWord ∷ buffersWord ∷ sendWord ∷ receiveWord ∷ responseWord ∷ replyWord ∷ entryWord ∷ showWord ∷ []
 
 -- the number of the code's answer
 abbrev pub callSaid : Call → ℕ
@@ -81,6 +89,8 @@ callSaid Open = 10
 callSaid Buffers = 11
 callSaid Send = 12
 callSaid Receive = 13
-callSaid Entry = 14
-callSaid Show = 15
-callSaid Other = 16
+callSaid Response = 14
+callSaid Reply = 15
+callSaid Entry = 16
+callSaid Show = 17
+callSaid Other = 18

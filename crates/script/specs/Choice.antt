@@ -1,4 +1,4 @@
--- The choices of words in a script: an end, a screen, a kind, a command. A choice is the number of its word in a list, byte for byte, counted from 0; the
+-- The choices of words in a script: an end, a screen, a kind, a command of either phase, a reply. A choice is the number of its word in a list, byte for byte, counted from 0; the
 -- number of any other word is how many they are.
 use Prim.Native.Nat.{ℕ, suc}
 use mathlib.Core.List.{List, [], _∷_}
@@ -6,10 +6,14 @@ use Rattle.refusal.specs.Pick.{pick}
 use Rattle.refusal.specs.Same.{same}
 use Rattle.script.specs.declared.choices.Command.{Command}
 use Rattle.script.specs.declared.choices.Command.the-variants as command-is
+use Rattle.script.specs.declared.choices.CommandTwo.{CommandTwo}
+use Rattle.script.specs.declared.choices.CommandTwo.the-variants as two-is
 use Rattle.script.specs.declared.choices.End.{End}
 use Rattle.script.specs.declared.choices.End.the-variants as end-is
 use Rattle.script.specs.declared.choices.Kind.{Kind}
 use Rattle.script.specs.declared.choices.Kind.the-variants as kind-is
+use Rattle.script.specs.declared.choices.Reply.{Reply}
+use Rattle.script.specs.declared.choices.Reply.the-variants as reply-is
 use Rattle.script.specs.declared.choices.Screen.{Screen}
 use Rattle.script.specs.declared.choices.Screen.the-variants as screen-is
 
@@ -83,7 +87,7 @@ kindSaid kind-is.Recipient = 0
 kindSaid kind-is.Identity = 1
 kindSaid kind-is.Other = 2
 
--- ---- a command that is sent
+-- ---- a command of phase one that is sent
 
 -- "add-recipient"
 abbrev pub addRecipientWord : List ℕ
@@ -105,7 +109,7 @@ recipientStanzaWord = 114 ∷ 101 ∷ 99 ∷ 105 ∷ 112 ∷ 105 ∷ 101 ∷ 110
 abbrev pub doneWord : List ℕ
 doneWord = 100 ∷ 111 ∷ 110 ∷ 101 ∷ []
 
--- the words for a command, in order
+-- the words for a command of phase one, in order
 abbrev pub commandWords : List (List ℕ)
 commandWords = addRecipientWord ∷ addIdentityWord ∷ wrapFileKeyWord ∷ recipientStanzaWord ∷ doneWord ∷ []
 
@@ -117,3 +121,80 @@ commandSaid command-is.WrapFileKey = 2
 commandSaid command-is.RecipientStanza = 3
 commandSaid command-is.Done = 4
 commandSaid command-is.Other = 5
+
+-- ---- a command of phase two that is sent
+
+-- "msg"
+abbrev pub msgWord : List ℕ
+msgWord = 109 ∷ 115 ∷ 103 ∷ []
+
+-- "confirm"
+abbrev pub confirmWord : List ℕ
+confirmWord = 99 ∷ 111 ∷ 110 ∷ 102 ∷ 105 ∷ 114 ∷ 109 ∷ []
+
+-- "request-public"
+abbrev pub requestPublicWord : List ℕ
+requestPublicWord = 114 ∷ 101 ∷ 113 ∷ 117 ∷ 101 ∷ 115 ∷ 116 ∷ 45 ∷ 112 ∷ 117 ∷ 98 ∷ 108 ∷ 105 ∷ 99 ∷ []
+
+-- "request-secret"
+abbrev pub requestSecretWord : List ℕ
+requestSecretWord = 114 ∷ 101 ∷ 113 ∷ 117 ∷ 101 ∷ 115 ∷ 116 ∷ 45 ∷ 115 ∷ 101 ∷ 99 ∷ 114 ∷ 101 ∷ 116 ∷ []
+
+-- "file-key"
+abbrev pub fileKeyWord : List ℕ
+fileKeyWord = 102 ∷ 105 ∷ 108 ∷ 101 ∷ 45 ∷ 107 ∷ 101 ∷ 121 ∷ []
+
+-- "error"
+abbrev pub errorWord : List ℕ
+errorWord = 101 ∷ 114 ∷ 114 ∷ 111 ∷ 114 ∷ []
+
+-- the words for a command of phase two, in order
+abbrev pub commandTwoWords : List (List ℕ)
+commandTwoWords = msgWord ∷ confirmWord ∷ requestPublicWord ∷ requestSecretWord ∷ recipientStanzaWord ∷ fileKeyWord ∷ errorWord ∷ doneWord ∷ []
+
+-- the number of the code's answer
+abbrev pub commandTwoSaid : CommandTwo → ℕ
+commandTwoSaid two-is.Msg = 0
+commandTwoSaid two-is.Confirm = 1
+commandTwoSaid two-is.RequestPublic = 2
+commandTwoSaid two-is.RequestSecret = 3
+commandTwoSaid two-is.RecipientStanza = 4
+commandTwoSaid two-is.FileKey = 5
+commandTwoSaid two-is.Error = 6
+commandTwoSaid two-is.Done = 7
+commandTwoSaid two-is.Other = 8
+
+-- ---- a reply
+
+-- "ok"
+abbrev pub okWord : List ℕ
+okWord = 111 ∷ 107 ∷ []
+
+-- "yes"
+abbrev pub yesWord : List ℕ
+yesWord = 121 ∷ 101 ∷ 115 ∷ []
+
+-- "no"
+abbrev pub noWord : List ℕ
+noWord = 110 ∷ 111 ∷ []
+
+-- "fail"
+abbrev pub failWord : List ℕ
+failWord = 102 ∷ 97 ∷ 105 ∷ 108 ∷ []
+
+-- "unsupported"
+abbrev pub unsupportedWord : List ℕ
+unsupportedWord = 117 ∷ 110 ∷ 115 ∷ 117 ∷ 112 ∷ 112 ∷ 111 ∷ 114 ∷ 116 ∷ 101 ∷ 100 ∷ []
+
+-- the words for a reply, in order
+abbrev pub replyWords : List (List ℕ)
+replyWords = okWord ∷ yesWord ∷ noWord ∷ failWord ∷ unsupportedWord ∷ []
+
+-- the number of the code's answer
+abbrev pub replySaid : Reply → ℕ
+replySaid reply-is.Ok = 0
+replySaid reply-is.Yes = 1
+replySaid reply-is.No = 2
+replySaid reply-is.Fail = 3
+replySaid reply-is.Unsupported = 4
+replySaid reply-is.Other = 5

@@ -4,7 +4,7 @@ ghost use Rattle.script.specs.Choice.{place};
 ghost use Rattle.script.specs.Call.{callSaid, callWords};
 use crate::choices::find_word;
 
-// The calls that are built; any other word is no call yet.
+// The calls; any other word is none.
 pub enum Call {
     Stanza,
     Write,
@@ -20,14 +20,16 @@ pub enum Call {
     Buffers,
     Send,
     Receive,
+    Response,
+    Reply,
     Entry,
     Show,
     Other,
 }
 
 // The words of the calls, which number them.
-const WORDS: [u8; 128] =
-    *b"stanza write index checksum recipient identity write-recipient write-identity profile judge open buffers send receive entry show";
+const WORDS: [u8; 143] =
+    *b"stanza write index checksum recipient identity write-recipient write-identity profile judge open buffers send receive response reply entry show";
 
 // The call of a first word that has been read.
 pub fn choose_call(word: &[u8]) -> Call
@@ -50,8 +52,10 @@ pub fn choose_call(word: &[u8]) -> Call
         11 => Call::Buffers,
         12 => Call::Send,
         13 => Call::Receive,
-        14 => Call::Entry,
-        15 => Call::Show,
+        14 => Call::Response,
+        15 => Call::Reply,
+        16 => Call::Entry,
+        17 => Call::Show,
         _ => Call::Other,
     }
 }

@@ -1,7 +1,7 @@
-// The choices of words: an end, a screen, a kind, a command.
+// The choices of words: an end, a screen, a kind, a command of either phase, a reply.
 ghost use mathlib.Core.Path.{_≡_};
 ghost use Rattle.stanza.specs.Arguments.{words};
-ghost use Rattle.script.specs.Choice.{place, endSaid, endWords, screenSaid, screenWords, kindSaid, kindWords, commandSaid, commandWords};
+ghost use Rattle.script.specs.Choice.{place, endSaid, endWords, screenSaid, screenWords, kindSaid, kindWords, commandSaid, commandWords, commandTwoSaid, commandTwoWords, replySaid, replyWords};
 
 // The end that a line opens.
 pub enum End {
@@ -25,13 +25,36 @@ pub enum Kind {
     Other,
 }
 
-// The command that a line sends; any other word can be sent too.
+// The command of phase one that a line sends; any other word can be sent too.
 pub enum Command {
     AddRecipient,
     AddIdentity,
     WrapFileKey,
     RecipientStanza,
     Done,
+    Other,
+}
+
+// The command of phase two that a line sends; any other word can be sent too.
+pub enum CommandTwo {
+    Msg,
+    Confirm,
+    RequestPublic,
+    RequestSecret,
+    RecipientStanza,
+    FileKey,
+    Error,
+    Done,
+    Other,
+}
+
+// What the client's host replies.
+pub enum Reply {
+    Ok,
+    Yes,
+    No,
+    Fail,
+    Unsupported,
     Other,
 }
 
@@ -43,6 +66,11 @@ const SCREENS: [u8; 24] = *b"screen no-screen default";
 const KINDS: [u8; 18] = *b"recipient identity";
 
 const COMMANDS: [u8; 62] = *b"add-recipient add-identity wrap-file-key recipient-stanza done";
+
+const COMMANDS_TWO: [u8; 78] =
+    *b"msg confirm request-public request-secret recipient-stanza file-key error done";
+
+const REPLIES: [u8; 26] = *b"ok yes no fail unsupported";
 
 // The number of a word among the words of a text, counted from 0; how many there are where it is none of them.
 pub(crate) fn find_word(word: &[u8], text: &[u8]) -> usize
@@ -99,7 +127,7 @@ pub fn choose_kind(word: &[u8]) -> Kind
     }
 }
 
-// The command that a word names.
+// The command of phase one that a word names.
 pub fn choose_command(word: &[u8]) -> Command
     ensures { λ r. ⌜ commandSaid r ≡ place (now (word .entry)) commandWords ⌝ }
 {
@@ -112,5 +140,40 @@ pub fn choose_command(word: &[u8]) -> Command
         3 => Command::RecipientStanza,
         4 => Command::Done,
         _ => Command::Other,
+    }
+}
+
+// The command of phase two that a word names.
+pub fn choose_command_two(word: &[u8]) -> CommandTwo
+    ensures { λ r. ⌜ commandTwoSaid r ≡ place (now (word .entry)) commandTwoWords ⌝ }
+{
+    let words = COMMANDS_TWO;
+    let k = find_word(word, &words);
+    match k {
+        0 => CommandTwo::Msg,
+        1 => CommandTwo::Confirm,
+        2 => CommandTwo::RequestPublic,
+        3 => CommandTwo::RequestSecret,
+        4 => CommandTwo::RecipientStanza,
+        5 => CommandTwo::FileKey,
+        6 => CommandTwo::Error,
+        7 => CommandTwo::Done,
+        _ => CommandTwo::Other,
+    }
+}
+
+// The reply that a word names.
+pub fn choose_reply(word: &[u8]) -> Reply
+    ensures { λ r. ⌜ replySaid r ≡ place (now (word .entry)) replyWords ⌝ }
+{
+    let words = REPLIES;
+    let k = find_word(word, &words);
+    match k {
+        0 => Reply::Ok,
+        1 => Reply::Yes,
+        2 => Reply::No,
+        3 => Reply::Fail,
+        4 => Reply::Unsupported,
+        _ => Reply::Other,
     }
 }

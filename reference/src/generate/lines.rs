@@ -1,17 +1,15 @@
 //! Lines that are bad, odd but good, skipped, or as long as a line may be.
 
 use super::commands::{Command, End, ENDS, RECIPIENT, ROOMY};
-use super::{Extent, Script};
+use super::Script;
 use crate::script::LINE_LIMIT;
 
-pub(super) fn sections(script: &mut Script, extent: Extent) {
+pub(super) fn sections(script: &mut Script) {
     wrong_calls(script);
     wrong_words(script);
     wrong_numbers(script);
     session_lines(script);
-    if extent == Extent::Whole {
-        answers_and_commands(script);
-    }
+    answers_and_commands(script);
     every_raw_byte(script);
     odd_but_good(script);
     skipped(script);

@@ -80,7 +80,15 @@ returns-16 c = sym (c .match .keys16) ∙ c .before .find-word .ensures
 
 returns-17 : tie.Need-returns-17
 unfolding words before
-returns-17 c = place-other (now (c .before .before .before .before .args .word)) callWords (c .before .find-word .ensures) (none-below (c .before .find-word .result) 16 (c .match .rest))
+returns-17 c = sym (c .match .keys17) ∙ c .before .find-word .ensures
+
+returns-18 : tie.Need-returns-18
+unfolding words before
+returns-18 c = sym (c .match .keys18) ∙ c .before .find-word .ensures
+
+returns-19 : tie.Need-returns-19
+unfolding words before
+returns-19 c = place-other (now (c .before .before .before .before .args .word)) callWords (c .before .find-word .ensures) (none-below (c .before .find-word .result) 18 (c .match .rest))
 
 pub choose-call-spec : {M : Type 1} → statement M
 choose-call-spec =
@@ -104,4 +112,6 @@ choose-call-spec =
     returns-14
     returns-15
     returns-16
-    returns-17)
+    returns-17
+    returns-18
+    returns-19)

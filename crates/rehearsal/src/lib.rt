@@ -1,0 +1,34 @@
+// What a line of a script does to a host: its words, what it asks for, the session that it opens or talks to, and the answer. It reads and prints nothing.
+mod answers;
+mod first_phase;
+mod host;
+mod parts;
+mod requests;
+mod second_phase;
+mod settings;
+mod turns;
+mod words;
+
+pub use answers::Answer;
+pub use answers::NAMES;
+pub use answers::answer_of;
+pub use answers::place_two;
+pub use host::Host;
+pub use host::no_session;
+pub use parts::Buffer;
+pub use parts::append;
+pub use parts::front;
+pub use parts::least;
+pub use parts::part;
+pub use requests::Look;
+pub use requests::Request;
+pub use requests::read_request;
+pub use turns::Turn;
+pub use turns::exchange_in;
+pub use turns::set_in;
+pub use turns::talk_one;
+pub use turns::talk_two;
+pub use words::Words;
+pub use words::last_word;
+pub use words::read_line;
+pub use words::word;
