@@ -6,8 +6,7 @@ use std::process::ExitCode;
 
 use reference::{generate, judge, replay};
 
-const USAGE: &str =
-    "usage: reference replay < SCRIPT | reference generate | reference judge < RECORDING";
+const USAGE: &str = "usage: reference replay < SCRIPT | reference generate | reference judge < RECORDING";
 
 fn main() -> ExitCode {
     let words: Vec<String> = std::env::args().skip(1).collect();
