@@ -1,10 +1,11 @@
 //! The library beside the second program: the same results, then times and instruction counts. `bench/run` builds and runs it.
 //!
-//! `bench count PROGRAM TASK TEXT TIMES` is what it runs under valgrind.
+//! `bench count PROGRAM TASK TEXT TIMES` and `bench replay` are what it runs under valgrind.
 
 mod agreement;
 mod figures;
 mod library;
+mod sessions;
 mod texts;
 mod work;
 
@@ -40,6 +41,10 @@ fn main() {
     let measured = texts::measured();
     if words.is_empty() {
         report(&measured);
+        println!();
+        sessions::report();
+    } else if words == ["replay"] {
+        sessions::answer_script();
     } else {
         figures::count_one(&words, &measured);
     }
