@@ -180,16 +180,16 @@ fn error_at(kind: Kind, line: &[u8]) -> CommandTwo
     }
 }
 
-// An error that names a header stanza by its file and its place.
+// An error that names a header stanza by its file and its number.
 fn header_at(line: &[u8]) -> CommandTwo
     ensures { λ r. ⌜ commandSaid r ≡ headerAt (readIndex (argumentOf (now (line .entry)) 2)) (readIndex (argumentOf (now (line .entry)) 3)) ⌝ }
 {
     let first = stanza::argument(line, 2);
     let second = stanza::argument(line, 3);
     let file = stanza::read_index(first);
-    let place = stanza::read_index(second);
+    let number = stanza::read_index(second);
     match file {
-        Index::Number(f) => match place {
+        Index::Number(f) => match number {
             Index::Number(i) => CommandTwo::Error(Named::Header(f, i)),
             Index::Refused(r) => CommandTwo::Refused(r),
         },

@@ -1,5 +1,5 @@
--- Look-up of what phase two brought, for a host whose conversation has ended: errors by number; "Returned stanzas are numbered from 0 within their file and keys
--- go by file" (document 01, "Phase two").
+-- Look-up for a host: which command awaits an answer; and, where its conversation has ended, what phase two brought: errors by number; "Returned stanzas are
+-- numbered from 0 within their file and keys go by file" (document 01, "Phase two").
 use Prim.Native.Nat.{ℕ, zero, suc}
 use mathlib.Core.Bool.{Bool}
 use mathlib.Core.List.{List, [], _∷_}

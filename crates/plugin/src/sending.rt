@@ -14,6 +14,7 @@ ghost use Rattle.plugin.specs.Session.{sessionIn, sessionOf};
 ghost use Rattle.plugin.specs.Sending.{sentSaid, doneSaid};
 use crate::sessions::Session;
 use commands_two::CommandTwo;
+use decision_two::decide_two;
 use refusal::Refusal;
 use refusal::Written;
 use responses::WordTwo;
@@ -61,7 +62,7 @@ fn send_stanza(
 {
     let command = commands_two::parse_two(machine, line, body.len());
     let payload = commands_two::payload_length_two(command, line, body);
-    let decided = decision_two::decide_two(true, tables, command, payload, errors, stanzas, returned);
+    let decided = decide_two(true, tables, command, payload, errors, stanzas, returned);
     let late = session::check_output(n, out.len());
     let step = phase_two::step_two(
         decided,

@@ -29,12 +29,12 @@ enum-known-file : tie.Need-enum-known-file
 enum-known-file c = search needs
 
 -- src/commands.rt:193:27
-enum-known-place : tie.Need-enum-known-place
-enum-known-place c = search needs
+enum-known-number : tie.Need-enum-known-number
+enum-known-number c = search needs
 
 -- src/commands.rt:194:28
-enum-known-place-2 : tie.Need-enum-known-place-2
-enum-known-place-2 c = search needs
+enum-known-number-2 : tie.Need-enum-known-number-2
+enum-known-number-2 c = search needs
 
 -- src/commands.rt:196:24
 enum-known-file-2 : tie.Need-enum-known-file-2
@@ -42,11 +42,11 @@ enum-known-file-2 c = search needs
 
 -- src/commands.rt:184:1
 returns : tie.Need-returns
-returns c = rw (ap readIndex (sym (c .before .before .before .before .before .before .before .before .before .argument .ensures)) ∙ sym (c .before .before .before .before .before .before .before .read-index .ensures) ∙ ap indexSaid (c .before .before .before .before .file .given .1), ap readIndex (sym (c .before .before .before .before .before .before .before .before .argument2 .ensures)) ∙ sym (c .before .before .before .before .before .before .read-index2 .ensures) ∙ ap indexSaid (c .before .place .given .1))
+returns c = rw (ap readIndex (sym (c .before .before .before .before .before .before .before .before .before .argument .ensures)) ∙ sym (c .before .before .before .before .before .before .before .read-index .ensures) ∙ ap indexSaid (c .before .before .before .before .file .given .1), ap readIndex (sym (c .before .before .before .before .before .before .before .before .argument2 .ensures)) ∙ sym (c .before .before .before .before .before .before .read-index2 .ensures) ∙ ap indexSaid (c .before .number .given .1))
 
 -- src/commands.rt:184:1
 returns-2 : tie.Need-returns-2
-returns-2 c = rw (ap readIndex (sym (c .before .before .before .before .before .before .before .before .before .argument .ensures)) ∙ sym (c .before .before .before .before .before .before .before .read-index .ensures) ∙ ap indexSaid (c .before .before .before .before .file .given .1), ap readIndex (sym (c .before .before .before .before .before .before .before .before .argument2 .ensures)) ∙ sym (c .before .before .before .before .before .before .read-index2 .ensures) ∙ ap indexSaid (c .before .place2 .given .1))
+returns-2 c = rw (ap readIndex (sym (c .before .before .before .before .before .before .before .before .before .argument .ensures)) ∙ sym (c .before .before .before .before .before .before .before .read-index .ensures) ∙ ap indexSaid (c .before .before .before .before .file .given .1), ap readIndex (sym (c .before .before .before .before .before .before .before .before .argument2 .ensures)) ∙ sym (c .before .before .before .before .before .before .read-index2 .ensures) ∙ ap indexSaid (c .before .number2 .given .1))
 
 -- src/commands.rt:184:1
 returns-3 : tie.Need-returns-3
@@ -61,8 +61,8 @@ header-at-spec =
     read-index-requires
     read-index-requires-2
     enum-known-file
-    enum-known-place
-    enum-known-place-2
+    enum-known-number
+    enum-known-number-2
     enum-known-file-2
     returns
     returns-2
