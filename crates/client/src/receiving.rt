@@ -10,12 +10,12 @@ ghost use Rattle.session.specs.PhaseOne.{verdictSaid};
 ghost use Rattle.conversation.specs.PhaseTwo.{buffersOf};
 ghost use Rattle.conversation.specs.ReceivingTwo.{textOf, received, receivedAs, receivedStanza};
 ghost use Rattle.phase_two.specs.AtOnce.{atOnceSaid};
-ghost use Rattle.phase_two.specs.Commands.{commandSaid};
+ghost use Rattle.commands_two.specs.Commands.{commandSaid};
 ghost use Rattle.client.specs.Session.{sessionIn, sessionOf};
 ghost use Rattle.client.specs.Receiving.{answerOf, phaseBehind, takingSaid, receivedSaid, takenSaid};
 use crate::sessions::Session;
+use commands_two::CommandTwo;
 use phase_two::AtOnce;
-use phase_two::CommandTwo;
 use refusal::Refusal;
 use responses::WordTwo;
 use session::Machine;
@@ -48,7 +48,7 @@ fn answer_to(verdict: Verdict, command: CommandTwo, taken: usize, written: usize
     ensures { λ r. ⌜ takingSaid r ≡ answerOf (verdictSaid verdict) (commandSaid command) taken written ⌝ }
 {
     match verdict {
-        Verdict::Accepted => Taking::Command(phase_two::word_two_of(command), taken, written),
+        Verdict::Accepted => Taking::Command(commands_two::word_two_of(command), taken, written),
         Verdict::Refused(r) => Taking::Refused(r),
     }
 }
@@ -59,7 +59,7 @@ fn phase_behind(screen: bool, verdict: Verdict, command: CommandTwo) -> Phase
 {
     match verdict {
         Verdict::Accepted => phase_two::phase_received_two(screen, command),
-        Verdict::Refused(r) => phase_two::phase_refused_two(Phase::Two, r),
+        Verdict::Refused(r) => session::phase_refused(Phase::Two, r),
     }
 }
 
@@ -90,9 +90,9 @@ fn receive_command(
 ) -> Taken
     ensures { λ r. ⌜ ((name : AnyName) → takenSaid machine name screen r (now (errors .exit)) (now (stanzas .exit)) (now (returned .exit)) (now (out .exit)) ≡ receivedStanza (sessionIn machine name screen Phase.Two tables) (buffersOf (now (errors .entry)) (now (stanzas .entry)) (now (returned .entry))) (now (out .entry)) (now (line .entry)) (now (body .entry)) taken) ⌝ }
 {
-    let command = phase_two::parse_two(machine, line, body.len());
-    let n = phase_two::payload_length_two(command, line, body);
-    let decided = phase_two::decide_two(false, tables, command, n, errors, stanzas, returned);
+    let command = commands_two::parse_two(machine, line, body.len());
+    let n = commands_two::payload_length_two(command, line, body);
+    let decided = decision_two::decide_two(false, tables, command, n, errors, stanzas, returned);
     let at_once = phase_two::answer_at_once(screen, command);
     let size = phase_two::at_once_size(at_once);
     let late = session::check_output(size, out.len());
@@ -179,7 +179,7 @@ fn receive_text(
         ),
         First::Refused(r) => Taken {
             answer: Taking::Refused(r),
-            phase: phase_two::phase_refused_two(Phase::Two, r),
+            phase: session::phase_refused(Phase::Two, r),
             tables: tables,
         },
     }

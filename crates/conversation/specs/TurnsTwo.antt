@@ -13,14 +13,6 @@ turnTwo (Awaiting w) = 14
 turnTwo Ended = 13
 turnTwo Closed = 13
 
--- a host's reply, or a response: No. 13; No. 14, an answer while none is due
-abbrev pub turnAnswer : Phase → ℕ
-turnAnswer One = 14
-turnAnswer Two = 14
-turnAnswer (Awaiting w) = 0
-turnAnswer Ended = 13
-turnAnswer Closed = 13
-
 -- the session, its tables as they were, with the answer given
 abbrev pub answered : Session → Session
 answered s = moved s Two (s .tables)

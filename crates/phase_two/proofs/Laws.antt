@@ -1,6 +1,3 @@
 -- What is shown of the definitions of phase two, for its code.
 pub mod Application
 pub mod AtOnce
-pub mod Commands
-pub mod LookUp
-pub mod Questions

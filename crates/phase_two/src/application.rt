@@ -5,19 +5,14 @@ ghost use Rattle.refusal.specs.Pick.{pick};
 ghost use Rattle.session.specs.PhaseOne.{tablesOf, verdictSaid, firstOf};
 ghost use Rattle.conversation.specs.CommandsTwo.{payloadOf};
 ghost use Rattle.conversation.specs.PhaseTwo.{buffersOf, applied, filledBy, markOf, indexOf};
-ghost use Rattle.phase_two.specs.Commands.{namedSaid, commandSaid};
-use crate::commands::CommandTwo;
-use crate::commands::Named;
+ghost use Rattle.commands_two.specs.Commands.{namedSaid, commandSaid};
+use commands_two::CommandTwo;
+use commands_two::Named;
 use session::Tables;
 use session::Verdict;
 use session::first_of;
 use session::rest_of;
-
-fn wide(index: u32) -> usize
-    ensures { λ r. ⌜ r ≡ index ⌝ }
-{
-    index as usize
-}
+use session::wide;
 
 // An error's mark: what it names.
 fn mark_of(named: Named) -> u8

@@ -1,10 +1,6 @@
-// Phase two, as both ends keep it: its commands, what is decided of them, what they do to the tables, and its responses.
+// Phase two, as both ends keep it: what its commands do to the tables, the phase behind them, and what is answered at once.
 mod application;
 mod at_once;
-mod commands;
-mod decision;
-mod look_up;
-mod questions;
 mod turns;
 
 pub use application::StepTwo;
@@ -14,25 +10,6 @@ pub use at_once::AtOnce;
 pub use at_once::answer_at_once;
 pub use at_once::at_once_size;
 pub use at_once::write_at_once;
-pub use commands::CommandTwo;
-pub use commands::Named;
-pub use commands::parse_two;
-pub use commands::payload_length_two;
-pub use commands::put_line_two;
-pub use commands::word_two_of;
-pub use decision::decide_two;
-pub use look_up::ErrorNamed;
-pub use look_up::count_errors;
-pub use look_up::count_stanzas;
-pub use look_up::error_message;
-pub use look_up::error_named;
-pub use look_up::has_key;
-pub use look_up::key_of;
-pub use look_up::stanza_of;
-pub use turns::Awaited;
-pub use turns::awaited_command;
 pub use turns::phase_received_two;
-pub use turns::phase_refused_two;
 pub use turns::phase_sent_two;
-pub use turns::turn_answer;
 pub use turns::turn_two;

@@ -123,7 +123,7 @@ fn receive_text(
         ),
         First::Refused(r) => Taken {
             answer: Taking::Refused(r),
-            phase: session::phase_refused(r),
+            phase: session::phase_refused(Phase::One, r),
             tables: tables,
         },
     }

@@ -91,7 +91,7 @@ fn receive_awaited(word: WordTwo, text: &[u8], out: &mut [u8]) -> Replied
         First::Stanza(s) => receive_answer(word, text, s, out),
         First::Refused(r) => Replied {
             answer: Answering::Refused(r),
-            phase: phase_two::phase_refused_two(Phase::Awaiting(word), r),
+            phase: session::phase_refused(Phase::Awaiting(word), r),
         },
     }
 }

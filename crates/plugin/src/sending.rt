@@ -9,11 +9,12 @@ ghost use Rattle.session.specs.PhaseOne.{verdictSaid};
 ghost use Rattle.conversation.specs.CommandsTwo.{lineSent};
 ghost use Rattle.conversation.specs.PhaseTwo.{buffersOf};
 ghost use Rattle.conversation.specs.SendingTwo.{phaseSent, sent, sentLine};
-ghost use Rattle.phase_two.specs.Commands.{commandSaid};
+ghost use Rattle.commands_two.specs.Commands.{commandSaid};
 ghost use Rattle.plugin.specs.Session.{sessionIn, sessionOf};
 ghost use Rattle.plugin.specs.Sending.{sentSaid, doneSaid};
 use crate::sessions::Session;
-use phase_two::CommandTwo;
+use commands_two::CommandTwo;
+use decision_two::decide_two;
 use refusal::Refusal;
 use refusal::Written;
 use responses::WordTwo;
@@ -59,9 +60,9 @@ fn send_stanza(
     requires { ⌜ bytes n ≡ sized (now line) (now body) ⌝ }
     ensures { λ r. ⌜ ((name : Name) → doneSaid machine name r (now (errors .exit)) (now (stanzas .exit)) (now (returned .exit)) (now (out .exit)) ≡ sentLine (sessionIn machine name Phase.Two tables) (buffersOf (now (errors .entry)) (now (stanzas .entry)) (now (returned .entry))) (now (line .entry)) (now (body .entry)) (now (out .entry))) ⌝ }
 {
-    let command = phase_two::parse_two(machine, line, body.len());
-    let payload = phase_two::payload_length_two(command, line, body);
-    let decided = phase_two::decide_two(true, tables, command, payload, errors, stanzas, returned);
+    let command = commands_two::parse_two(machine, line, body.len());
+    let payload = commands_two::payload_length_two(command, line, body);
+    let decided = decide_two(true, tables, command, payload, errors, stanzas, returned);
     let late = session::check_output(n, out.len());
     let step = phase_two::step_two(
         decided,
@@ -134,7 +135,7 @@ fn send_command(
     ensures { λ r. ⌜ ((name : Name) → doneSaid machine name r (now (errors .exit)) (now (stanzas .exit)) (now (returned .exit)) (now (out .exit)) ≡ sentLine (sessionIn machine name Phase.Two tables) (buffersOf (now (errors .entry)) (now (stanzas .entry)) (now (returned .entry))) (lineSent word (now (arguments .entry))) (now (body .entry)) (now (out .entry))) ⌝ }
 {
     let mut store = [0u8; 8192];
-    let put = phase_two::put_line_two(word, arguments, &mut store);
+    let put = commands_two::put_line_two(word, arguments, &mut store);
     match put {
         Written::Bytes(n) => send_line(
             machine,

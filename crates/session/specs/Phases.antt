@@ -29,13 +29,13 @@ phaseAfter done = Two
 phaseAfter other = One
 phaseAfter (bad n) = One
 
--- behind a refusal n of what was received in phase one
-abbrev pub phaseRefused : ℕ → Phase
-phaseRefused n = pick (closes n) Closed One
+-- behind a refusal n of what was received in a phase
+abbrev pub phaseRefused : Phase → ℕ → Phase
+phaseRefused p n = pick (closes n) Closed p
 
 -- behind a command of phase one with the number n that was received, where a refusal may close the session
 abbrev pub phaseReceived : ℕ → Command → Phase
-phaseReceived n c = pick (eqb n 0) (phaseAfter c) (phaseRefused n)
+phaseReceived n c = pick (eqb n 0) (phaseAfter c) (phaseRefused One n)
 
 -- the same of one that was sent, where none does
 abbrev pub phaseSent : ℕ → Command → Phase

@@ -67,7 +67,7 @@ pub fn open_tables() -> Tables
 }
 
 // Whether a kind has a slot, and its buffer space for n bytes more.
-fn has_space(count: usize, width: usize, used: usize, n: usize, capacity: usize) -> bool
+pub fn has_space(count: usize, width: usize, used: usize, n: usize, capacity: usize) -> bool
     ensures { λ r. ⌜ r ≡ (ltb count width && leb (used + n) capacity) ⌝ }
 {
     if width <= count {
@@ -94,7 +94,8 @@ fn is_falling(headers: Table256, index: u32) -> bool
     wide(index) < last.index
 }
 
-fn wide(index: u32) -> usize
+// An index as a number of a table.
+pub fn wide(index: u32) -> usize
     ensures { λ r. ⌜ r ≡ index ⌝ }
 {
     index as usize

@@ -58,14 +58,14 @@ fn phase_after(command: Command) -> Phase
     }
 }
 
-// The phase behind a refusal of what was received in phase one: it may close the session.
-pub fn phase_refused(refusal: Refusal) -> Phase
-    ensures { λ r. ⌜ r ≡ phaseRefused (numberOf refusal) ⌝ }
+// The phase behind a refusal of what was received in a phase: closed, or as it was.
+pub fn phase_refused(phase: Phase, refusal: Refusal) -> Phase
+    ensures { λ r. ⌜ r ≡ phaseRefused phase (numberOf refusal) ⌝ }
 {
     if is_closing(refusal) {
         return Phase::Closed;
     }
-    Phase::One
+    phase
 }
 
 // The phase behind a command of phase one that was received.
@@ -74,7 +74,7 @@ pub fn phase_received(verdict: Verdict, command: Command) -> Phase
 {
     match verdict {
         Verdict::Accepted => phase_after(command),
-        Verdict::Refused(r) => phase_refused(r),
+        Verdict::Refused(r) => phase_refused(Phase::One, r),
     }
 }
 

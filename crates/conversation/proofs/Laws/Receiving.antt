@@ -24,7 +24,7 @@ receipt a s b = record { answer = a; session = s; buffers = b }
 
 module _ (m : Machine) (g : List ℕ) (x : Bool) (t : Tables) (b : Buffers) where
   -- a refusal in phase one
-  pub refusal-is : (n : ℕ) → receipt (declined n) (sessionIn m g x (phaseRefused n) t) b ≡ refusedReceipt n (sessionIn m g x One t) b
+  pub refusal-is : (n : ℕ) → receipt (declined n) (sessionIn m g x (phaseRefused One n) t) b ≡ refusedReceipt n (sessionIn m g x One t) b
   refusal-is n = go (closes n)
     where
       go : (f : Bool) → receipt (declined n) (sessionIn m g x (pick f Closed One) t) b ≡ receipt (declined n) (pick f (sessionIn m g x Closed t) (sessionIn m g x One t)) b

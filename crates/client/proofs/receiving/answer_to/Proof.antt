@@ -6,7 +6,7 @@ use Rattle.client.proofs.receiving.answer_to.Statement.{statement}
 use Rattle.client.proofs.receiving.answer_to.Tie as tie
 use Rattle.client.proofs.receiving.answer_to.Reads as reads
 use Rattle.client.proofs.receiving.answer_to.Lts as lts
-use Rattle.phase_two.proofs.word_two_of.Reads as word-two-of-reads
+use Rattle.commands_two.proofs.word_two_of.Reads as word-two-of-reads
 
 -- src/receiving.rt:52:46
 enum-told : tie.Need-enum-told

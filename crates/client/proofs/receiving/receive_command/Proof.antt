@@ -4,7 +4,7 @@ use Rattle.session.specs.PhaseOne.{tablesOf, verdictSaid}
 use Rattle.conversation.specs.PhaseTwo.{buffersOf}
 use Rattle.conversation.proofs.Laws.ReceivingTwo.{received-from}
 use Rattle.phase_two.specs.AtOnce.{atOnceSaid}
-use Rattle.phase_two.specs.Commands.{commandSaid}
+use Rattle.commands_two.specs.Commands.{commandSaid}
 use Rattle.client.specs.Receiving.{takingSaid}
 use borrow.Author.Needs.{needs}
 use Rattle.client.proofs.receiving.receive_command.Statement.{statement}
@@ -18,9 +18,9 @@ use Rattle.session.proofs.check_output.Reads as check-output-reads
 use Rattle.phase_two.proofs.step_two.Reads as step-two-reads
 use Rattle.phase_two.proofs.answer_at_once.Reads as answer-at-once-reads
 use Rattle.phase_two.proofs.at_once_size.Reads as at-once-size-reads
-use Rattle.phase_two.proofs.parse_two.Reads as parse-two-reads
-use Rattle.phase_two.proofs.payload_length_two.Reads as payload-length-two-reads
-use Rattle.phase_two.proofs.decide_two.Reads as decide-two-reads
+use Rattle.commands_two.proofs.parse_two.Reads as parse-two-reads
+use Rattle.commands_two.proofs.payload_length_two.Reads as payload-length-two-reads
+use Rattle.decision_two.proofs.decide_two.Reads as decide-two-reads
 
 -- src/receiving.rt:94:9
 parse-two-requires : tie.Need-parse-two-requires

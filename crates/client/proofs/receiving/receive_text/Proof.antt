@@ -12,7 +12,7 @@ use Rattle.client.proofs.receiving.receive_text.Tie as tie
 use Rattle.client.proofs.receiving.receive_text.Reads as reads
 use Rattle.client.proofs.receiving.receive_text.Lts as lts
 use Rattle.client.proofs.receiving.receive_stanza.Reads as receive-stanza-reads
-use Rattle.phase_two.proofs.phase_refused_two.Reads as phase-refused-two-reads
+use Rattle.session.proofs.phase_refused.Reads as phase-refused-reads
 use Rattle.stanza.proofs.read.Reads as read-reads
 
 -- src/receiving.rt:168:9
@@ -32,8 +32,8 @@ enum-known-first-2 : tie.Need-enum-known-first-2
 enum-known-first-2 c = search needs
 
 -- src/receiving.rt:183:20
-phase-refused-two-requires : tie.Need-phase-refused-two-requires
-phase-refused-two-requires c κs = search needs
+phase-refused-requires : tie.Need-phase-refused-requires
+phase-refused-requires c κs = search needs
 
 -- src/receiving.rt:156:1
 same-length : tie.Need-same-length
@@ -60,7 +60,7 @@ returns-2 : tie.Need-returns-2
 returns-2 c =
     let a = c .before .before .before .before .before .before .before .before .before .before .args in
     λ name.
-    rw (sym (c .before .before .before .before .read .ensures), c .before .before .first2 .given .1, c .phase-refused-two .ensures)
+    rw (sym (c .before .before .before .before .read .ensures), c .before .before .first2 .given .1, c .phase-refused .ensures)
     (refusal-is (a .machine) (nameOf name) (a .screen) (tablesOf (a .tables)) (buffersOf (now (a .errors)) (now (a .stanzas)) (now (a .returned))) (now (a .out)) (numberOf (c .before .before .first2 .given .0 .0)))
 
 pub receive-text-spec : {M : Type 1} → statement M
@@ -71,7 +71,7 @@ receive-text-spec =
     enum-known-first
     receive-stanza-requires
     enum-known-first-2
-    phase-refused-two-requires
+    phase-refused-requires
     same-length
     same-length-2
     same-length-3

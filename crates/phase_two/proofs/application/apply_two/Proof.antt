@@ -6,7 +6,7 @@ use Rattle.phase_two.proofs.application.apply_two.Reads as reads
 use Rattle.phase_two.proofs.application.apply_two.Lts as lts
 use Rattle.phase_two.proofs.application.index_of.Reads as index-of-reads
 use Rattle.phase_two.proofs.application.mark_of.Reads as mark-of-reads
-use Rattle.phase_two.proofs.application.wide.Reads as wide-reads
+use Rattle.session.proofs.wide.Reads as wide-reads
 use Rattle.session.proofs.rest_of.Reads as rest-of-reads
 use Rattle.tables.proofs.tables.Table256.store.Reads as tables-Table256-store-reads
 use Rattle.tables.proofs.tables.Table256.store_lines.Reads as store-lines-reads

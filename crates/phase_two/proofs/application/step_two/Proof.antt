@@ -5,7 +5,7 @@ use Rattle.refusal.proofs.Laws.Number.{number-not-zero}
 use Rattle.session.specs.PhaseOne.{tablesOf, verdictSaid, firstOf}
 use Rattle.conversation.specs.PhaseTwo.{buffersOf, applied, filledBy}
 use Rattle.conversation.specs.CommandsTwo.{payloadOf}
-use Rattle.phase_two.specs.Commands.{commandSaid}
+use Rattle.commands_two.specs.Commands.{commandSaid}
 use Rattle.phase_two.proofs.Laws.Application.{refused-two, accepted-two}
 use borrow.Author.Needs.{needs}
 use Rattle.phase_two.proofs.application.step_two.Statement.{statement}

@@ -11,7 +11,7 @@ use Rattle.plugin.proofs.responding.receive_awaited.Statement.{statemen
 use Rattle.plugin.proofs.responding.receive_awaited.Tie as tie
 use Rattle.plugin.proofs.responding.receive_awaited.Reads as reads
 use Rattle.plugin.proofs.responding.receive_awaited.Lts as lts
-use Rattle.phase_two.proofs.phase_refused_two.Reads as phase-refused-two-reads
+use Rattle.session.proofs.phase_refused.Reads as phase-refused-reads
 use Rattle.plugin.proofs.responding.receive_answer.Reads as receive-answer-reads
 use Rattle.stanza.proofs.read.Reads as read-reads
 
@@ -32,8 +32,8 @@ enum-known-first-2 : tie.Need-enum-known-first-2
 enum-known-first-2 c = search needs
 
 -- src/responding.rt:94:20
-phase-refused-two-requires : tie.Need-phase-refused-two-requires
-phase-refused-two-requires c κs = search needs
+phase-refused-requires : tie.Need-phase-refused-requires
+phase-refused-requires c κs = search needs
 
 -- src/responding.rt:86:1
 same-length : tie.Need-same-length
@@ -47,7 +47,7 @@ returns c = λ machine name tables. rw (sym (c .before .before .before .before .
 returns-2 : tie.Need-returns-2
 returns-2 c =
     let a = c .before .before .before .before .before .before .before .args in
-    λ machine name tables. rw (sym (c .before .before .before .before .read .ensures), c .before .before .first2 .given .1, c .phase-refused-two .ensures) (response-refused machine (nameOf name) false (tablesOf tables) (a .word) (numberOf (c .before .before .first2 .given .0 .0)) (now (a .out)))
+    λ machine name tables. rw (sym (c .before .before .before .before .read .ensures), c .before .before .first2 .given .1, c .phase-refused .ensures) (response-refused machine (nameOf name) false (tablesOf tables) (a .word) (numberOf (c .before .before .first2 .given .0 .0)) (now (a .out)))
 
 pub receive-awaited-spec : {M : Type 1} → statement M
 receive-awaited-spec =
@@ -57,7 +57,7 @@ receive-awaited-spec =
     enum-known-first
     receive-answer-requires
     enum-known-first-2
-    phase-refused-two-requires
+    phase-refused-requires
     same-length
     returns
     returns-2)

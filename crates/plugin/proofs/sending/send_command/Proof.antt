@@ -15,7 +15,7 @@ use Rattle.plugin.proofs.sending.send_command.Statement.{statement}
 use Rattle.plugin.proofs.sending.send_command.Tie as tie
 use Rattle.plugin.proofs.sending.send_command.Reads as reads
 use Rattle.plugin.proofs.sending.send_command.Lts as lts
-use Rattle.phase_two.proofs.put_line_two.Reads as put-line-two-reads
+use Rattle.commands_two.proofs.put_line_two.Reads as put-line-two-reads
 use Rattle.plugin.proofs.sending.send_line.Reads as send-line-reads
 use Rattle.session.proofs.name_text.Reads as name-text-reads
 

@@ -10,16 +10,16 @@ use Rattle.session.specs.Opening.{nameOf}
 use Rattle.session.specs.PhaseOne.{tablesOf, verdictSaid}
 use Rattle.conversation.specs.PhaseTwo.{buffersOf}
 use Rattle.conversation.proofs.Laws.SendingTwo.{buffers-two-are, sent-from}
-use Rattle.phase_two.specs.Commands.{commandSaid}
+use Rattle.commands_two.specs.Commands.{commandSaid}
 use borrow.Author.Needs.{needs}
 use Rattle.plugin.proofs.sending.send_stanza.Statement.{statement}
 use Rattle.plugin.proofs.sending.send_stanza.Tie as tie
 use Rattle.plugin.proofs.sending.send_stanza.Reads as reads
 use Rattle.plugin.proofs.sending.send_stanza.Lts as lts
 use Rattle.phase_two.proofs.step_two.Reads as step-two-reads
-use Rattle.phase_two.proofs.parse_two.Reads as parse-two-reads
-use Rattle.phase_two.proofs.payload_length_two.Reads as payload-length-two-reads
-use Rattle.phase_two.proofs.decide_two.Reads as decide-two-reads
+use Rattle.commands_two.proofs.parse_two.Reads as parse-two-reads
+use Rattle.commands_two.proofs.payload_length_two.Reads as payload-length-two-reads
+use Rattle.decision_two.proofs.decide_two.Reads as decide-two-reads
 use Rattle.plugin.proofs.sending.phase_behind.Reads as phase-behind-reads
 use Rattle.session.proofs.check_output.Reads as check-output-reads
 use Rattle.session.proofs.write_judged.Reads as write-judged-reads

@@ -1,0 +1,2 @@
+-- What the code of the commands stands for.
+pub mod Commands

@@ -1,0 +1,35 @@
+use borrow.Author.Tests.{eq-eqb, ne-eqb}
+use borrow.Author.Needs.{needs}
+use Rattle.look_up_two.proofs.look_up.named_by.Statement.{statement}
+use Rattle.look_up_two.proofs.look_up.named_by.Tie as tie
+use Rattle.look_up_two.proofs.look_up.named_by.Reads as reads
+use Rattle.look_up_two.proofs.look_up.named_by.Lts as lts
+use Rattle.look_up_two.proofs.look_up.header_named.Reads as header-named-reads
+
+-- src/look_up.rt:62:9
+returns : tie.Need-returns
+returns c = rw (eq-eqb _ _ (c .if1 .taken))
+
+-- src/look_up.rt:65:9
+returns-2 : tie.Need-returns-2
+returns-2 c = rw (ne-eqb _ _ (c .before .if1 .left), eq-eqb _ _ (c .if2 .taken))
+
+-- src/look_up.rt:68:9
+returns-3 : tie.Need-returns-3
+returns-3 c = rw (ne-eqb _ _ (c .before .before .if1 .left), ne-eqb _ _ (c .before .if2 .left), eq-eqb _ _ (c .if3 .taken))
+
+-- src/look_up.rt:71:9
+header-named-requires : tie.Need-header-named-requires
+header-named-requires c κs = search needs
+
+-- src/look_up.rt:71:9
+returns-4 : tie.Need-returns-4
+returns-4 c = rw (ne-eqb _ _ (c .before .before .before .before .if1 .left), ne-eqb _ _ (c .before .before .before .if2 .left), ne-eqb _ _ (c .before .before .if3 .left), eq-eqb _ _ (c .before .if4 .taken)) (c .header-named .ensures)
+
+-- src/look_up.rt:56:1
+returns-5 : tie.Need-returns-5
+returns-5 c = rw (ne-eqb _ _ (c .before .before .before .if1 .left), ne-eqb _ _ (c .before .before .if2 .left), ne-eqb _ _ (c .before .if3 .left), ne-eqb _ _ (c .if4 .left))
+
+pub named-by-spec : {M : Type 1} → statement M
+named-by-spec =
+    tie.close (tie.spec returns returns-2 returns-3 header-named-requires returns-4 returns-5)

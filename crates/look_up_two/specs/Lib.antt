@@ -1,0 +1,2 @@
+-- What the code of the look-up stands for.
+pub mod LookUp
