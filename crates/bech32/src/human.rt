@@ -5,7 +5,7 @@ ghost use Prim.Native.Nat.{_+_, _≤_};
 ghost use lib.ListN.{length, drop};
 ghost use Rattle.refusal.specs.Run.{all};
 ghost use Rattle.refusal.specs.Same.{same};
-ghost use Rattle.bech32.specs.Charset.{lower};
+ghost use Rattle.symbols.specs.Charset.{lower};
 ghost use Rattle.bech32.specs.Text.{isNameByte, isName, inCase, humanPart};
 ghost use Rattle.bech32.specs.Calls.{formOf, padded, givenName};
 ghost use Rattle.bech32.specs.Steps.{shortened, nameBetween, nameOr};

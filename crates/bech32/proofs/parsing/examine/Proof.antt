@@ -8,11 +8,12 @@ use denote.Ref.{now}
 use lib.Seq.{length-take-le}
 use borrow.Author.Tests.{lt-leb, le-leb, not-true, not-false}
 use Rattle.refusal.specs.Pick.{pick}
-use Rattle.bech32.specs.Charset.{lower}
-use Rattle.bech32.specs.Regroup.{isWhole}
+use Rattle.symbols.specs.Charset.{lower}
+use Rattle.symbols.specs.Regroup.{isWhole}
 use Rattle.bech32.specs.Text.{separator, nameIn, humanIn, payloadIn, isText}
 use Rattle.bech32.specs.Calls.{formOf, padded}
-use Rattle.bech32.specs.Steps.{valueAt, nameOr, nameOf}
+use Rattle.symbols.specs.Calls.{valueAt}
+use Rattle.bech32.specs.Steps.{nameOr, nameOf}
 use Rattle.bech32.proofs.Laws.Parsing.{payload-lower, checked-long, human-decides}
 use borrow.Author.Needs.{needs}
 use Rattle.bech32.proofs.parsing.examine.Statement.{statement}
@@ -23,7 +24,7 @@ use Rattle.bech32.proofs.human.name_in.Reads as name-in-reads
 use Rattle.bech32.proofs.human.nameless.Reads as nameless-reads
 use Rattle.bech32.proofs.parsing.is_cased.Reads as is-cased-reads
 use Rattle.bech32.proofs.parsing.is_checked.Reads as is-checked-reads
-use Rattle.bech32.proofs.regroup.is_whole.Reads as is-whole-reads
+use Rattle.symbols.proofs.is_whole.Reads as is-whole-reads
 
 -- src/parsing.rt:126:9
 nameless-requires : tie.Need-nameless-requires

@@ -7,18 +7,18 @@ use denote.Ref.{now}
 use lib.Seq.{length-take-le}
 use borrow.Author.Tests.{lt-leb, le-leb}
 use Rattle.refusal.proofs.Laws.Lists.{part-rest}
-use Rattle.bech32.specs.Charset.{lower}
-use Rattle.bech32.specs.Checksum.{polymod}
-use Rattle.bech32.specs.Text.{expanded, separator, isChecked}
-use Rattle.bech32.specs.Steps.{closes, valueAt}
+use Rattle.symbols.specs.Charset.{lower}
+use Rattle.symbols.specs.Checksum.{polymod, expanded}
+use Rattle.bech32.specs.Text.{separator, isChecked}
+use Rattle.symbols.specs.Calls.{closes, valueAt}
 use Rattle.bech32.proofs.Laws.Parsing.{separator-le, checked-is}
 use borrow.Author.Needs.{needs}
 use Rattle.bech32.proofs.parsing.is_checked.Statement.{statement}
 use Rattle.bech32.proofs.parsing.is_checked.Tie as tie
 use Rattle.bech32.proofs.parsing.is_checked.Reads as reads
 use Rattle.bech32.proofs.parsing.is_checked.Lts as lts
-use Rattle.bech32.proofs.checksum.fold_human.Reads as fold-human-reads
-use Rattle.bech32.proofs.checksum.is_closed.Reads as is-closed-reads
+use Rattle.symbols.proofs.fold_human.Reads as fold-human-reads
+use Rattle.symbols.proofs.is_closed.Reads as is-closed-reads
 
 -- src/parsing.rt:73:8
 sub-if1 : tie.Need-sub-if1

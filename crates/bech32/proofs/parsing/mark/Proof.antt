@@ -7,7 +7,7 @@ use denote.Ref.{now}
 use lib.Seq.{length-take-le, take-append-seam}
 use Rattle.refusal.specs.Pick.{pick}
 use Rattle.refusal.specs.Same.{same}
-use Rattle.bech32.specs.Charset.{lower}
+use Rattle.symbols.specs.Charset.{lower}
 use Rattle.bech32.specs.Calls.{formOf}
 use Rattle.bech32.specs.Steps.{nameOf}
 use Rattle.bech32.proofs.Laws.Parsing.{is-text, no-text, mark-none, mark-is}
@@ -16,7 +16,7 @@ use Rattle.bech32.proofs.parsing.mark.Statement.{statement}
 use Rattle.bech32.proofs.parsing.mark.Tie as tie
 use Rattle.bech32.proofs.parsing.mark.Reads as reads
 use Rattle.bech32.proofs.parsing.mark.Lts as lts
-use Rattle.bech32.proofs.charset.values.Reads as values-reads
+use Rattle.symbols.proofs.values.Reads as values-reads
 use Rattle.bech32.proofs.human.is_lowered.Reads as is-lowered-reads
 use Rattle.bech32.proofs.parsing.examine.Reads as examine-reads
 use Rattle.bech32.proofs.parsing.find_separator.Reads as find-separator-reads

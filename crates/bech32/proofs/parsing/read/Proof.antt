@@ -6,13 +6,13 @@ use native.Mathlib.Omega.{arith}
 use denote.Ref.{now}
 use lib.Seq.{length-take-le}
 use Rattle.refusal.specs.Output.{said, bytes as accepted}
-use Rattle.bech32.specs.Charset.{lower}
-use Rattle.bech32.specs.Checksum.{areSymbols}
-use Rattle.bech32.specs.Regroup.{bytes}
+use Rattle.symbols.specs.Charset.{lower}
+use Rattle.symbols.specs.Checksum.{areSymbols}
+use Rattle.symbols.specs.Regroup.{bytes}
 use Rattle.bech32.specs.Text.{separator, payloadIn}
 use Rattle.bech32.specs.Calls.{formOf, padded}
-use Rattle.bech32.specs.Steps.{valueAt, bytesSize}
-use Rattle.bech32.proofs.Laws.Groups.{bytes-length}
+use Rattle.symbols.specs.Calls.{valueAt, bytesSize}
+use Rattle.symbols.proofs.Laws.Groups.{bytes-length}
 use Rattle.bech32.proofs.Laws.Text.{payload-symbols}
 use Rattle.bech32.proofs.Laws.Parsing.{is-text, no-text, text-checked, checked-long, payload-lower, reads-not, reads-short, reads}
 use borrow.Author.Needs.{needs}
@@ -20,12 +20,12 @@ use Rattle.bech32.proofs.parsing.read.Statement.{statement}
 use Rattle.bech32.proofs.parsing.read.Tie as tie
 use Rattle.bech32.proofs.parsing.read.Reads as reads
 use Rattle.bech32.proofs.parsing.read.Lts as lts
-use Rattle.bech32.proofs.charset.values.Reads as values-reads
+use Rattle.symbols.proofs.values.Reads as values-reads
 use Rattle.bech32.proofs.parsing.examine.Reads as examine-reads
 use Rattle.bech32.proofs.parsing.find_separator.Reads as find-separator-reads
 use Rattle.bech32.proofs.parsing.refused.Reads as refused-reads
-use Rattle.bech32.proofs.regroup.bytes_length.Reads as bytes-length-reads
-use Rattle.bech32.proofs.regroup.decode_into.Reads as decode-into-reads
+use Rattle.symbols.proofs.bytes_length.Reads as bytes-length-reads
+use Rattle.symbols.proofs.decode_into.Reads as decode-into-reads
 
 -- src/parsing.rt:149:17
 values-requires : tie.Need-values-requires

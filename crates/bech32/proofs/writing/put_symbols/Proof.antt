@@ -5,18 +5,18 @@ use lib.ListN.{length, take, drop}
 use native.Mathlib.Omega.{arith}
 use denote.Ref.{now}
 use lib.Seq.{length-take-le, take-at}
-use Rattle.bech32.specs.Checksum.{polymod, checksum}
-use Rattle.bech32.specs.Regroup.{symbols}
-use Rattle.bech32.proofs.Laws.Groups.{symbols-length}
+use Rattle.symbols.specs.Checksum.{polymod, checksum}
+use Rattle.symbols.specs.Regroup.{symbols}
+use Rattle.symbols.proofs.Laws.Groups.{symbols-length}
 use Rattle.bech32.proofs.Laws.Writing.{put-behind}
 use borrow.Author.Needs.{needs}
 use Rattle.bech32.proofs.writing.put_symbols.Statement.{statement}
 use Rattle.bech32.proofs.writing.put_symbols.Tie as tie
 use Rattle.bech32.proofs.writing.put_symbols.Reads as reads
 use Rattle.bech32.proofs.writing.put_symbols.Lts as lts
-use Rattle.bech32.proofs.checksum.fold_symbols.Reads as fold-symbols-reads
-use Rattle.bech32.proofs.regroup.symbols_into.Reads as symbols-into-reads
-use Rattle.bech32.proofs.regroup.symbols_length.Reads as symbols-length-reads
+use Rattle.symbols.proofs.fold_symbols.Reads as fold-symbols-reads
+use Rattle.symbols.proofs.symbols_into.Reads as symbols-into-reads
+use Rattle.bech32.proofs.writing.symbols_length.Reads as symbols-length-reads
 use Rattle.bech32.proofs.writing.put_checksum.Reads as put-checksum-reads
 
 -- src/writing.rt:39:9
