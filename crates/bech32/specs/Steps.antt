@@ -1,14 +1,14 @@
--- What the private functions ask of the tables and buffers that they are lent, and what they work out. Nobody has to believe this: each caller shows it.
-use Prim.Native.Nat.{ℕ, suc, _+_, _-_, _*_, _/_, _%_, _^_, _<_}
+-- What the private functions ask of the table and the buffers that they are lent, and what they work out. Nobody has to believe this: each caller shows it.
+use Prim.Native.Nat.{ℕ, _-_, _<_}
 use mathlib.Core.Path.{_≡_}
-use mathlib.Core.Bool.{Bool, _&&_}
-use mathlib.Core.List.{List, [], _∷_, _++_, map}
-use lib.Dec.{leb, ltb, eqb}
+use mathlib.Core.Bool.{_&&_}
+use mathlib.Core.List.{List, [], _++_, map}
+use lib.Dec.{leb}
 use lib.ListN.{length, take, drop, getD}
 use Rattle.refusal.specs.Pick.{pick}
 use Rattle.refusal.specs.Same.{same}
-use Rattle.symbols.specs.Charset.{valueOf, characterOf, lower, upper}
-use Rattle.symbols.specs.Checksum.{stepped, polymod, checksum}
+use Rattle.symbols.specs.Charset.{characterOf, lower, upper}
+use Rattle.symbols.specs.Checksum.{polymod, checksum}
 use Rattle.symbols.specs.Regroup.{symbols}
 use Rattle.bech32.specs.Text.{Form, isName, isHuman, nameIn, isText, humanIn}
 

@@ -1,5 +1,5 @@
 -- Recipients and identities as texts (document 01, "Recipients and identities").
-use Prim.Native.Nat.{ℕ, suc, _+_, _-_, _/_, _%_}
+use Prim.Native.Nat.{ℕ, suc, _+_, _-_}
 use mathlib.Core.Bool.{Bool, true, false, _&&_, _||_, not}
 use mathlib.Core.List.{List, [], _∷_, _++_, map}
 use lib.Dec.{leb, ltb, eqb}
@@ -8,7 +8,7 @@ use Rattle.refusal.specs.Pick.{pick}
 use Rattle.refusal.specs.Run.{all}
 use Rattle.refusal.specs.Same.{same}
 use Rattle.symbols.specs.Charset.{valueOf, characterOf, isUpper, isLower, lower, upper}
-use Rattle.symbols.specs.Checksum.{areSymbols, polymod, checksum}
+use Rattle.symbols.specs.Checksum.{areSymbols, polymod, expanded, checksum}
 use Rattle.symbols.specs.Regroup.{symbols, bytes, isWhole}
 
 -- a byte of NAME: a to z, 0 to 9, "+", "-", ".", "_"

@@ -11,7 +11,7 @@ ghost use Rattle.bech32.specs.Calls.{formOf, padded, givenName};
 ghost use Rattle.bech32.specs.Steps.{shortened, nameBetween, nameOr};
 use crate::charset::Kind;
 use crate::charset::cased;
-use crate::charset::lowered;
+use symbols::lowered;
 
 // A plugin's name by value: bytes[..length], zeros behind it. It is empty where there is none.
 pub struct Name {
