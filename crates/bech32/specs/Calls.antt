@@ -7,7 +7,7 @@ use lib.ListN.{length, replicate}
 use Rattle.refusal.specs.Pick.{pick}
 use Rattle.refusal.specs.Same.{same}
 use Rattle.refusal.specs.Output.{Answer, refused, overflows, answered, filled}
-use Rattle.bech32.specs.Charset.{lower}
+use Rattle.symbols.specs.Charset.{lower}
 use Rattle.bech32.specs.Text.{Form, recipient, identity, isName, textOf, noLower, noUpper, Parsed, parsed, none, isChecked}
 use Rattle.bech32.specs.declared.charset.Kind.{Kind}
 use Rattle.bech32.specs.declared.charset.Kind.the-variants.{Recipient, Identity}

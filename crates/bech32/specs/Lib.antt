@@ -1,7 +1,4 @@
--- Bech32: the alphabet, the checksum, bits regrouped, and the texts of recipients and identities.
-pub mod Charset
-pub mod Checksum
-pub mod Regroup
+-- The texts of recipients and identities, over the symbols of the crate `symbols`.
 pub mod Text
 pub mod Calls
 pub mod Steps

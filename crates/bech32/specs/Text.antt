@@ -1,5 +1,5 @@
 -- Recipients and identities as texts (document 01, "Recipients and identities").
-use Prim.Native.Nat.{ℕ, suc, _+_, _-_, _/_, _%_}
+use Prim.Native.Nat.{ℕ, suc, _+_, _-_}
 use mathlib.Core.Bool.{Bool, true, false, _&&_, _||_, not}
 use mathlib.Core.List.{List, [], _∷_, _++_, map}
 use lib.Dec.{leb, ltb, eqb}
@@ -7,9 +7,9 @@ use lib.ListN.{length, take, drop}
 use Rattle.refusal.specs.Pick.{pick}
 use Rattle.refusal.specs.Run.{all}
 use Rattle.refusal.specs.Same.{same}
-use Rattle.bech32.specs.Charset.{valueOf, characterOf, isUpper, isLower, lower, upper}
-use Rattle.bech32.specs.Checksum.{areSymbols, polymod, checksum}
-use Rattle.bech32.specs.Regroup.{symbols, bytes, isWhole}
+use Rattle.symbols.specs.Charset.{valueOf, characterOf, isUpper, isLower, lower, upper}
+use Rattle.symbols.specs.Checksum.{areSymbols, polymod, expanded, checksum}
+use Rattle.symbols.specs.Regroup.{symbols, bytes, isWhole}
 
 -- a byte of NAME: a to z, 0 to 9, "+", "-", ".", "_"
 unfoldable pub isNameByte : ℕ → Bool
@@ -36,10 +36,6 @@ identity = record { front = 97 ∷ 103 ∷ 101 ∷ 45 ∷ 112 ∷ 108 ∷ 117 �
 -- the human part of a name, in lower case
 abbrev pub humanPart : Form → List ℕ → List ℕ
 humanPart k name = k .front ++ name ++ k .back
-
--- the human part as the checksum takes it in: the high bits of each byte, 0, and the low five
-abbrev pub expanded : List ℕ → List ℕ
-expanded h = map (λ b. b / 32) h ++ 0 ∷ map (λ b. b % 32) h
 
 -- human part, separator, and the symbols with their checksum, in lower case
 abbrev pub plainText : List ℕ → List ℕ → List ℕ

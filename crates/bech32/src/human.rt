@@ -5,13 +5,13 @@ ghost use Prim.Native.Nat.{_+_, _≤_};
 ghost use lib.ListN.{length, drop};
 ghost use Rattle.refusal.specs.Run.{all};
 ghost use Rattle.refusal.specs.Same.{same};
-ghost use Rattle.bech32.specs.Charset.{lower};
+ghost use Rattle.symbols.specs.Charset.{lower};
 ghost use Rattle.bech32.specs.Text.{isNameByte, isName, inCase, humanPart};
 ghost use Rattle.bech32.specs.Calls.{formOf, padded, givenName};
 ghost use Rattle.bech32.specs.Steps.{shortened, nameBetween, nameOr};
 use crate::charset::Kind;
 use crate::charset::cased;
-use crate::charset::lowered;
+use symbols::lowered;
 
 // A plugin's name by value: bytes[..length], zeros behind it. It is empty where there is none.
 pub struct Name {

@@ -1,13 +1,10 @@
-// Bech32 recipients and identities (document 01, "Recipients and identities"; BIP 173 the checksum).
+// Bech32 recipients and identities (document 01, "Recipients and identities"), over the symbols of the crate `symbols`.
 mod charset;
-mod checksum;
 mod human;
 mod parsing;
-mod regroup;
 mod writing;
 
 pub use charset::Kind;
-pub use checksum::step;
 pub use human::Name;
 pub use human::is_lowered;
 pub use human::name_of;
@@ -15,4 +12,5 @@ pub use parsing::Reading;
 pub use parsing::holds;
 pub use parsing::mark;
 pub use parsing::read;
+pub use symbols::step;
 pub use writing::write;

@@ -4,25 +4,24 @@ ghost use mathlib.Core.Bool.{_||_};
 ghost use mathlib.Core.List.{[], map};
 ghost use lib.ListN.{length};
 ghost use Rattle.refusal.specs.Output.{said};
-ghost use Rattle.bech32.specs.Charset.{lower};
+ghost use Rattle.symbols.specs.Charset.{lower};
 ghost use Rattle.bech32.specs.Text.{noLower, noUpper, isCased, separator, isChecked, parse};
 ghost use Rattle.bech32.specs.Calls.{formOf, isSound, padded, readAnswer, readBuffer, readName, markOf};
-ghost use Rattle.bech32.specs.Steps.{Values, nameOf};
+ghost use Rattle.bech32.specs.Steps.{nameOf};
 use crate::charset::Kind;
-use crate::charset::is_lower;
-use crate::charset::is_upper;
-use crate::charset::values;
-use crate::checksum::fold_human;
-use crate::checksum::is_closed;
 use crate::human::Name;
 use crate::human::is_lowered;
 use crate::human::name_in;
 use crate::human::nameless;
-use crate::regroup::bytes_length;
-use crate::regroup::decode_into;
-use crate::regroup::is_whole;
 use refusal::Refusal;
 use refusal::Written;
+use symbols::bytes_length;
+use symbols::decode;
+use symbols::fold_human;
+use symbols::is_closed;
+use symbols::is_lower;
+use symbols::is_upper;
+use symbols::is_whole;
 
 // What reading gives: how long the payload at the buffer's front is, or 16 or 15; and the name, empty where refused.
 pub struct Reading {
@@ -91,8 +90,7 @@ fn find_separator(text: &[u8]) -> usize
 }
 
 // Whether the checksum holds over the lower-case form; `at` is where the separator stands.
-fn is_checked(table: &[u8; 256], text: &[u8], at: usize) -> bool
-    requires { ⌜ Values (now table) ⌝ }
+fn is_checked(text: &[u8], at: usize) -> bool
     requires { ⌜ at ≡ separator (now text) ⌝ }
     ensures { λ r. ⌜ r ≡ isChecked (map lower (now (text .entry))) ⌝ }
 {
@@ -100,7 +98,7 @@ fn is_checked(table: &[u8; 256], text: &[u8], at: usize) -> bool
         return false;
     }
     let from = at + 1;
-    is_closed(table, &text[from..], fold_human(&text[..at]))
+    is_closed(&text[from..], fold_human(&text[..at]))
 }
 
 // Whether a text's checksum holds, and no letters of both cases are in it.
@@ -110,13 +108,11 @@ pub fn holds(text: &[u8]) -> bool
     if !is_one_case(text) {
         return false;
     }
-    let table = values();
-    is_checked(&table, text, find_separator(text))
+    is_checked(text, find_separator(text))
 }
 
 // The name of a text of the kind; no name where it is none. `at` is where the separator stands.
-fn examine(table: &[u8; 256], kind: Kind, text: &[u8], at: usize) -> Name
-    requires { ⌜ Values (now table) ⌝ }
+fn examine(kind: Kind, text: &[u8], at: usize) -> Name
     requires { ⌜ at ≡ separator (now text) ⌝ }
     ensures bytes { λ r. ⌜ r .bytes ≡ padded (nameOf (formOf kind) (now (text .entry))) ⌝ }
     ensures length { λ r. ⌜ r .length ≡ length (nameOf (formOf kind) (now (text .entry))) ⌝ }
@@ -128,12 +124,12 @@ fn examine(table: &[u8; 256], kind: Kind, text: &[u8], at: usize) -> Name
     if !is_cased(kind, text) {
         return nameless();
     }
-    if !is_checked(table, text, at) {
+    if !is_checked(text, at) {
         return nameless();
     }
     let from = at + 1;
     let end = n - 6;
-    if !is_whole(table, &text[from..end]) {
+    if !is_whole(&text[from..end]) {
         return nameless();
     }
     name_in(kind, &text[..at])
@@ -146,9 +142,8 @@ pub fn read(kind: Kind, text: &[u8], out: &mut [u8]) -> Reading
     ensures length { λ r. ⌜ r .name .length ≡ length (readName (parse (formOf kind) (now (text .entry))) (now (out .entry))) ⌝ }
     ensures buffer { λ r. ⌜ now (out .exit) ≡ readBuffer (parse (formOf kind) (now (text .entry))) (now (out .entry)) ⌝ }
 {
-    let table = values();
     let at = find_separator(text);
-    let name = examine(&table, kind, text, at);
+    let name = examine(kind, text, at);
     if name.length == 0 {
         return refused(Refusal::NotBech32);
     }
@@ -158,7 +153,7 @@ pub fn read(kind: Kind, text: &[u8], out: &mut [u8]) -> Reading
     if out.len() < n {
         return refused(Refusal::ShortOutput);
     }
-    decode_into(&table, &text[from..end], out);
+    decode(&text[from..end], out);
     Reading {
         answer: Written::Bytes(n),
         name: name,
@@ -181,8 +176,7 @@ fn refused(r: Refusal) -> Reading
 pub fn mark(kind: Kind, text: &[u8], plugin: &[u8]) -> u8
     ensures { λ r. ⌜ r ≡ markOf (parse (formOf kind) (now (text .entry))) (now (plugin .entry)) ⌝ }
 {
-    let table = values();
-    let name = examine(&table, kind, text, find_separator(text));
+    let name = examine(kind, text, find_separator(text));
     let bytes = name.bytes;
     let length = name.length;
     if length == 0 {

@@ -5,24 +5,32 @@ ghost use mathlib.Core.List.{[], _∷_, _++_, map};
 ghost use Prim.Native.Nat.{_+_, _≤_};
 ghost use lib.ListN.{length, drop, take};
 ghost use Rattle.refusal.specs.Output.{said};
-ghost use Rattle.bech32.specs.Charset.{characterOf};
-ghost use Rattle.bech32.specs.Checksum.{polymod, checksum, areSymbols};
+ghost use Rattle.symbols.specs.Charset.{characterOf};
+ghost use Rattle.symbols.specs.Checksum.{polymod, checksum, areSymbols};
 ghost use Rattle.bech32.specs.Text.{inCase, humanPart, textOf, isName};
 ghost use Rattle.bech32.specs.Calls.{formOf, writeAnswer, writeBuffer};
-ghost use Rattle.bech32.specs.Steps.{Characters, symbolsSize, withChecksum};
+ghost use Rattle.bech32.specs.Steps.{Characters, withChecksum};
+ghost use Rattle.symbols.specs.Calls.{symbolsSize};
 use crate::charset::Kind;
 use crate::charset::character;
 use crate::charset::characters;
-use crate::checksum::fold_human;
-use crate::checksum::fold_symbols;
-use crate::checksum::step;
 use crate::human::human_length;
 use crate::human::is_name;
 use crate::human::put_human;
-use crate::regroup::symbols_into;
-use crate::regroup::symbols_length;
 use refusal::Refusal;
 use refusal::Written;
+use symbols::encode;
+use symbols::fold_human;
+use symbols::fold_symbols;
+use symbols::step;
+
+// How many symbols n bytes make.
+fn symbols_length(n: usize) -> usize
+    requires { ⌜ n ≤ 1024 ⌝ }
+    ensures { λ r. ⌜ r ≡ symbolsSize n ⌝ }
+{
+    (n * 8 + 4) / 5
+}
 
 // The text of a name and a payload at the front of `out`: how long it is; or 17 where the name is none or the text would be longer than
 // 1,024, then 15; nothing written then.
@@ -81,7 +89,7 @@ fn put_symbols(payload: &[u8], from: u32, out: &mut [u8])
     ensures { λ _. ⌜ now (out .exit) ≡ withChecksum from (now (payload .entry)) ++ drop (symbolsSize (length (now (payload .entry))) + 6) (now (out .entry)) ⌝ }
 {
     let n = symbols_length(payload.len());
-    symbols_into(payload, out);
+    encode(payload, out);
     let state = fold_symbols(&out[..n], from);
     put_checksum(state, &mut out[n..]);
 }

@@ -8,7 +8,7 @@ use Rattle.refusal.specs.Pick.{pick}
 use Rattle.refusal.specs.Same.{same}
 use Rattle.base64.specs.Code.{isBase64, decoded}
 use Rattle.stanza.specs.Arguments.{words, argumentOf}
-use Rattle.bech32.specs.Charset.{lower}
+use Rattle.symbols.specs.Charset.{lower}
 use Rattle.profile.specs.declared.Conformity.{Conformity}
 use Rattle.profile.specs.declared.Conformity.the-variants as the
 

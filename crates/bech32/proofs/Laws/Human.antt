@@ -14,11 +14,11 @@ use Rattle.refusal.specs.Same.{same}
 use Rattle.refusal.proofs.Laws.Booleans.{cases, and-true, and-assoc, and-true-right, and-false-right}
 use Rattle.refusal.proofs.Laws.Lists.{drop-one, front-store, front-whole, put-rest, part-rest, overwrite-part}
 use Rattle.refusal.proofs.Laws.Same.{same-refl, same-length}
-use Rattle.bech32.specs.Charset.{lower, upper}
+use Rattle.symbols.specs.Charset.{lower, upper}
 use Rattle.bech32.specs.Text.{isNameByte, isName, Form, humanPart, inCase, isHuman}
 use Rattle.bech32.specs.Calls.{padded}
 use Rattle.bech32.specs.Steps.{shortened, between, nameBetween, nameOr, casedByte}
-use Rattle.bech32.proofs.Laws.Maps.{map-at, map-take, map-drop}
+use Rattle.symbols.proofs.Laws.Maps.{map-at, map-take, map-drop}
 
 -- ---- byte by byte
 

@@ -13,17 +13,18 @@ use Rattle.refusal.specs.Same.{same}
 use Rattle.refusal.proofs.Laws.Booleans.{cases, and-true, and-assoc, and-false-right}
 use Rattle.refusal.proofs.Laws.Lists.{drop-one}
 use Rattle.refusal.proofs.Laws.Run.{all-more}
-use Rattle.bech32.specs.Charset.{valueOf, isUpper, lower}
-use Rattle.bech32.specs.Checksum.{areSymbols, polymod}
-use Rattle.bech32.specs.Regroup.{isWhole, bytes}
+use Rattle.symbols.specs.Charset.{valueOf, isUpper, lower}
+use Rattle.symbols.specs.Checksum.{areSymbols, polymod, expanded}
+use Rattle.symbols.specs.Regroup.{isWhole, bytes}
 use Rattle.bech32.specs.Calls.{readAnswer, readName, readBuffer, markOf}
 use Rattle.refusal.specs.Output.{refused, bytes as accepted}
-use Rattle.bech32.specs.Text.{Form, parse, humanPart, expanded, isNameByte, isName, isNotOne, isCased, separator, nameIn, humanIn, valuesIn, payloadIn, isChecked, isHuman, isText}
-use Rattle.bech32.specs.Steps.{valueAt, closes, nameOr, nameOf}
-use Rattle.bech32.proofs.Laws.Charset.{upper-bounds}
-use Rattle.bech32.proofs.Laws.Checksum.{polymod-append}
-use Rattle.bech32.proofs.Laws.Folds.{closes-is}
-use Rattle.bech32.proofs.Laws.Maps.{map-take, map-drop, map-map}
+use Rattle.bech32.specs.Text.{Form, parse, humanPart, isNameByte, isName, isNotOne, isCased, separator, nameIn, humanIn, valuesIn, payloadIn, isChecked, isHuman, isText}
+use Rattle.symbols.specs.Calls.{valueAt, closes}
+use Rattle.bech32.specs.Steps.{nameOr, nameOf}
+use Rattle.symbols.proofs.Laws.Charset.{upper-bounds}
+use Rattle.symbols.proofs.Laws.Checksum.{polymod-append}
+use Rattle.symbols.proofs.Laws.Folds.{closes-is}
+use Rattle.symbols.proofs.Laws.Maps.{map-take, map-drop, map-map}
 
 -- one byte more of a class
 pub all-one : (class : ℕ → Bool) (t : List ℕ) (i : ℕ) {good r : Bool} → i < length t → good ≡ all class (take i t) → r ≡ class (getD t i 0) → (good && r) ≡ all class (take (i + 1) t)

@@ -13,19 +13,20 @@ use borrow.Author.Tests.{ne-eqb, lt-leb, eqb-true, eq-eqb, ltb-true, lt-ltb, leb
 use Rattle.refusal.specs.Pick.{pick}
 use Rattle.refusal.specs.Run.{all}
 use Rattle.refusal.specs.Same.{same}
-use Rattle.refusal.proofs.Laws.Booleans.{and-true, true-and, cases}
+use Rattle.refusal.proofs.Laws.Below.{below}
+use Rattle.refusal.proofs.Laws.Booleans.{T-true, and-true, true-and, cases}
 use Rattle.refusal.proofs.Laws.Run.{all-append, all-wider}
 use Rattle.refusal.proofs.Laws.Same.{same-refl, same-eq}
-use Rattle.bech32.specs.Charset.{valueOf, characterOf, isUpper, isLower, lower, upper}
-use Rattle.bech32.specs.Checksum.{areSymbols, polymod, checksum}
-use Rattle.bech32.specs.Regroup.{symbols, bytes, isWhole}
-use Rattle.bech32.specs.Text.{recipient, identity, isNameByte, isName, Form, humanPart, expanded, plainText, textOf, isCased, inCase, noUpper, isNotOne, separator, nameIn, parsed, none, humanIn, valuesIn, payloadIn, isChecked, isHuman, isText, parse}
+use Rattle.symbols.specs.Charset.{valueOf, characterOf, isUpper, isLower, lower, upper}
+use Rattle.symbols.specs.Checksum.{areSymbols, polymod, checksum, expanded}
+use Rattle.symbols.specs.Regroup.{symbols, bytes, isWhole}
+use Rattle.bech32.specs.Text.{recipient, identity, isNameByte, isName, Form, humanPart, plainText, textOf, isCased, inCase, noUpper, isNotOne, separator, nameIn, parsed, none, humanIn, valuesIn, payloadIn, isChecked, isHuman, isText, parse}
 use Rattle.bech32.specs.Calls.{formOf}
 use Rattle.bech32.specs.declared.charset.Kind.{Kind}
 use Rattle.bech32.specs.declared.charset.Kind.the-variants.{Recipient, Identity}
-use Rattle.bech32.proofs.Laws.Charset.{character-value, value-character, character-plain, lower-upper, upper-lower, lower-plain, upper-not-lower}
-use Rattle.bech32.proofs.Laws.Checksum.{polymod-append, checksum-closes, checksum-unique, six-lt}
-use Rattle.bech32.proofs.Laws.Regroup.{bytes-symbols, symbols-bytes, symbols-small, symbols-whole, bytes-are}
+use Rattle.symbols.proofs.Laws.Charset.{character-value, value-character, lower-upper, upper-lower, lower-plain, upper-not-lower}
+use Rattle.symbols.proofs.Laws.Checksum.{polymod-append, checksum-closes, checksum-unique, six-lt}
+use Rattle.symbols.proofs.Laws.Regroup.{bytes-symbols, symbols-bytes, symbols-small, symbols-whole, bytes-are}
 
 -- ---- the separator
 
@@ -67,6 +68,11 @@ characters-values [] h = refl
 characters-values (b ∷ d) h =
     let a = and-true (ltb (valueOf b) 32) (areSymbols (map valueOf d)) h in
     ap₂ (λ x l. x ∷ l) (character-value b (ltb-true (valueOf b) 32 (a .0))) (characters-values d (a .1))
+
+-- no character is "1" or in upper case
+character-plain : (v : ℕ) → v < 32 → (isNotOne (characterOf v) && not (isUpper (characterOf v))) ≡ true
+unfolding isUpper
+character-plain v h = T-true _ (below (λ v. isNotOne (characterOf v) && not (isUpper (characterOf v))) 32 tt v h)
 
 characters-plain : (vs : List ℕ) → areSymbols vs ≡ true → (all isNotOne (map characterOf vs) ≡ true) × (all (λ b. not (isUpper b)) (map characterOf vs) ≡ true)
 unfolding all

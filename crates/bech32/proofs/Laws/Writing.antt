@@ -13,20 +13,21 @@ use Rattle.refusal.specs.Run.{all}
 use Rattle.refusal.proofs.Laws.Booleans.{and-true, true-and, and-false-right, cases}
 use Rattle.refusal.proofs.Laws.Run.{all-append}
 use Rattle.refusal.proofs.Laws.Lists.{drop-one, part-rest, put-rest, overwrite-part}
-use Rattle.bech32.specs.Charset.{characterOf, isLower, lower, upper}
-use Rattle.bech32.specs.Checksum.{areSymbols, polymod, checksum}
-use Rattle.bech32.specs.Text.{Form, inCase, humanPart, expanded, textOf, isName, isNameByte}
+use Rattle.symbols.specs.Charset.{characterOf, isLower, lower, upper}
+use Rattle.symbols.specs.Checksum.{areSymbols, polymod, checksum, expanded}
+use Rattle.bech32.specs.Text.{Form, inCase, humanPart, textOf, isName, isNameByte}
 use Rattle.bech32.specs.Calls.{formOf, isWritable, writeAnswer, writeBuffer}
 use Rattle.bech32.specs.declared.charset.Kind.{Kind}
 use Rattle.bech32.specs.declared.charset.Kind.the-variants.{Recipient, Identity}
 use Rattle.refusal.specs.Output.{bytes, refused}
-use Rattle.bech32.specs.Steps.{casedByte, symbolsSize, withChecksum}
-use Rattle.bech32.specs.Regroup.{symbols}
-use Rattle.bech32.proofs.Laws.Checksum.{six-lt, polymod-append}
+use Rattle.bech32.specs.Steps.{casedByte, withChecksum}
+use Rattle.symbols.specs.Calls.{symbolsSize}
+use Rattle.symbols.specs.Regroup.{symbols}
+use Rattle.symbols.proofs.Laws.Checksum.{six-lt, polymod-append}
 use Rattle.bech32.proofs.Laws.Text.{Plain, human-lowered}
-use Rattle.bech32.proofs.Laws.Regroup.{symbols-small}
-use Rattle.bech32.proofs.Laws.Groups.{symbols-length}
-use Rattle.bech32.proofs.Laws.Maps.{map-map}
+use Rattle.symbols.proofs.Laws.Regroup.{symbols-small}
+use Rattle.symbols.proofs.Laws.Groups.{symbols-length}
+use Rattle.symbols.proofs.Laws.Maps.{map-map}
 use Rattle.bech32.proofs.Laws.Human.{case-map, case-length, case-append, map-store, human-length}
 
 -- what has not been stored yet is as it was

@@ -12,7 +12,7 @@ use borrow.Author.Tests.{eqb-true, eqb-false}
 use Rattle.base64.specs.Alphabet.{isCharacter, valueOf, characterOf}
 use Rattle.base64.specs.Code.{encoded, decoded, endsWell}
 use Rattle.base64.specs.Lines.{wrapped, unwrapped}
-use Rattle.bech32.specs.Charset.{isUpper, isLower, lower}
+use Rattle.symbols.specs.Charset.{isUpper, isLower, lower}
 use Rattle.bech32.specs.Text.{isName, isNameByte, separator, isChecked, isText}
 use Rattle.refusal.proofs.Laws.Booleans.{cases}
 use Rattle.refusal.specs.Pick.{pick}

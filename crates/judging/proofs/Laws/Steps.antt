@@ -9,7 +9,7 @@ use native.Mathlib.Omega.{arith}
 use Rattle.refusal.specs.Run.{all}
 use Rattle.refusal.specs.Same.{same}
 use Rattle.refusal.proofs.Laws.Lists.{part-rest}
-use Rattle.bech32.specs.Charset.{isLower}
+use Rattle.symbols.specs.Charset.{isLower}
 use Rattle.bech32.specs.Text.{isName, isNameByte}
 use Rattle.session.specs.Commands.{Word}
 use Rattle.session.specs.PhaseOne.{Buffers, buffersOf}

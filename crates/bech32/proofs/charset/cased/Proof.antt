@@ -1,13 +1,13 @@
 use mathlib.Core.Path.{sym, _∙_}
 use native.Mathlib.Omega.{arith}
-use Rattle.bech32.specs.Charset.{upper}
-use Rattle.bech32.proofs.Laws.Charset.{lower-bounds}
+use Rattle.symbols.specs.Charset.{upper}
+use Rattle.symbols.proofs.Laws.Charset.{lower-bounds}
 use borrow.Author.Needs.{needs}
 use Rattle.bech32.proofs.charset.cased.Statement.{statement}
 use Rattle.bech32.proofs.charset.cased.Tie as tie
 use Rattle.bech32.proofs.charset.cased.Reads as reads
 use Rattle.bech32.proofs.charset.cased.Lts as lts
-use Rattle.bech32.proofs.charset.is_lower.Reads as is-lower-reads
+use Rattle.symbols.proofs.is_lower.Reads as is-lower-reads
 
 -- src/charset.rt:344:28
 enum-told : tie.Need-enum-told

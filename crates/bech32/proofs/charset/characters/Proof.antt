@@ -1,5 +1,5 @@
 use Rattle.refusal.proofs.Laws.Below.{tabulated-at}
-use Rattle.bech32.specs.Charset.{characterOf, upper, isLower}
+use Rattle.symbols.specs.Charset.{characterOf, upper, isLower}
 use borrow.Author.Needs.{needs}
 use Rattle.bech32.proofs.charset.characters.Statement.{statement}
 use Rattle.bech32.proofs.charset.characters.Tie as tie

@@ -9,7 +9,7 @@ use borrow.Author.Tests.{eq-eqb, ne-eqb}
 use denote.Ref.{now}
 use Rattle.refusal.specs.Same.{same}
 use Rattle.refusal.proofs.Laws.Same.{same-length}
-use Rattle.bech32.specs.Charset.{lower}
+use Rattle.symbols.specs.Charset.{lower}
 use Rattle.bech32.proofs.Laws.Human.{lower-same-one}
 use Rattle.bech32.proofs.human.is_lowered.Statement.{statement}
 use Rattle.bech32.proofs.human.is_lowered.Tie as tie

@@ -1,6 +1,6 @@
 -- `is_name_byte` meets its contract.
 use mathlib.Core.Path.{refl}
-use Rattle.bech32.specs.Charset.{isLower}
+use Rattle.symbols.specs.Charset.{isLower}
 use Rattle.bech32.specs.Text.{isNameByte}
 use Rattle.bech32.proofs.human.is_name_byte.Statement.{statement}
 use Rattle.bech32.proofs.human.is_name_byte.Tie as tie

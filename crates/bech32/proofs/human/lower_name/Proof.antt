@@ -7,7 +7,7 @@ use native.Mathlib.Omega.{arith}
 use borrow.Author.Needs.{needs}
 use borrow.Author.Tests.{le-leb, lt-leb}
 use denote.Ref.{now}
-use Rattle.bech32.specs.Charset.{lower}
+use Rattle.symbols.specs.Charset.{lower}
 use Rattle.bech32.specs.Calls.{padded}
 use Rattle.bech32.specs.Steps.{shortened}
 use Rattle.bech32.proofs.Laws.Human.{map-store, map-whole, over-zeros}

@@ -11,7 +11,7 @@ use borrow.Author.Tests.{not-true, not-false}
 use denote.Ref.{now}
 use Rattle.refusal.specs.Same.{same}
 use Rattle.refusal.proofs.Laws.Lists.{part-rest}
-use Rattle.bech32.specs.Charset.{lower}
+use Rattle.symbols.specs.Charset.{lower}
 use Rattle.bech32.specs.Text.{isName}
 use Rattle.bech32.specs.Calls.{padded}
 use Rattle.bech32.specs.Steps.{shortened, between, nameBetween}

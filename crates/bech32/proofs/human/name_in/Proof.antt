@@ -4,7 +4,7 @@ use mathlib.Core.List.{map}
 use lib.ListN.{length}
 use borrow.Author.Needs.{needs}
 use denote.Ref.{now}
-use Rattle.bech32.specs.Charset.{lower}
+use Rattle.symbols.specs.Charset.{lower}
 use Rattle.bech32.specs.Text.{recipient, identity}
 use Rattle.bech32.specs.Calls.{formOf, padded}
 use Rattle.bech32.specs.Steps.{nameBetween, nameOr}

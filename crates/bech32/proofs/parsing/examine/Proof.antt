@@ -8,11 +8,12 @@ use denote.Ref.{now}
 use lib.Seq.{length-take-le}
 use borrow.Author.Tests.{lt-leb, le-leb, not-true, not-false}
 use Rattle.refusal.specs.Pick.{pick}
-use Rattle.bech32.specs.Charset.{lower}
-use Rattle.bech32.specs.Regroup.{isWhole}
+use Rattle.symbols.specs.Charset.{lower}
+use Rattle.symbols.specs.Regroup.{isWhole}
 use Rattle.bech32.specs.Text.{separator, nameIn, humanIn, payloadIn, isText}
 use Rattle.bech32.specs.Calls.{formOf, padded}
-use Rattle.bech32.specs.Steps.{valueAt, nameOr, nameOf}
+use Rattle.symbols.specs.Calls.{valueAt}
+use Rattle.bech32.specs.Steps.{nameOr, nameOf}
 use Rattle.bech32.proofs.Laws.Parsing.{payload-lower, checked-long, human-decides}
 use borrow.Author.Needs.{needs}
 use Rattle.bech32.proofs.parsing.examine.Statement.{statement}
@@ -23,7 +24,7 @@ use Rattle.bech32.proofs.human.name_in.Reads as name-in-reads
 use Rattle.bech32.proofs.human.nameless.Reads as nameless-reads
 use Rattle.bech32.proofs.parsing.is_cased.Reads as is-cased-reads
 use Rattle.bech32.proofs.parsing.is_checked.Reads as is-checked-reads
-use Rattle.bech32.proofs.regroup.is_whole.Reads as is-whole-reads
+use Rattle.symbols.proofs.is_whole.Reads as is-whole-reads
 
 -- src/parsing.rt:126:9
 nameless-requires : tie.Need-nameless-requires
@@ -77,27 +78,27 @@ returns-3 c =
 
 -- src/parsing.rt:134:16
 add-from : tie.Need-add-from
-add-from c = omega (arith, c .before .before .before .before .before .before .pre .1, checked-long (now (c .before .before .before .before .before .before .args .text)) (sym (c .before .is-checked .ensures) ∙ not-false (c .before .is-checked .result) (c .if3 .left)))
+add-from c = omega (arith, c .before .before .before .before .before .before .pre, checked-long (now (c .before .before .before .before .before .before .args .text)) (sym (c .before .is-checked .ensures) ∙ not-false (c .before .is-checked .result) (c .if3 .left)))
 
 -- src/parsing.rt:135:15
 sub-end : tie.Need-sub-end
-sub-end c = omega (arith, c .before .before .before .before .before .before .pre .1, checked-long (now (c .before .before .before .before .before .before .args .text)) (sym (c .before .is-checked .ensures) ∙ not-false (c .before .is-checked .result) (c .if3 .left)))
+sub-end c = omega (arith, c .before .before .before .before .before .before .pre, checked-long (now (c .before .before .before .before .before .before .args .text)) (sym (c .before .is-checked .ensures) ∙ not-false (c .before .is-checked .result) (c .if3 .left)))
 
 -- src/parsing.rt:136:25
 sub-is-whole : tie.Need-sub-is-whole
-sub-is-whole c = omega (arith, c .before .before .before .before .before .before .pre .1, checked-long (now (c .before .before .before .before .before .before .args .text)) (sym (c .before .is-checked .ensures) ∙ not-false (c .before .is-checked .result) (c .if3 .left)))
+sub-is-whole c = omega (arith, c .before .before .before .before .before .before .pre, checked-long (now (c .before .before .before .before .before .before .args .text)) (sym (c .before .is-checked .ensures) ∙ not-false (c .before .is-checked .result) (c .if3 .left)))
 
 -- src/parsing.rt:136:25
 part-is-whole-start : tie.Need-part-is-whole-start
-part-is-whole-start c = omega (arith, c .before .before .before .before .before .before .pre .1, checked-long (now (c .before .before .before .before .before .before .args .text)) (sym (c .before .is-checked .ensures) ∙ not-false (c .before .is-checked .result) (c .if3 .left)))
+part-is-whole-start c = omega (arith, c .before .before .before .before .before .before .pre, checked-long (now (c .before .before .before .before .before .before .args .text)) (sym (c .before .is-checked .ensures) ∙ not-false (c .before .is-checked .result) (c .if3 .left)))
 
 -- src/parsing.rt:136:25
 part-is-whole-end : tie.Need-part-is-whole-end
-part-is-whole-end c = omega (arith, c .before .before .before .before .before .before .pre .1, checked-long (now (c .before .before .before .before .before .before .args .text)) (sym (c .before .is-checked .ensures) ∙ not-false (c .before .is-checked .result) (c .if3 .left)))
+part-is-whole-end c = omega (arith, c .before .before .before .before .before .before .pre, checked-long (now (c .before .before .before .before .before .before .args .text)) (sym (c .before .is-checked .ensures) ∙ not-false (c .before .is-checked .result) (c .if3 .left)))
 
 -- src/parsing.rt:136:9
 is-whole-requires : tie.Need-is-whole-requires
-is-whole-requires c κs = c .before .before .before .before .before .before .before .pre .0
+is-whole-requires c κs = search needs
 
 -- src/parsing.rt:137:9
 nameless-requires-4 : tie.Need-nameless-requires-4
@@ -109,7 +110,7 @@ unfolding isText
 returns-4 c =
     let t = now (c .before .before .before .before .before .before .before .before .before .before .args .text) in
     let k = formOf (c .before .before .before .before .before .before .before .before .before .before .args .kind) in
-    let s : c .before .before .before .before .before .before .before .before .before .before .args .at ≡ separator t = c .before .before .before .before .before .before .before .before .before .before .pre .1 in
+    let s : c .before .before .before .before .before .before .before .before .before .before .args .at ≡ separator t = c .before .before .before .before .before .before .before .before .before .before .pre in
     let w : isWhole (payloadIn (map lower t)) ≡ c .before .before .is-whole .result = ap isWhole (payload-lower t) ∙ ap (λ n. isWhole (map valueAt (take (length t - 6 - (n + 1)) (drop (n + 1) t)))) (sym s) ∙ sym (c .before .before .is-whole .ensures) in
     let f : isText k t ≡ false = (rw (le-leb (length t) 1024 (c .before .before .before .before .before .before .before .before .if1 .left), sym (c .before .before .before .before .before .before .before .is-cased .ensures) ∙ not-false (c .before .before .before .before .before .before .before .is-cased .result) (c .before .before .before .before .before .before .if2 .left), sym (c .before .before .before .before .before .is-checked .ensures) ∙ not-false (c .before .before .before .before .before .is-checked .result) (c .before .before .before .before .if3 .left), w ∙ not-true (c .before .before .is-whole .result) (c .before .if4 .taken))) in
     let z : nameOf k t ≡ [] = ap (λ b. pick b (nameIn k (humanIn (map lower t))) []) f in
@@ -117,7 +118,7 @@ returns-4 c =
 
 -- src/parsing.rt:139:19
 slice-aggregate-name-in : tie.Need-slice-aggregate-name-in
-slice-aggregate-name-in c = sym (length-take-le (c .before .before .before .before .before .before .before .before .before .before .args .at) (now (c .before .before .before .before .before .before .before .before .before .before .args .text)) (omega (arith, c .before .before .before .before .before .before .before .before .before .before .pre .1, checked-long (now (c .before .before .before .before .before .before .before .before .before .before .args .text)) (sym (c .before .before .before .before .before .is-checked .ensures) ∙ not-false (c .before .before .before .before .before .is-checked .result) (c .before .before .before .before .if3 .left)))))
+slice-aggregate-name-in c = sym (length-take-le (c .before .before .before .before .before .before .before .before .before .before .args .at) (now (c .before .before .before .before .before .before .before .before .before .before .args .text)) (omega (arith, c .before .before .before .before .before .before .before .before .before .before .pre, checked-long (now (c .before .before .before .before .before .before .before .before .before .before .args .text)) (sym (c .before .before .before .before .before .is-checked .ensures) ∙ not-false (c .before .before .before .before .before .is-checked .result) (c .before .before .before .before .if3 .left)))))
 
 -- src/parsing.rt:139:5
 name-in-requires : tie.Need-name-in-requires
@@ -128,7 +129,7 @@ returns-5 : tie.Need-returns-5
 returns-5 c =
     let t = now (c .before .before .before .before .before .before .before .before .before .before .before .args .text) in
     let k = formOf (c .before .before .before .before .before .before .before .before .before .before .before .args .kind) in
-    let s : c .before .before .before .before .before .before .before .before .before .before .before .args .at ≡ separator t = c .before .before .before .before .before .before .before .before .before .before .before .pre .1 in
+    let s : c .before .before .before .before .before .before .before .before .before .before .before .args .at ≡ separator t = c .before .before .before .before .before .before .before .before .before .before .before .pre in
     let w : isWhole (payloadIn (map lower t)) ≡ c .before .before .before .is-whole .result = ap isWhole (payload-lower t) ∙ ap (λ n. isWhole (map valueAt (take (length t - 6 - (n + 1)) (drop (n + 1) t)))) (sym s) ∙ sym (c .before .before .before .is-whole .ensures) in
     let z : nameOf k t ≡ nameOr k (map lower (take (c .before .before .before .before .before .before .before .before .before .before .before .args .at) t)) =
     human-decides k t (c .before .before .before .before .before .before .before .before .before .if1 .left) (sym (c .before .before .before .before .before .before .before .before .is-cased .ensures) ∙ not-false (c .before .before .before .before .before .before .before .before .is-cased .result) (c .before .before .before .before .before .before .before .if2 .left)) (sym (c .before .before .before .before .before .before .is-checked .ensures) ∙ not-false (c .before .before .before .before .before .before .is-checked .result) (c .before .before .before .before .before .if3 .left)) (w ∙ not-false (c .before .before .before .is-whole .result) (c .before .before .if4 .left)) ∙ ap (λ n. nameOr k (map lower (take n t))) (sym s) in

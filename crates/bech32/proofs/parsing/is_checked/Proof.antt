@@ -7,28 +7,28 @@ use denote.Ref.{now}
 use lib.Seq.{length-take-le}
 use borrow.Author.Tests.{lt-leb, le-leb}
 use Rattle.refusal.proofs.Laws.Lists.{part-rest}
-use Rattle.bech32.specs.Charset.{lower}
-use Rattle.bech32.specs.Checksum.{polymod}
-use Rattle.bech32.specs.Text.{expanded, separator, isChecked}
-use Rattle.bech32.specs.Steps.{closes, valueAt}
+use Rattle.symbols.specs.Charset.{lower}
+use Rattle.symbols.specs.Checksum.{polymod, expanded}
+use Rattle.bech32.specs.Text.{separator, isChecked}
+use Rattle.symbols.specs.Calls.{closes, valueAt}
 use Rattle.bech32.proofs.Laws.Parsing.{separator-le, checked-is}
 use borrow.Author.Needs.{needs}
 use Rattle.bech32.proofs.parsing.is_checked.Statement.{statement}
 use Rattle.bech32.proofs.parsing.is_checked.Tie as tie
 use Rattle.bech32.proofs.parsing.is_checked.Reads as reads
 use Rattle.bech32.proofs.parsing.is_checked.Lts as lts
-use Rattle.bech32.proofs.checksum.fold_human.Reads as fold-human-reads
-use Rattle.bech32.proofs.checksum.is_closed.Reads as is-closed-reads
+use Rattle.symbols.proofs.fold_human.Reads as fold-human-reads
+use Rattle.symbols.proofs.is_closed.Reads as is-closed-reads
 
 -- src/parsing.rt:73:8
 sub-if1 : tie.Need-sub-if1
-sub-if1 c = rw (c .before .pre .1) (separator-le (now (c .before .args .text)))
+sub-if1 c = rw (c .before .pre) (separator-le (now (c .before .args .text)))
 
 -- src/parsing.rt:74:9
 returns : tie.Need-returns
 returns c =
     let t = now (c .before .before .args .text) in
-    sym (checked-is t ∙ rw (lt-leb 7 (length t - separator t) (omega (arith, c .before .before .pre .1))))
+    sym (checked-is t ∙ rw (lt-leb 7 (length t - separator t) (omega (arith, c .before .before .pre))))
 
 -- src/parsing.rt:76:16
 add-from : tie.Need-add-from
@@ -48,7 +48,7 @@ part-is-closed-end c = search needs
 
 -- src/parsing.rt:77:48
 slice-aggregate-fold-human : tie.Need-slice-aggregate-fold-human
-slice-aggregate-fold-human c = sym (length-take-le (c .before .before .before .before .args .at) (now (c .before .before .before .before .args .text)) (rw (c .before .before .before .before .pre .1) (separator-le (now (c .before .before .before .before .args .text)))))
+slice-aggregate-fold-human c = sym (length-take-le (c .before .before .before .before .args .at) (now (c .before .before .before .before .args .text)) (rw (c .before .before .before .before .pre) (separator-le (now (c .before .before .before .before .args .text)))))
 
 -- src/parsing.rt:77:37
 fold-human-requires : tie.Need-fold-human-requires
@@ -63,7 +63,7 @@ returns-2 : tie.Need-returns-2
 returns-2 c =
     let t = now (c .before .before .before .before .before .before .args .text) in
     let at = c .before .before .before .before .before .before .args .at in
-    let e = c .before .before .before .before .before .before .pre .1 in
+    let e = c .before .before .before .before .before .before .pre in
     let q : isChecked (map lower t) ≡ closes (polymod 1 (expanded (map lower (take at t)))) (map valueAt (drop (at + 1) t)) =
     rw e (checked-is t ∙ rw (le-leb 7 (length t - separator t) (omega (arith, e)))) in
     c .is-closed .ensures ∙ ap₂ closes (c .before .fold-human .ensures) (ap (map valueAt) (part-rest (at + 1) t)) ∙ sym q

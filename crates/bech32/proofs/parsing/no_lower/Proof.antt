@@ -8,12 +8,12 @@ use denote.Ref.{now}
 use lib.Seq.{take-all}
 use Rattle.refusal.specs.Run.{all}
 use Rattle.bech32.proofs.Laws.Parsing.{all-one}
-use Rattle.bech32.specs.Charset.{isLower}
+use Rattle.symbols.specs.Charset.{isLower}
 use Rattle.bech32.proofs.parsing.no_lower.Statement.{statement}
 use Rattle.bech32.proofs.parsing.no_lower.Tie as tie
 use Rattle.bech32.proofs.parsing.no_lower.Reads as reads
 use Rattle.bech32.proofs.parsing.no_lower.Lts as lts
-use Rattle.bech32.proofs.charset.is_lower.Reads as is-lower-reads
+use Rattle.symbols.proofs.is_lower.Reads as is-lower-reads
 
 abbrev Inv-loop : tie.InvT-loop
 Inv-loop text good₀ i₀ good i =

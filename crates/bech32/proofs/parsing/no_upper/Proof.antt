@@ -8,12 +8,12 @@ use denote.Ref.{now}
 use lib.Seq.{take-all}
 use Rattle.refusal.specs.Run.{all}
 use Rattle.bech32.proofs.Laws.Parsing.{all-one}
-use Rattle.bech32.specs.Charset.{isUpper}
+use Rattle.symbols.specs.Charset.{isUpper}
 use Rattle.bech32.proofs.parsing.no_upper.Statement.{statement}
 use Rattle.bech32.proofs.parsing.no_upper.Tie as tie
 use Rattle.bech32.proofs.parsing.no_upper.Reads as reads
 use Rattle.bech32.proofs.parsing.no_upper.Lts as lts
-use Rattle.bech32.proofs.charset.is_upper.Reads as is-upper-reads
+use Rattle.symbols.proofs.is_upper.Reads as is-upper-reads
 
 abbrev Inv-loop : tie.InvT-loop
 Inv-loop text good₀ i₀ good i =

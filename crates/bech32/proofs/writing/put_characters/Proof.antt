@@ -5,11 +5,12 @@ use lib.ListN.{length, take, drop}
 use native.Mathlib.Omega.{arith}
 use denote.Ref.{now}
 use lib.Seq.{length-take-le, take-at, drop-at}
-use Rattle.bech32.specs.Charset.{characterOf}
-use Rattle.bech32.specs.Checksum.{areSymbols}
+use Rattle.symbols.specs.Charset.{characterOf}
+use Rattle.symbols.specs.Checksum.{areSymbols}
 use Rattle.bech32.specs.Text.{inCase}
 use Rattle.bech32.specs.Calls.{formOf}
-use Rattle.bech32.specs.Steps.{symbolsSize, withChecksum}
+use Rattle.symbols.specs.Calls.{symbolsSize}
+use Rattle.bech32.specs.Steps.{withChecksum}
 use Rattle.bech32.proofs.Laws.Writing.{are-bytes, with-length, with-symbols}
 use borrow.Author.Needs.{needs}
 use Rattle.bech32.proofs.writing.put_characters.Statement.{statement}
@@ -17,7 +18,7 @@ use Rattle.bech32.proofs.writing.put_characters.Tie as tie
 use Rattle.bech32.proofs.writing.put_characters.Reads as reads
 use Rattle.bech32.proofs.writing.put_characters.Lts as lts
 use Rattle.bech32.proofs.charset.characters.Reads as characters-reads
-use Rattle.bech32.proofs.regroup.symbols_length.Reads as symbols-length-reads
+use Rattle.bech32.proofs.writing.symbols_length.Reads as symbols-length-reads
 use Rattle.bech32.proofs.writing.put_symbols.Reads as put-symbols-reads
 use Rattle.bech32.proofs.writing.translate.Reads as translate-reads
 

@@ -2,7 +2,7 @@ use lib.ListN.{length-set}
 use native.Mathlib.Omega.{arith}
 use denote.Ref.{now}
 use lib.Seq.{sets-eq}
-use Rattle.bech32.specs.Checksum.{checksum}
+use Rattle.symbols.specs.Checksum.{checksum}
 use borrow.Author.Needs.{needs}
 use Rattle.bech32.proofs.writing.put_checksum.Statement.{statement}
 use Rattle.bech32.proofs.writing.put_checksum.Tie as tie

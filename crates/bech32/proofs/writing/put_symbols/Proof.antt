@@ -4,19 +4,21 @@ use mathlib.Core.List.{_++_}
 use lib.ListN.{length, take, drop}
 use native.Mathlib.Omega.{arith}
 use denote.Ref.{now}
+use borrow.Author.Tests.{le-ltb}
+use Rattle.refusal.specs.Output.{filled}
 use lib.Seq.{length-take-le, take-at}
-use Rattle.bech32.specs.Checksum.{polymod, checksum}
-use Rattle.bech32.specs.Regroup.{symbols}
-use Rattle.bech32.proofs.Laws.Groups.{symbols-length}
+use Rattle.symbols.specs.Checksum.{polymod, checksum}
+use Rattle.symbols.specs.Regroup.{symbols}
+use Rattle.symbols.proofs.Laws.Groups.{symbols-length}
 use Rattle.bech32.proofs.Laws.Writing.{put-behind}
 use borrow.Author.Needs.{needs}
 use Rattle.bech32.proofs.writing.put_symbols.Statement.{statement}
 use Rattle.bech32.proofs.writing.put_symbols.Tie as tie
 use Rattle.bech32.proofs.writing.put_symbols.Reads as reads
 use Rattle.bech32.proofs.writing.put_symbols.Lts as lts
-use Rattle.bech32.proofs.checksum.fold_symbols.Reads as fold-symbols-reads
-use Rattle.bech32.proofs.regroup.symbols_into.Reads as symbols-into-reads
-use Rattle.bech32.proofs.regroup.symbols_length.Reads as symbols-length-reads
+use Rattle.symbols.proofs.fold_symbols.Reads as fold-symbols-reads
+use Rattle.symbols.proofs.encode.Reads as encode-reads
+use Rattle.bech32.proofs.writing.symbols_length.Reads as symbols-length-reads
 use Rattle.bech32.proofs.writing.put_checksum.Reads as put-checksum-reads
 
 -- src/writing.rt:39:9
@@ -24,8 +26,8 @@ symbols-length-requires : tie.Need-symbols-length-requires
 symbols-length-requires c κs = search needs
 
 -- src/writing.rt:40:5
-symbols-into-requires : tie.Need-symbols-into-requires
-symbols-into-requires c κs = search needs
+encode-requires : tie.Need-encode-requires
+encode-requires c κs = search needs
 
 -- src/writing.rt:41:30
 slice-reshare-prefix-fold-symbols : tie.Need-slice-reshare-prefix-fold-symbols
@@ -33,7 +35,7 @@ slice-reshare-prefix-fold-symbols c = search needs
 
 -- src/writing.rt:41:30
 slice-aggregate-fold-symbols : tie.Need-slice-aggregate-fold-symbols
-slice-aggregate-fold-symbols c = sym (length-take-le (c .before .before .before .before .before .symbols-length .result) (c .before .before .before .symbols-into .last .1 .0) (omega (arith, c .before .before .before .before .before .symbols-length .ensures, c .before .before .before .symbols-into .kept .1 .0, c .before .before .before .before .before .before .before .before .pre .1)))
+slice-aggregate-fold-symbols c = sym (length-take-le (c .before .before .before .before .before .symbols-length .result) (c .before .before .before .encode .last .1 .0) (omega (arith, c .before .before .before .before .before .symbols-length .ensures, c .before .before .before .encode .kept .1 .0, c .before .before .before .before .before .before .before .before .pre .1)))
 
 -- src/writing.rt:41:9
 fold-symbols-requires : tie.Need-fold-symbols-requires
@@ -62,12 +64,13 @@ same-length c = search needs
 -- src/writing.rt:34:1
 returns : tie.Need-returns
 returns c =
-    let a = c .before .before .before .before .before .before .before .before .symbols-into .last .1 .0 in
+    let a = c .before .before .before .before .before .before .before .before .encode .last .1 .0 in
     let p = now (c .before .before .before .before .before .before .before .before .before .before .before .before .before .args .payload) in
     let o₀ = now (c .before .before .before .before .before .before .before .before .before .before .before .before .before .args .out) in
     let n = c .before .before .before .before .before .before .before .before .before .before .symbols-length .result in
     let w : length (symbols p) ≡ n = symbols-length p ∙ sym (c .before .before .before .before .before .before .before .before .before .before .symbols-length .ensures) in
-    let e : a ≡ symbols p ++ drop n o₀ = c .before .before .before .before .before .before .before .before .symbols-into .ensures ∙ ap (λ k. symbols p ++ drop k o₀) w in
+    let g : filled (symbols p) o₀ ≡ symbols p ++ drop (length (symbols p)) o₀ = rw (le-ltb (length o₀) (length (symbols p)) (omega (arith, symbols-length p, c .before .before .before .before .before .before .before .before .before .before .before .before .before .pre .1))) in
+    let e : a ≡ symbols p ++ drop n o₀ = c .before .before .before .before .before .before .before .before .encode .ensures ∙ g ∙ ap (λ k. symbols p ++ drop k o₀) w in
     let f : c .before .before .before .before .fold-symbols .result ≡ polymod (c .before .before .before .before .before .before .before .before .before .before .before .before .before .args .from) (symbols p) =
     c .before .before .before .before .fold-symbols .ensures ∙ ap (polymod (c .before .before .before .before .before .before .before .before .before .before .before .before .before .args .from)) (ap (take n) e ∙ take-at (symbols p) (drop n o₀) n w) in
     put-behind a o₀ (symbols p) (checksum (c .before .before .before .before .fold-symbols .result)) (c .before .before .put-checksum .last .1 .0) n 6 e w refl (c .before .before .put-checksum .ensures)
@@ -78,7 +81,7 @@ put-symbols-spec =
     tie.close
     (tie.spec
     symbols-length-requires
-    symbols-into-requires
+    encode-requires
     slice-reshare-prefix-fold-symbols
     slice-aggregate-fold-symbols
     fold-symbols-requires

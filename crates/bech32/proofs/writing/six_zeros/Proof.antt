@@ -1,10 +1,10 @@
-use Rattle.bech32.specs.Checksum.{polymod}
+use Rattle.symbols.specs.Checksum.{polymod}
 use borrow.Author.Needs.{needs}
 use Rattle.bech32.proofs.writing.six_zeros.Statement.{statement}
 use Rattle.bech32.proofs.writing.six_zeros.Tie as tie
 use Rattle.bech32.proofs.writing.six_zeros.Reads as reads
 use Rattle.bech32.proofs.writing.six_zeros.Lts as lts
-use Rattle.bech32.proofs.checksum.step.Reads as step-reads
+use Rattle.symbols.proofs.step.Reads as step-reads
 
 -- src/writing.rt:37:9
 step-requires : tie.Need-step-requires

@@ -7,14 +7,14 @@ use borrow.Author.Needs.{needs}
 use denote.Ref.{now}
 use lib.Seq.{take-all}
 use mathlib.Core.List.{append-nil}
-use Rattle.bech32.specs.Charset.{characterOf}
+use Rattle.symbols.specs.Charset.{characterOf}
 use Rattle.bech32.specs.Text.{inCase}
 use Rattle.bech32.specs.Calls.{formOf}
 use Rattle.bech32.proofs.Laws.Writing.{front-next, translated}
 use Rattle.bech32.proofs.Laws.Human.{case-length}
-use Rattle.bech32.proofs.Laws.Groups.{symbol-at}
-use Rattle.bech32.proofs.Laws.Maps.{map-id}
-use Rattle.bech32.specs.Checksum.{areSymbols}
+use Rattle.symbols.proofs.Laws.Groups.{symbol-at}
+use Rattle.symbols.proofs.Laws.Maps.{map-id}
+use Rattle.symbols.specs.Checksum.{areSymbols}
 use Rattle.bech32.proofs.writing.translate.Statement.{statement}
 use Rattle.bech32.proofs.writing.translate.Tie as tie
 use Rattle.bech32.proofs.writing.translate.Reads as reads

@@ -14,7 +14,7 @@ use Rattle.bech32.proofs.writing.write.Reads as reads
 use Rattle.bech32.proofs.writing.write.Lts as lts
 use Rattle.bech32.proofs.human.human_length.Reads as human-length-reads
 use Rattle.bech32.proofs.human.is_name.Reads as is-name-reads
-use Rattle.bech32.proofs.regroup.symbols_length.Reads as symbols-length-reads
+use Rattle.bech32.proofs.writing.symbols_length.Reads as symbols-length-reads
 use Rattle.bech32.proofs.writing.write_into.Reads as write-into-reads
 
 -- src/writing.rt:33:9

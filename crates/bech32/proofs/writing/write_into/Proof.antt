@@ -15,7 +15,7 @@ use Rattle.bech32.proofs.writing.write_into.Statement.{statement}
 use Rattle.bech32.proofs.writing.write_into.Tie as tie
 use Rattle.bech32.proofs.writing.write_into.Reads as reads
 use Rattle.bech32.proofs.writing.write_into.Lts as lts
-use Rattle.bech32.proofs.checksum.fold_human.Reads as fold-human-reads
+use Rattle.symbols.proofs.fold_human.Reads as fold-human-reads
 use Rattle.bech32.proofs.human.human_length.Reads as human-length-reads
 use Rattle.bech32.proofs.human.put_human.Reads as put-human-reads
 use Rattle.bech32.proofs.writing.put_characters.Reads as put-characters-reads

@@ -1,0 +1,15 @@
+use Rattle.refusal.proofs.Laws.Below.{tabulated-at}
+use Rattle.symbols.specs.Charset.{placeOf, lower, isUpper}
+use Rattle.symbols.specs.Calls.{valueAt}
+use Rattle.symbols.proofs.charset.values.Statement.{statement}
+use Rattle.symbols.proofs.charset.values.Tie as tie
+use Rattle.symbols.proofs.charset.values.Reads as reads
+use Rattle.symbols.proofs.charset.values.Lts as lts
+
+-- src/charset.rt:279:1
+returns : tie.Need-returns
+unfolding placeOf lower isUpper
+returns c = tabulated-at valueAt 256
+
+pub values-spec : {M : Type 1} → statement M
+values-spec = tie.close (tie.spec returns)

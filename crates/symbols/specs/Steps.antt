@@ -1,0 +1,16 @@
+-- What the private functions ask of the table that they are lent, and what they work out. Nobody has to believe this: each caller shows it.
+use Prim.Native.Nat.{ℕ, _%_, _^_, _<_}
+use mathlib.Core.Path.{_≡_}
+use mathlib.Core.Bool.{Bool, _&&_}
+use mathlib.Core.List.{List}
+use lib.Dec.{ltb, eqb}
+use lib.ListN.{getD}
+use Rattle.symbols.specs.Calls.{valueAt}
+
+-- the value of each byte
+abbrev pub Values : List ℕ → Type 0
+Values t = (b : ℕ) → b < 256 → getD t b 0 ≡ valueAt b
+
+-- fewer than 5 bits remain and all are zero, by how many remain and the last symbol
+abbrev pub isClear : ℕ → ℕ → Bool
+isClear left v = ltb left 5 && eqb (v % 2 ^ left) 0
