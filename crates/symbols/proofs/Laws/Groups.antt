@@ -3,16 +3,13 @@ use Prim.Native.Nat.{ℕ, zero, suc, _+_, _-_, _*_, _/_, _%_, _<_, _≤_}
 use mathlib.Core.Path.{_≡_, refl, sym, ap, ap₂, _∙_}
 use mathlib.Core.Bool.{true}
 use mathlib.Core.List.{List, [], _∷_, _++_, map, map-append}
-use lib.Dec.{ltb}
-use lib.ListN.{length, take, drop, getD, length-map, length-take, length-drop, take-append-drop, drop-of-length-le}
+use lib.ListN.{length, take, drop, getD, length-map, length-take, length-drop, drop-of-length-le}
 use lib.Seq.{drop-cons, take-add, take-all, length-take-le}
 use native.Mathlib.Nat.{add-mul-mod-self-left}
 use native.Mathlib.Decide.{decLe}
 use native.Mathlib.Omega.{arith}
 use Rattle.refusal.proofs.Laws.Below.{tabulate}
-use Rattle.refusal.proofs.Laws.Booleans.{and-true}
 use Rattle.refusal.proofs.Laws.Lists.{part-rest, put-rest, overwrite-part}
-use Rattle.refusal.proofs.Laws.Run.{all-append}
 use Rattle.symbols.specs.Checksum.{areSymbols}
 use Rattle.symbols.specs.Regroup.{symbols, bytes, isWhole}
 use Rattle.symbols.specs.Calls.{bytesSize, symbolsSize}
@@ -92,15 +89,6 @@ module _ (f : ℕ → ℕ) where
   symbol-at [] i a h = absurd (omega arith)
   symbol-at (b ∷ t) zero a h = symbol (f b) (map f t) a .0
   symbol-at (b ∷ t) (suc i) a h = symbol-at t i (symbol (f b) (map f t) a .1) (omega arith)
-
-  -- where all are symbols, those of each part are
-  halves : (k : ℕ) (t : List ℕ) → areSymbols (map f t) ≡ true → (areSymbols (map f (take k t)) ≡ true) × (areSymbols (map f (drop k t)) ≡ true)
-  halves k t a =
-      and-true (areSymbols (map f (take k t))) (areSymbols (map f (drop k t)))
-      (sym (all-append (λ v. ltb v 32) (map f (take k t)) (map f (drop k t))) ∙ ap areSymbols (sym (map-append f (take k t) (drop k t)) ∙ ap (map f) (take-append-drop k t)) ∙ a)
-
-  pub symbols-part : (k n : ℕ) (t : List ℕ) → areSymbols (map f t) ≡ true → areSymbols (map f (take n (drop k t))) ≡ true
-  symbols-part k n t a = halves n (drop k t) (halves k t a .1) .0
 
   -- no symbols are whole; others by how many there are and the last
   pub whole-none : (t : List ℕ) → length t ≡ 0 → isWhole (map f t) ≡ true
