@@ -1,10 +1,10 @@
 // The lines of standard input, read in chunks. Answers are written before more input is read.
+use crate::parts::append;
+use crate::parts::front;
+use crate::parts::part;
 use crate::print::flush;
 use libc::STDERR_FILENO;
 use libc::STDIN_FILENO;
-use rehearsal::append;
-use rehearsal::front;
-use rehearsal::part;
 
 // Where the run stands: whether more input may come, the part of the chunk that is not taken yet, how many bytes of the current line have
 // come, as far as the line buffer takes them, whether it has ended, how many lines have, and how many bytes of the output buffer are in use.

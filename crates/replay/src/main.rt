@@ -2,22 +2,29 @@
 // answered by its number, and the run goes on.
 mod answers;
 mod calls;
+mod first_phase;
+mod host;
 mod lines;
+mod parts;
 mod print;
+mod requests;
 mod returned;
+mod second_phase;
+mod settings;
 mod show;
 mod turns;
+mod words;
 
 use answers::print_answer;
+use host::no_session;
 use lines::advance;
 use lines::start;
+use parts::Buffer;
+use parts::front;
 use print::Output;
 use print::flush;
-use rehearsal::Buffer;
-use rehearsal::front;
-use rehearsal::no_session;
-use rehearsal::read_line;
 use turns::make_call;
+use words::read_line;
 
 // The line buffer takes a byte more than the longest line, so that a longer one shows. The last seven buffers are those of the session's kinds.
 fn main() {

@@ -2,12 +2,12 @@
 // those in use, these are written to standard output first.
 ghost use Prim.Native.Nat.{_≤_};
 ghost use lib.ListN.{length};
+use crate::parts::append;
+use crate::parts::front;
+use crate::parts::least;
 use libc::STDERR_FILENO;
 use libc::STDOUT_FILENO;
 use refusal::Written;
-use rehearsal::append;
-use rehearsal::front;
-use rehearsal::least;
 
 // The output buffer.
 pub type Output = [u8; 131072];

@@ -1,0 +1,159 @@
+// What a line asks for. The words of a line that calls a session are judged before any session is looked at.
+use crate::host::End;
+use crate::words::Words;
+use crate::words::last_word;
+use crate::words::word;
+use bech32::Kind;
+use responses::Response;
+use script::Call;
+use script::Number;
+use script::Reply;
+
+// The longest output buffer.
+const LONGEST: u64 = 65536;
+
+// A call that needs no session; one that opens a session or sets the lengths of its buffers; one that the session makes; an entry by kind
+// and number; all tables; one that no open session takes; or no call.
+pub enum Request {
+    Plain,
+    Setting,
+    Talk(Talk),
+    Entry(Kind, usize),
+    Show,
+    Missing,
+    Bad,
+}
+
+// Phase one is sent and received, phase two likewise; the client's host replies, or the plugin receives a response. The number is the
+// length of the output buffer.
+pub enum Talk {
+    SendOne(usize),
+    ReceiveOne,
+    SendTwo(usize),
+    ReceiveTwo(usize),
+    Reply(Response, usize),
+    Response(usize),
+}
+
+// What a line asks for, by its words and by the end that is open.
+pub fn read_request(call: Call, end: End, text: &[u8], w: Words) -> Request {
+    match call {
+        Call::Open => Request::Setting,
+        Call::Buffers => Request::Setting,
+        Call::Send => send_at(end, read_out(5, text, w)),
+        Call::Receive => receive_at(end, read_out(3, text, w)),
+        Call::Response => response_at(end, read_out(3, text, w)),
+        Call::Reply => reply_at(end, read_reply(text, w)),
+        Call::Entry => look_at(end, read_entry(text, w)),
+        Call::Show => look_at(end, read_show(w)),
+        _ => Request::Plain,
+    }
+}
+
+// OUT, the last of so many words.
+fn read_out(count: usize, text: &[u8], w: Words) -> Number {
+    if w.count != count {
+        return Number::Bad;
+    }
+    script::read_number(last_word(text, w), LONGEST)
+}
+
+// send COMMAND ARGS BODY OUT: the client's phase is the first, the plugin's the second.
+fn send_at(end: End, out: Number) -> Request {
+    let Number::Value(n) = out else {
+        return Request::Bad;
+    };
+    match end {
+        End::Nothing => Request::Missing,
+        End::Client => Request::Talk(Talk::SendOne(n as usize)),
+        End::Plugin => Request::Talk(Talk::SendTwo(n as usize)),
+    }
+}
+
+// receive TEXT OUT: each end receives in the other's phase.
+fn receive_at(end: End, out: Number) -> Request {
+    let Number::Value(n) = out else {
+        return Request::Bad;
+    };
+    match end {
+        End::Nothing => Request::Missing,
+        End::Client => Request::Talk(Talk::ReceiveTwo(n as usize)),
+        End::Plugin => Request::Talk(Talk::ReceiveOne),
+    }
+}
+
+// response TEXT OUT, which the client end does not have
+fn response_at(end: End, out: Number) -> Request {
+    let Number::Value(n) = out else {
+        return Request::Bad;
+    };
+    match end {
+        End::Plugin => Request::Talk(Talk::Response(n as usize)),
+        _ => Request::Missing,
+    }
+}
+
+// reply ANSWER BODY OUT
+fn read_reply(text: &[u8], w: Words) -> Request {
+    let out = read_out(4, text, w);
+    let Number::Value(v) = out else {
+        return Request::Bad;
+    };
+    let n = v as usize;
+    let reply = script::choose_reply(word(text, w, 1));
+    match reply {
+        Reply::Ok => Request::Talk(Talk::Reply(Response::Ok, n)),
+        Reply::Yes => Request::Talk(Talk::Reply(Response::Yes, n)),
+        Reply::No => Request::Talk(Talk::Reply(Response::No, n)),
+        Reply::Fail => Request::Talk(Talk::Reply(Response::Fail, n)),
+        Reply::Unsupported => Request::Talk(Talk::Reply(Response::Unsupported, n)),
+        Reply::Other => Request::Bad,
+    }
+}
+
+// A reply at the end that is open; the plugin end does not have it.
+fn reply_at(end: End, request: Request) -> Request {
+    let Request::Talk(reply) = request else {
+        return request;
+    };
+    match end {
+        End::Client => Request::Talk(reply),
+        _ => Request::Missing,
+    }
+}
+
+// entry recipient N, entry identity N
+fn read_entry(text: &[u8], w: Words) -> Request {
+    if w.count != 3 {
+        return Request::Bad;
+    }
+    let number = script::read_number(last_word(text, w), u64::MAX);
+    let Number::Value(n) = number else {
+        return Request::Bad;
+    };
+    let kind = script::choose_kind(word(text, w, 1));
+    match kind {
+        script::Kind::Recipient => Request::Entry(Kind::Recipient, n as usize),
+        script::Kind::Identity => Request::Entry(Kind::Identity, n as usize),
+        script::Kind::Other => Request::Bad,
+    }
+}
+
+// show
+fn read_show(w: Words) -> Request {
+    if w.count != 1 {
+        return Request::Bad;
+    }
+    Request::Show
+}
+
+// A look at the end that is open.
+fn look_at(end: End, request: Request) -> Request {
+    if let Request::Bad = request {
+        return Request::Bad;
+    }
+    if let End::Nothing = end {
+        return Request::Missing;
+    }
+    request
+}
