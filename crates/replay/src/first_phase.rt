@@ -34,10 +34,10 @@ pub fn send_one(
         command,
         arguments_one(command, text, w),
         word(text, w, 3),
-        cut(recipients, lengths[0]),
-        cut(identities, lengths[1]),
-        cut(keys, lengths[2]),
-        cut(headers, lengths[3]),
+        cut(recipients, lengths.recipients),
+        cut(identities, lengths.identities),
+        cut(keys, lengths.keys),
+        cut(headers, lengths.headers),
         cut(buffer, n),
     );
     keep_sent(sent, host)
@@ -88,10 +88,10 @@ pub fn receive_one(
     let lengths = host.lengths;
     let received = to_plugin(host.session).receive(
         word(text, w, 1),
-        cut(recipients, lengths[0]),
-        cut(identities, lengths[1]),
-        cut(keys, lengths[2]),
-        cut(headers, lengths[3]),
+        cut(recipients, lengths.recipients),
+        cut(identities, lengths.identities),
+        cut(keys, lengths.keys),
+        cut(headers, lengths.headers),
     );
     keep_received(received, host)
 }

@@ -9,12 +9,22 @@ pub enum End {
     Plugin,
 }
 
-// The session is kept as one of the client end; one of the plugin end has the same parts but for the screen. The lengths are those of the
-// recipients', identities', file keys', header stanzas', errors', returned stanzas' and returned keys' buffers; behind its length a buffer
-// has zeros.
+// The lengths of the session's buffers.
+pub struct Lengths {
+    pub recipients: usize,
+    pub identities: usize,
+    pub keys: usize,
+    pub headers: usize,
+    pub errors: usize,
+    pub stanzas: usize,
+    pub returned: usize,
+}
+
+// The session is kept as one of the client end; one of the plugin end has the same parts but for the screen. Behind its length a buffer has
+// zeros.
 pub struct Host {
     pub end: End,
-    pub lengths: [usize; 7],
+    pub lengths: Lengths,
     pub session: Session,
 }
 
@@ -24,13 +34,26 @@ pub struct Turn {
     pub host: Host,
 }
 
+// Lengths in the order of a script.
+pub fn lengths_of(given: [usize; 7]) -> Lengths {
+    Lengths {
+        recipients: given[0],
+        identities: given[1],
+        keys: given[2],
+        headers: given[3],
+        errors: given[4],
+        stanzas: given[5],
+        returned: given[6],
+    }
+}
+
 // Nothing is open; a refused opening left a closed session.
 pub fn no_session() -> Host {
     let opening = Session::open(b"", b"");
     let session = opening.session;
     Host {
         end: End::Nothing,
-        lengths: [0; 7],
+        lengths: lengths_of([0; 7]),
         session: session,
     }
 }

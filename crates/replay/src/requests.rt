@@ -15,8 +15,8 @@ const LONGEST: u64 = 65536;
 // A call that needs no session; one that opens a session or sets the lengths of its buffers; one that the session makes; an entry by kind
 // and number; all tables; one that no open session takes; or no call.
 pub enum Request {
-    Plain,
-    Setting,
+    Plain(Call),
+    Setting(Call),
     Talk(Talk),
     Entry(Kind, usize),
     Show,
@@ -36,17 +36,18 @@ pub enum Talk {
 }
 
 // What a line asks for, by its words and by the end that is open.
-pub fn read_request(call: Call, end: End, text: &[u8], w: Words) -> Request {
+pub fn read_request(end: End, text: &[u8], w: Words) -> Request {
+    let call = script::choose_call(word(text, w, 0));
     match call {
-        Call::Open => Request::Setting,
-        Call::Buffers => Request::Setting,
+        Call::Open => Request::Setting(call),
+        Call::Buffers => Request::Setting(call),
         Call::Send => send_at(end, read_out(5, text, w)),
         Call::Receive => receive_at(end, read_out(3, text, w)),
         Call::Response => response_at(end, read_out(3, text, w)),
         Call::Reply => reply_at(end, read_reply(text, w)),
         Call::Entry => look_at(end, read_entry(text, w)),
         Call::Show => look_at(end, read_show(w)),
-        _ => Request::Plain,
+        _ => Request::Plain(call),
     }
 }
 

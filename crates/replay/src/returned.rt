@@ -1,11 +1,11 @@
 // What `show` prints of phase two, by the library's look-ups: the errors, and the stanzas and keys that were returned, file by file.
+use crate::host::Lengths;
 use crate::parts::front;
 use crate::print::Output;
 use crate::print::print_bytes;
 use crate::print::print_decimal;
-use crate::print::print_end;
+use crate::print::print_last;
 use crate::print::print_number;
-use crate::print::print_word;
 use phase_two::ErrorNamed;
 use session::Tables;
 use tables::Found;
@@ -16,16 +16,16 @@ const NO_FILE: usize = usize::MAX;
 // The tables of phase two.
 pub fn print_returned(
     tables: Tables,
-    lengths: [usize; 7],
+    lengths: Lengths,
     errors: &[u8],
     stanzas: &[u8],
     returned: &[u8],
     out: &mut Output,
     at: usize,
 ) -> usize {
-    let a = print_errors(tables, front(errors, lengths[4]), out, at);
-    let b = print_stanzas(tables, front(stanzas, lengths[5]), out, a);
-    let c = print_keys(tables, front(returned, lengths[6]), out, b);
+    let a = print_errors(tables, front(errors, lengths.errors), out, at);
+    let b = print_stanzas(tables, front(stanzas, lengths.stanzas), out, a);
+    let c = print_keys(tables, front(returned, lengths.returned), out, b);
     print_bytes(b"end\n", out, c)
 }
 
@@ -53,8 +53,7 @@ fn print_error(n: usize, named: ErrorNamed, message: &[u8], out: &mut Output, at
     let a = print_bytes(b"error", out, at);
     let b = print_number(n as u64, out, a);
     let c = print_named(named, out, b);
-    let d = print_word(message, out, c);
-    print_end(out, d)
+    print_last(message, out, c)
 }
 
 // What an error names, as one word: its kind, the file of a header stanza, and the index.
@@ -113,8 +112,7 @@ fn print_stanza(file: usize, k: usize, payload: &[u8], out: &mut Output, at: usi
     let a = print_bytes(b"stanza", out, at);
     let b = print_number(file as u64, out, a);
     let c = print_number(k as u64, out, b);
-    let d = print_word(payload, out, c);
-    print_end(out, d)
+    print_last(payload, out, c)
 }
 
 // The key of each file; the files are those that header stanzas name, whose numbers never fall.
@@ -147,8 +145,7 @@ fn print_key(
     if due & phase_two::has_key(tables, file) {
         let a = print_bytes(b"key", out, at);
         let b = print_number(file as u64, out, a);
-        let c = print_word(phase_two::key_of(tables, file, returned), out, b);
-        return print_end(out, c);
+        return print_last(phase_two::key_of(tables, file, returned), out, b);
     }
     at
 }

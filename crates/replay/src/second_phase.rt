@@ -39,9 +39,9 @@ pub fn send_two(
         command,
         arguments_two(command, text, w),
         word(text, w, 3),
-        cut(errors, lengths[4]),
-        cut(stanzas, lengths[5]),
-        cut(returned, lengths[6]),
+        cut(errors, lengths.errors),
+        cut(stanzas, lengths.stanzas),
+        cut(returned, lengths.returned),
         cut(buffer, n),
     );
     keep_sent(sent, host)
@@ -96,9 +96,9 @@ pub fn receive_two(
     let lengths = host.lengths;
     let received = host.session.receive(
         word(text, w, 1),
-        cut(errors, lengths[4]),
-        cut(stanzas, lengths[5]),
-        cut(returned, lengths[6]),
+        cut(errors, lengths.errors),
+        cut(stanzas, lengths.stanzas),
+        cut(returned, lengths.returned),
         cut(buffer, n),
     );
     keep_received(received, host)

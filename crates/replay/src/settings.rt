@@ -2,12 +2,15 @@
 use crate::answers::Answer;
 use crate::host::End;
 use crate::host::Host;
+use crate::host::Lengths;
 use crate::host::Turn;
 use crate::host::from_plugin;
+use crate::host::lengths_of;
 use crate::parts::Buffer;
 use crate::parts::clear;
 use crate::words::Words;
 use crate::words::word;
+use client::Opening;
 use client::Session;
 use script::Call;
 use script::Number;
@@ -21,13 +24,13 @@ const LONGEST: u64 = 65536;
 struct Setting {
     answer: Answer,
     host: Host,
-    kept: [usize; 7],
+    kept: Lengths,
 }
 
-// The lengths of the seven buffers, if they are given.
-struct Lengths {
-    good: bool,
-    given: [usize; 7],
+// The lengths of the buffers, if they are given.
+enum Given {
+    Lengths(Lengths),
+    Bad,
 }
 
 // The session that a line opens, if its words are good.
@@ -53,13 +56,13 @@ pub fn set(
 ) -> Turn {
     let s = set_host(call, text, w, host);
     let kept = s.kept;
-    clear(recipients, kept[0]);
-    clear(identities, kept[1]);
-    clear(keys, kept[2]);
-    clear(headers, kept[3]);
-    clear(errors, kept[4]);
-    clear(stanzas, kept[5]);
-    clear(returned, kept[6]);
+    clear(recipients, kept.recipients);
+    clear(identities, kept.identities);
+    clear(keys, kept.keys);
+    clear(headers, kept.headers);
+    clear(errors, kept.errors);
+    clear(stanzas, kept.stanzas);
+    clear(returned, kept.returned);
     let answer = s.answer;
     let after = s.host;
     Turn {
@@ -71,10 +74,9 @@ pub fn set(
 // The line's call.
 fn set_host(call: Call, text: &[u8], w: Words, host: Host) -> Setting {
     let lengths = read_lengths(text, w);
-    if !lengths.good {
+    let Given::Lengths(given) = lengths else {
         return unchanged(Answer::Bad, host);
-    }
-    let given = lengths.given;
+    };
     match call {
         Call::Buffers => set_lengths(w.count, given, host),
         _ => open(text, w, given, host),
@@ -92,27 +94,27 @@ fn unchanged(answer: Answer, host: Host) -> Setting {
 }
 
 // The last seven words of a line.
-fn read_lengths(text: &[u8], w: Words) -> Lengths {
-    let mut given = [0usize; 7];
+fn read_lengths(text: &[u8], w: Words) -> Given {
     let count = w.count;
     if count < 7 {
-        return Lengths { good: false, given };
+        return Given::Bad;
     }
     let first = count - 7;
+    let mut given = [0usize; 7];
     let mut k: usize = 0;
     while k < 7 {
         let length = script::read_number(word(text, w, first + k), LONGEST);
         let Number::Value(n) = length else {
-            return Lengths { good: false, given };
+            return Given::Bad;
         };
         given[k] = n as usize;
         k += 1;
     }
-    Lengths { good: true, given }
+    Given::Lengths(lengths_of(given))
 }
 
 // buffers R I K H E S F
-fn set_lengths(count: usize, given: [usize; 7], mut host: Host) -> Setting {
+fn set_lengths(count: usize, given: Lengths, mut host: Host) -> Setting {
     if count != 8 {
         return unchanged(Answer::Bad, host);
     }
@@ -125,25 +127,13 @@ fn set_lengths(count: usize, given: [usize; 7], mut host: Host) -> Setting {
 }
 
 // open client .., open plugin ..
-fn open(text: &[u8], w: Words, given: [usize; 7], host: Host) -> Setting {
+fn open(text: &[u8], w: Words, given: Lengths, host: Host) -> Setting {
     let opens = read_opening(text, w);
-    match opens {
-        Opens::Client(screen) => {
-            opened_client(
-                open_client(screen, word(text, w, 2), word(text, w, 3)),
-                given,
-                host,
-            )
-        }
-        Opens::Plugin => {
-            opened_plugin(
-                plugin::Session::open(word(text, w, 2), word(text, w, 3)),
-                given,
-                host,
-            )
-        }
-        Opens::Bad => unchanged(Answer::Bad, host),
+    if let Opens::Bad = opens {
+        return unchanged(Answer::Bad, host);
     }
+    let opening = open_session(opens, word(text, w, 2), word(text, w, 3));
+    opened(end_of(opens), opening, given, host)
 }
 
 // open client MACHINE NAME SCREEN R I K H E S F, open plugin MACHINE NAME R I K H E S F
@@ -174,8 +164,25 @@ fn screen_opening(screen: Screen) -> Opens {
     Opens::Client(screen)
 }
 
+// The end that is opened.
+fn end_of(opens: Opens) -> End {
+    match opens {
+        Opens::Client(_) => End::Client,
+        Opens::Plugin => End::Plugin,
+        Opens::Bad => End::Nothing,
+    }
+}
+
+// A session of either end.
+fn open_session(opens: Opens, machine: &[u8], name: &[u8]) -> Opening {
+    match opens {
+        Opens::Client(screen) => open_client(screen, machine, name),
+        _ => open_plugin(machine, name),
+    }
+}
+
 // A session of the client end.
-fn open_client(screen: Screen, machine: &[u8], name: &[u8]) -> client::Opening {
+fn open_client(screen: Screen, machine: &[u8], name: &[u8]) -> Opening {
     match screen {
         Screen::Shown => Session::open_with(machine, name, true),
         Screen::Missing => Session::open_with(machine, name, false),
@@ -183,28 +190,24 @@ fn open_client(screen: Screen, machine: &[u8], name: &[u8]) -> client::Opening {
     }
 }
 
-// What an opening of the client end came to.
-fn opened_client(opening: client::Opening, given: [usize; 7], host: Host) -> Setting {
+// A session of the plugin end.
+fn open_plugin(machine: &[u8], name: &[u8]) -> Opening {
+    let opening = plugin::Session::open(machine, name);
+    let verdict = opening.verdict;
+    let session = opening.session;
+    Opening {
+        verdict: verdict,
+        session: from_plugin(session),
+    }
+}
+
+// What an opening came to. The buffers of a session that is opened are zeros.
+fn opened(end: End, opening: Opening, given: Lengths, host: Host) -> Setting {
     let verdict = opening.verdict;
     if let Verdict::Refused(r) = verdict {
         return unchanged(Answer::Refused(r), host);
     }
     let session = opening.session;
-    opened(End::Client, given, session)
-}
-
-// What an opening of the plugin end came to.
-fn opened_plugin(opening: plugin::Opening, given: [usize; 7], host: Host) -> Setting {
-    let verdict = opening.verdict;
-    if let Verdict::Refused(r) = verdict {
-        return unchanged(Answer::Refused(r), host);
-    }
-    let session = opening.session;
-    opened(End::Plugin, given, from_plugin(session))
-}
-
-// The buffers of a session that is opened are zeros.
-fn opened(end: End, given: [usize; 7], session: Session) -> Setting {
     Setting {
         answer: Answer::Accepted,
         host: Host {
@@ -212,6 +215,6 @@ fn opened(end: End, given: [usize; 7], session: Session) -> Setting {
             lengths: given,
             session: session,
         },
-        kept: [0; 7],
+        kept: lengths_of([0; 7]),
     }
 }

@@ -4,6 +4,7 @@ use crate::answers::NAMES;
 use crate::answers::number_two;
 use crate::answers::print_text;
 use crate::host::Host;
+use crate::host::Lengths;
 use crate::parts::front;
 use crate::parts::least;
 use crate::print::Output;
@@ -45,8 +46,8 @@ pub fn look_up<'a>(
 ) -> Answer {
     let lengths = host.lengths;
     let session = host.session;
-    let r = front(recipients, lengths[0]);
-    let i = front(identities, lengths[1]);
+    let r = front(recipients, lengths.recipients);
+    let i = front(identities, lengths.identities);
     Answer::Printed(print_text(session.tables.entry(kind, n, r, i), out, at))
 }
 
@@ -113,7 +114,7 @@ fn phase_number(phase: Phase) -> usize {
 // The tables of phase one.
 fn print_given(
     tables: Tables,
-    lengths: [usize; 7],
+    lengths: Lengths,
     recipients: &[u8],
     identities: &[u8],
     keys: &[u8],
@@ -121,10 +122,22 @@ fn print_given(
     out: &mut Output,
     at: usize,
 ) -> usize {
-    let a = print_table(0, tables.recipients, front(recipients, lengths[0]), out, at);
-    let b = print_table(1, tables.identities, front(identities, lengths[1]), out, a);
-    let c = print_table(FILE_KEY, tables.keys, front(keys, lengths[2]), out, b);
-    print_headers(tables.headers, front(headers, lengths[3]), out, c)
+    let a = print_table(
+        0,
+        tables.recipients,
+        front(recipients, lengths.recipients),
+        out,
+        at,
+    );
+    let b = print_table(
+        1,
+        tables.identities,
+        front(identities, lengths.identities),
+        out,
+        a,
+    );
+    let c = print_table(FILE_KEY, tables.keys, front(keys, lengths.keys), out, b);
+    print_headers(tables.headers, front(headers, lengths.headers), out, c)
 }
 
 // The entries of a table of 64 slots.

@@ -19,7 +19,6 @@ use crate::settings::set;
 use crate::show::look_up;
 use crate::show::show;
 use crate::words::Words;
-use crate::words::word;
 
 // Makes the call of a line. The session's buffers have the letters of the script: recipients, identities, file keys, header stanzas,
 // errors, returned stanzas and returned keys.
@@ -38,12 +37,11 @@ pub fn make_call(
     s: &mut Buffer,
     f: &mut Buffer,
 ) -> Turn {
-    let call = script::choose_call(word(text, w, 0));
     let end = host.end;
-    let request = read_request(call, end, text, w);
+    let request = read_request(end, text, w);
     match request {
-        Request::Plain => answered(call_plain(call, text, w, buffer, out, at), host),
-        Request::Setting => set(call, text, w, host, r, i, k, h, e, s, f),
+        Request::Plain(call) => answered(call_plain(call, text, w, buffer, out, at), host),
+        Request::Setting(call) => set(call, text, w, host, r, i, k, h, e, s, f),
         Request::Talk(t) => talk(t, text, w, buffer, host, r, i, k, h, e, s, f),
         Request::Entry(kind, n) => answered(look_up(kind, n, host, r, i, out, at), host),
         Request::Show => answered(show(host, r, i, k, h, e, s, f, out, at), host),

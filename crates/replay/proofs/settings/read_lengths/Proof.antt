@@ -7,10 +7,10 @@ use Rattle.replay.proofs.settings.read_lengths.Statement.{statement}
 use Rattle.replay.proofs.settings.read_lengths.Tie as tie
 
 abbrev Inv-loop : tie.InvT-loop
-Inv-loop text w given₀ count first k₀ given k = (k ≤ 7) × (length given ≡ 7)
+Inv-loop text w count first given₀ k₀ given k = (k ≤ 7) × (length given ≡ 7)
 
 abbrev μ-loop : tie.MeasureT-loop
-μ-loop text w given₀ count first k₀ given k = 7 - k
+μ-loop text w count first given₀ k₀ given k = 7 - k
 
 returns : tie.Need-returns Inv-loop μ-loop
 returns c = search needs
@@ -51,6 +51,9 @@ loop-less c = search needs
 loop-again : tie.Need-loop-again Inv-loop μ-loop
 loop-again c = search needs
 
+lengths-of-requires : tie.Need-lengths-of-requires Inv-loop μ-loop
+lengths-of-requires c κs = search needs
+
 returns-3 : tie.Need-returns-3 Inv-loop μ-loop
 returns-3 c = search needs
 
@@ -73,4 +76,5 @@ read-lengths-spec =
     add-k
     loop-less
     loop-again
+    lengths-of-requires
     returns-3)
