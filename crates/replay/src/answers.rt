@@ -7,6 +7,7 @@ use crate::print::print_last;
 use crate::print::print_number;
 use crate::print::print_ok;
 use crate::print::print_words;
+use judging::Judged;
 use refusal::Refusal;
 use refusal::Written;
 use responses::Response;
@@ -17,17 +18,21 @@ use session::Word;
 pub const NAMES: [u8; 152] =
     *b"add-recipient add-identity wrap-file-key recipient-stanza done other msg confirm request-public request-secret file-key error ok yes no fail unsupported";
 
-// The answer is printed already, up to some byte of the output buffer; the line is no call; no session is open for it, or the end that is
-// open does not have it; it is refused; or it is accepted: with nothing to tell, with a text of some bytes at the front of the buffer lent,
-// or a command or a response was received (the number of its word, how many bytes it took, and how many stand at the front of the buffer).
+// The answer is printed already, up to some byte of the output buffer; the line is no call; no session is open for it, or the end that is open
+// does not have it; it is refused; or it is accepted: with nothing to tell, one of a few words, a number, a text of some bytes at the front of
+// the buffer lent, a command or a response received (the number of its word, how many bytes it took, and how many stand at the front of the
+// buffer lent), or a verdict.
 pub enum Answer {
     Printed(usize),
     Bad,
     Missing,
     Refused(Refusal),
     Accepted,
+    Finding(usize),
+    Number(u64),
     Text(usize),
     Received(usize, usize, usize),
+    Judged(Judged),
 }
 
 // The answer of a call that wrote to the front of the buffer lent.
@@ -76,6 +81,9 @@ pub fn number_response(response: Response) -> usize {
     }
 }
 
+// The words of an answer that is one of a few, which number them.
+const FINDINGS: [u8; 44] = *b"holds fails conforming nonconforming unknown";
+
 // Prints the answer of a line, unless that is skipped.
 pub fn print_answer(
     answer: Answer,
@@ -94,13 +102,16 @@ pub fn print_answer(
         Answer::Missing => print_bytes(b"none\n", out, at),
         Answer::Refused(r) => print_numbered(b"refused", refusal::number(r) as u64, out, at),
         Answer::Accepted => print_bytes(b"ok\n", out, at),
+        Answer::Finding(k) => print_text(stanza::argument(&FINDINGS, k), out, at),
+        Answer::Number(n) => print_numbered(b"ok", n, out, at),
         Answer::Text(n) => print_text(front(buffer, n), out, at),
         Answer::Received(k, taken, n) => print_received(k, taken as u64, front(buffer, n), out, at),
+        Answer::Judged(judged) => print_judged(judged, out, at),
     }
 }
 
 // Some words and a number.
-pub fn print_numbered(words: &[u8], number: u64, out: &mut Output, at: usize) -> usize {
+fn print_numbered(words: &[u8], number: u64, out: &mut Output, at: usize) -> usize {
     let a = print_bytes(words, out, at);
     let b = print_number(number, out, a);
     print_end(out, b)
@@ -117,4 +128,15 @@ fn print_received(k: usize, taken: u64, bytes: &[u8], out: &mut Output, at: usiz
     let a = print_ok(out, at);
     let b = print_number(taken, out, a);
     print_words(stanza::argument(&NAMES, k), bytes, out, b)
+}
+
+// The judging program's verdict.
+fn print_judged(judged: Judged, out: &mut Output, at: usize) -> usize {
+    let a = print_ok(out, at);
+    let b = print_number(judged.recipients as u64, out, a);
+    let c = print_number(judged.identities as u64, out, b);
+    let d = print_number(judged.keys as u64, out, c);
+    let e = print_number(judged.headers as u64, out, d);
+    let f = print_number(judged.answer as u64, out, e);
+    print_end(out, f)
 }

@@ -1,13 +1,10 @@
 // The calls that need no session, a function for each: it judges the words of the line and makes the call.
 use crate::answers::Answer;
 use crate::answers::answer_of;
-use crate::answers::print_numbered;
-use crate::answers::print_text;
 use crate::parts::Buffer;
 use crate::parts::cut;
 use crate::parts::front;
 use crate::print::Output;
-use crate::print::print_end;
 use crate::print::print_number;
 use crate::print::print_ok;
 use crate::print::print_words;
@@ -16,7 +13,6 @@ use crate::words::last_word;
 use crate::words::word;
 use bech32::Kind;
 use bech32::Reading;
-use judging::Judged;
 use profile::Conformity;
 use refusal::Written;
 use script::Call;
@@ -39,10 +35,10 @@ pub fn call_plain(
 ) -> Answer {
     match call {
         Call::Stanza => call_stanza(text, w, buffer, out, at),
-        Call::Index => call_index(text, w, out, at),
-        Call::Checksum => call_checksum(text, w, out, at),
-        Call::Profile => call_profile(text, w, out, at),
-        Call::Judge => call_judge(text, w, out, at),
+        Call::Index => call_index(text, w),
+        Call::Checksum => call_checksum(text, w),
+        Call::Profile => call_profile(text, w),
+        Call::Judge => call_judge(text, w),
         _ => with_buffer(call, text, w, buffer, out, at),
     }
 }
@@ -124,68 +120,56 @@ fn call_write(text: &[u8], w: Words, buffer: &mut [u8]) -> Answer {
 }
 
 // index TEXT
-fn call_index(text: &[u8], w: Words, out: &mut Output, at: usize) -> Answer {
+fn call_index(text: &[u8], w: Words) -> Answer {
     if w.count != 2 {
         return Answer::Bad;
     }
     let i = stanza::read_index(word(text, w, 1));
     match i {
-        Index::Number(n) => Answer::Printed(print_numbered(b"ok", n as u64, out, at)),
+        Index::Number(n) => Answer::Number(n as u64),
         Index::Refused(r) => Answer::Refused(r),
     }
 }
 
 // checksum TEXT
-fn call_checksum(text: &[u8], w: Words, out: &mut Output, at: usize) -> Answer {
+fn call_checksum(text: &[u8], w: Words) -> Answer {
     if w.count != 2 {
         return Answer::Bad;
     }
     if bech32::holds(word(text, w, 1)) {
-        return Answer::Printed(print_text(b"holds", out, at));
+        return Answer::Finding(0);
     }
-    Answer::Printed(print_text(b"fails", out, at))
+    Answer::Finding(1)
 }
 
 // profile NAME LINE BODY
-fn call_profile(text: &[u8], w: Words, out: &mut Output, at: usize) -> Answer {
+fn call_profile(text: &[u8], w: Words) -> Answer {
     if w.count != 4 {
         return Answer::Bad;
     }
     let body = word(text, w, 3);
     let found = profile::check(word(text, w, 1), word(text, w, 2), body.len());
     match found {
-        Conformity::Conforming => Answer::Printed(print_text(b"conforming", out, at)),
-        Conformity::Nonconforming => Answer::Printed(print_text(b"nonconforming", out, at)),
-        Conformity::Unknown => Answer::Printed(print_text(b"unknown", out, at)),
+        Conformity::Conforming => Answer::Finding(2),
+        Conformity::Nonconforming => Answer::Finding(3),
+        Conformity::Unknown => Answer::Finding(4),
     }
 }
 
 // judge TEXT, lent buffers as the judging program lends them
-fn call_judge(text: &[u8], w: Words, out: &mut Output, at: usize) -> Answer {
+fn call_judge(text: &[u8], w: Words) -> Answer {
     if w.count != 2 {
         return Answer::Bad;
     }
     let mut recipients = [0u8; 16384];
     let mut identities = [0u8; 16384];
     let mut keys = [0u8; 1024];
-    let judged = judging::judge(
+    Answer::Judged(judging::judge(
         word(text, w, 1),
         &mut recipients,
         &mut identities,
         &mut keys,
-    );
-    Answer::Printed(print_judged(judged, out, at))
-}
-
-// The judging program's verdict.
-fn print_judged(judged: Judged, out: &mut Output, at: usize) -> usize {
-    let a = print_ok(out, at);
-    let b = print_number(judged.recipients as u64, out, a);
-    let c = print_number(judged.identities as u64, out, b);
-    let d = print_number(judged.keys as u64, out, c);
-    let e = print_number(judged.headers as u64, out, d);
-    let f = print_number(judged.answer as u64, out, e);
-    print_end(out, f)
+    ))
 }
 
 // recipient TEXT OUT, identity TEXT OUT

@@ -17,6 +17,7 @@ mod words;
 
 use answers::print_answer;
 use host::no_session;
+use lines::Line;
 use lines::advance;
 use lines::start;
 use parts::Buffer;
@@ -26,7 +27,7 @@ use print::flush;
 use turns::make_call;
 use words::read_line;
 
-// The line buffer takes a byte more than the longest line, so that a longer one shows. The last seven buffers are those of the session's kinds.
+// The last seven buffers are those of the session's kinds.
 fn main() {
     let mut chunk = io::large_buffer();
     let mut line = [0u8; 65537];
@@ -60,7 +61,7 @@ fn main() {
 // number that no run uses up.
 fn run(
     chunk: &mut Buffer,
-    line: &mut [u8; 65537],
+    line: &mut Line,
     text: &mut Buffer,
     buffer: &mut Buffer,
     out: &mut Output,

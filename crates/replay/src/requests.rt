@@ -12,25 +12,30 @@ use script::Reply;
 // The longest output buffer.
 const LONGEST: u64 = 65536;
 
-// A call that needs no session; one that opens a session or sets the lengths of its buffers; one that the session makes; an entry by kind
-// and number; all tables; one that no open session takes; or no call.
+// A call that needs no session; one that opens a session or sets the lengths of its buffers; one of phase one or of phase two; an entry by
+// kind and number; all tables; one that no open session takes; or no call.
 pub enum Request {
     Plain(Call),
     Setting(Call),
-    Talk(Talk),
+    PhaseOne(TalkOne),
+    PhaseTwo(TalkTwo),
     Entry(Kind, usize),
     Show,
     Missing,
     Bad,
 }
 
-// Phase one is sent and received, phase two likewise; the client's host replies, or the plugin receives a response. The number is the
-// length of the output buffer.
-pub enum Talk {
-    SendOne(usize),
-    ReceiveOne,
-    SendTwo(usize),
-    ReceiveTwo(usize),
+// The client end sends, lent an output buffer of some length, or the plugin end receives.
+pub enum TalkOne {
+    Send(usize),
+    Receive,
+}
+
+// The plugin end sends, the client end receives, the client's host replies, or the plugin end receives a response, each lent an output
+// buffer of some length.
+pub enum TalkTwo {
+    Send(usize),
+    Receive(usize),
     Reply(Response, usize),
     Response(usize),
 }
@@ -66,8 +71,8 @@ fn send_at(end: End, out: Number) -> Request {
     };
     match end {
         End::Nothing => Request::Missing,
-        End::Client => Request::Talk(Talk::SendOne(n as usize)),
-        End::Plugin => Request::Talk(Talk::SendTwo(n as usize)),
+        End::Client => Request::PhaseOne(TalkOne::Send(n as usize)),
+        End::Plugin => Request::PhaseTwo(TalkTwo::Send(n as usize)),
     }
 }
 
@@ -78,8 +83,8 @@ fn receive_at(end: End, out: Number) -> Request {
     };
     match end {
         End::Nothing => Request::Missing,
-        End::Client => Request::Talk(Talk::ReceiveTwo(n as usize)),
-        End::Plugin => Request::Talk(Talk::ReceiveOne),
+        End::Client => Request::PhaseTwo(TalkTwo::Receive(n as usize)),
+        End::Plugin => Request::PhaseOne(TalkOne::Receive),
     }
 }
 
@@ -89,7 +94,7 @@ fn response_at(end: End, out: Number) -> Request {
         return Request::Bad;
     };
     match end {
-        End::Plugin => Request::Talk(Talk::Response(n as usize)),
+        End::Plugin => Request::PhaseTwo(TalkTwo::Response(n as usize)),
         _ => Request::Missing,
     }
 }
@@ -103,22 +108,22 @@ fn read_reply(text: &[u8], w: Words) -> Request {
     let n = v as usize;
     let reply = script::choose_reply(word(text, w, 1));
     match reply {
-        Reply::Ok => Request::Talk(Talk::Reply(Response::Ok, n)),
-        Reply::Yes => Request::Talk(Talk::Reply(Response::Yes, n)),
-        Reply::No => Request::Talk(Talk::Reply(Response::No, n)),
-        Reply::Fail => Request::Talk(Talk::Reply(Response::Fail, n)),
-        Reply::Unsupported => Request::Talk(Talk::Reply(Response::Unsupported, n)),
+        Reply::Ok => Request::PhaseTwo(TalkTwo::Reply(Response::Ok, n)),
+        Reply::Yes => Request::PhaseTwo(TalkTwo::Reply(Response::Yes, n)),
+        Reply::No => Request::PhaseTwo(TalkTwo::Reply(Response::No, n)),
+        Reply::Fail => Request::PhaseTwo(TalkTwo::Reply(Response::Fail, n)),
+        Reply::Unsupported => Request::PhaseTwo(TalkTwo::Reply(Response::Unsupported, n)),
         Reply::Other => Request::Bad,
     }
 }
 
 // A reply at the end that is open; the plugin end does not have it.
 fn reply_at(end: End, request: Request) -> Request {
-    let Request::Talk(reply) = request else {
+    let Request::PhaseTwo(reply) = request else {
         return request;
     };
     match end {
-        End::Client => Request::Talk(reply),
+        End::Client => Request::PhaseTwo(reply),
         _ => Request::Missing,
     }
 }

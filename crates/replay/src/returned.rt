@@ -1,5 +1,6 @@
 // What `show` prints of phase two, by the library's look-ups: the errors, and the stanzas and keys that were returned, file by file.
 use crate::host::Lengths;
+use crate::parts::Buffer;
 use crate::parts::front;
 use crate::print::Output;
 use crate::print::print_bytes;
@@ -17,9 +18,9 @@ const NO_FILE: usize = usize::MAX;
 pub fn print_returned(
     tables: Tables,
     lengths: Lengths,
-    errors: &[u8],
-    stanzas: &[u8],
-    returned: &[u8],
+    errors: &Buffer,
+    stanzas: &Buffer,
+    returned: &Buffer,
     out: &mut Output,
     at: usize,
 ) -> usize {

@@ -5,6 +5,7 @@ use crate::answers::number_two;
 use crate::answers::print_text;
 use crate::host::Host;
 use crate::host::Lengths;
+use crate::parts::Buffer;
 use crate::parts::front;
 use crate::parts::least;
 use crate::print::Output;
@@ -39,8 +40,8 @@ pub fn look_up<'a>(
     kind: Kind,
     n: usize,
     host: Host,
-    recipients: &'a [u8],
-    identities: &'a [u8],
+    recipients: &'a Buffer,
+    identities: &'a Buffer,
     out: &mut Output,
     at: usize,
 ) -> Answer {
@@ -54,13 +55,13 @@ pub fn look_up<'a>(
 // show
 pub fn show(
     host: Host,
-    recipients: &[u8],
-    identities: &[u8],
-    keys: &[u8],
-    headers: &[u8],
-    errors: &[u8],
-    stanzas: &[u8],
-    returned: &[u8],
+    recipients: &Buffer,
+    identities: &Buffer,
+    keys: &Buffer,
+    headers: &Buffer,
+    errors: &Buffer,
+    stanzas: &Buffer,
+    returned: &Buffer,
     out: &mut Output,
     at: usize,
 ) -> Answer {
@@ -115,10 +116,10 @@ fn phase_number(phase: Phase) -> usize {
 fn print_given(
     tables: Tables,
     lengths: Lengths,
-    recipients: &[u8],
-    identities: &[u8],
-    keys: &[u8],
-    headers: &[u8],
+    recipients: &Buffer,
+    identities: &Buffer,
+    keys: &Buffer,
+    headers: &Buffer,
     out: &mut Output,
     at: usize,
 ) -> usize {

@@ -9,7 +9,8 @@ use crate::host::answered;
 use crate::parts::Buffer;
 use crate::print::Output;
 use crate::requests::Request;
-use crate::requests::Talk;
+use crate::requests::TalkOne;
+use crate::requests::TalkTwo;
 use crate::requests::read_request;
 use crate::second_phase::receive_response;
 use crate::second_phase::receive_two;
@@ -42,7 +43,8 @@ pub fn make_call(
     match request {
         Request::Plain(call) => answered(call_plain(call, text, w, buffer, out, at), host),
         Request::Setting(call) => set(call, text, w, host, r, i, k, h, e, s, f),
-        Request::Talk(t) => talk(t, text, w, buffer, host, r, i, k, h, e, s, f),
+        Request::PhaseOne(t) => talk_one(t, text, w, buffer, host, r, i, k, h),
+        Request::PhaseTwo(t) => talk_two(t, text, w, buffer, host, e, s, f),
         Request::Entry(kind, n) => answered(look_up(kind, n, host, r, i, out, at), host),
         Request::Show => answered(show(host, r, i, k, h, e, s, f, out, at), host),
         Request::Missing => answered(Answer::Missing, host),
@@ -50,9 +52,9 @@ pub fn make_call(
     }
 }
 
-// Makes a call of the session.
-fn talk(
-    t: Talk,
+// Makes a call of phase one.
+fn talk_one(
+    t: TalkOne,
     text: &[u8],
     w: Words,
     buffer: &mut Buffer,
@@ -61,16 +63,28 @@ fn talk(
     i: &mut Buffer,
     k: &mut Buffer,
     h: &mut Buffer,
+) -> Turn {
+    match t {
+        TalkOne::Send(n) => send_one(n, text, w, buffer, host, r, i, k, h),
+        TalkOne::Receive => receive_one(text, w, host, r, i, k, h),
+    }
+}
+
+// Makes a call of phase two.
+fn talk_two(
+    t: TalkTwo,
+    text: &[u8],
+    w: Words,
+    buffer: &mut Buffer,
+    host: Host,
     e: &mut Buffer,
     s: &mut Buffer,
     f: &mut Buffer,
 ) -> Turn {
     match t {
-        Talk::SendOne(n) => send_one(n, text, w, buffer, host, r, i, k, h),
-        Talk::ReceiveOne => receive_one(text, w, host, r, i, k, h),
-        Talk::SendTwo(n) => send_two(n, text, w, buffer, host, e, s, f),
-        Talk::ReceiveTwo(n) => receive_two(n, text, w, buffer, host, e, s, f),
-        Talk::Reply(response, n) => reply(n, response, text, w, buffer, host),
-        Talk::Response(n) => receive_response(n, text, w, buffer, host),
+        TalkTwo::Send(n) => send_two(n, text, w, buffer, host, e, s, f),
+        TalkTwo::Receive(n) => receive_two(n, text, w, buffer, host, e, s, f),
+        TalkTwo::Reply(response, n) => reply(n, response, text, w, buffer, host),
+        TalkTwo::Response(n) => receive_response(n, text, w, buffer, host),
     }
 }

@@ -1,4 +1,5 @@
 // The words of a line, read into one buffer with a space between two.
+use crate::parts::Buffer;
 use crate::parts::least;
 use crate::parts::part;
 use refusal::Written;
@@ -35,7 +36,7 @@ fn no_words(skipped: bool) -> Words {
 }
 
 // The words of a line into `text`, which is as long as the longest line. An empty line, a comment and a line that has not ended are skipped.
-pub fn read_line(line: &[u8], ended: bool, text: &mut [u8]) -> Words {
+pub fn read_line(line: &[u8], ended: bool, text: &mut Buffer) -> Words {
     if !ended {
         return no_words(true);
     }
@@ -52,7 +53,7 @@ pub fn read_line(line: &[u8], ended: bool, text: &mut [u8]) -> Words {
 }
 
 // The words of a line that is not skipped.
-fn read_words(line: &[u8], text: &mut [u8]) -> Words {
+fn read_words(line: &[u8], text: &mut Buffer) -> Words {
     let count = stanza::count(line);
     if MOST < count {
         return no_words(false);
@@ -96,7 +97,7 @@ fn read_word(word: &[u8], text: &mut [u8], at: usize) -> End {
 }
 
 // A space, unless the buffer is full: where the next word starts.
-fn put_space(text: &mut [u8], at: usize) -> usize {
+fn put_space(text: &mut Buffer, at: usize) -> usize {
     if at < text.len() {
         text[at] = b' ';
         return at + 1;

@@ -1,4 +1,4 @@
--- `read_words` is safe and ends. The invariant: k is at most the count, and the buffer and the tables keep their lengths.
+-- `read_words` is safe and ends. The invariant: k is at most the count, and the tables keep their lengths.
 use Prim.Native.Nat.{_-_, _≤_}
 use mathlib.Core.Path.{_≡_}
 use lib.ListN.{length}
@@ -7,7 +7,7 @@ use Rattle.replay.proofs.words.read_words.Statement.{statement}
 use Rattle.replay.proofs.words.read_words.Tie as tie
 
 abbrev Inv-loop : tie.InvT-loop
-Inv-loop line text₀ count starts₀ ends₀ at₀ k₀ text starts ends at k = (k ≤ count) × (length text ≡ length text₀) × (length starts ≡ 16) × (length ends ≡ 16)
+Inv-loop line text₀ count starts₀ ends₀ at₀ k₀ text starts ends at k = (k ≤ count) × (length starts ≡ 16) × (length ends ≡ 16)
 
 abbrev μ-loop : tie.MeasureT-loop
 μ-loop line text₀ count starts₀ ends₀ at₀ k₀ text starts ends at k = count - k
@@ -39,9 +39,6 @@ enum-told c = search needs
 no-words-requires-2 : tie.Need-no-words-requires-2 Inv-loop μ-loop
 no-words-requires-2 c κs = search needs
 
-same-length : tie.Need-same-length Inv-loop μ-loop
-same-length c = search needs
-
 returns-2 : tie.Need-returns-2 Inv-loop μ-loop
 returns-2 c = search needs
 
@@ -69,9 +66,6 @@ loop-less c = search needs
 loop-again : tie.Need-loop-again Inv-loop μ-loop
 loop-again c = search needs
 
-same-length-2 : tie.Need-same-length-2 Inv-loop μ-loop
-same-length-2 c = search needs
-
 returns-3 : tie.Need-returns-3 Inv-loop μ-loop
 returns-3 c = search needs
 
@@ -90,7 +84,6 @@ read-words-spec =
     enum-known-e
     enum-told
     no-words-requires-2
-    same-length
     returns-2
     mul-starts
     array-write-starts
@@ -100,5 +93,4 @@ read-words-spec =
     add-k
     loop-less
     loop-again
-    same-length-2
     returns-3)
