@@ -1,30 +1,35 @@
 // The calls that need no session, a function for each: it judges the words of the line and makes the call.
+use crate::answers::Answer;
+use crate::answers::answer_of;
+use crate::parts::Buffer;
+use crate::parts::cut;
+use crate::parts::front;
 use crate::print::Output;
 use crate::print::print_number;
 use crate::print::print_ok;
 use crate::print::print_words;
+use crate::words::Words;
+use crate::words::last_word;
+use crate::words::word;
 use bech32::Kind;
 use bech32::Reading;
 use profile::Conformity;
 use refusal::Written;
-use rehearsal::Answer;
-use rehearsal::Words;
-use rehearsal::answer_of;
-use rehearsal::front;
-use rehearsal::last_word;
-use rehearsal::word;
 use script::Call;
 use script::Number;
 use stanza::First;
 use stanza::Index;
 use stanza::Stanza;
 
+// The longest output buffer.
+const LONGEST: u64 = 65536;
+
 // Makes the call of a line.
 pub fn call_plain(
     call: Call,
     text: &[u8],
     w: Words,
-    buffer: &mut [u8],
+    buffer: &mut Buffer,
     out: &mut Output,
     at: usize,
 ) -> Answer {
@@ -47,12 +52,11 @@ fn with_buffer(
     out: &mut Output,
     at: usize,
 ) -> Answer {
-    let length = script::read_number(last_word(text, w), buffer.len() as u64);
+    let length = script::read_number(last_word(text, w), LONGEST);
     let Number::Value(v) = length else {
         return Answer::Bad;
     };
-    let n = v as usize;
-    call_buffered(call, text, w, &mut buffer[..n], out, at)
+    call_buffered(call, text, w, cut(buffer, v as usize), out, at)
 }
 
 // The same, lent the buffer of that length.
@@ -75,7 +79,7 @@ fn call_buffered(
 }
 
 // stanza TEXT
-fn call_stanza(text: &[u8], w: Words, buffer: &mut [u8], out: &mut Output, at: usize) -> Answer {
+fn call_stanza(text: &[u8], w: Words, buffer: &mut Buffer, out: &mut Output, at: usize) -> Answer {
     if w.count != 2 {
         return Answer::Bad;
     }
@@ -88,7 +92,13 @@ fn call_stanza(text: &[u8], w: Words, buffer: &mut [u8], out: &mut Output, at: u
 }
 
 // The line of a stanza that was read.
-fn print_stanza(text: &[u8], s: Stanza, buffer: &mut [u8], out: &mut Output, at: usize) -> Answer {
+fn print_stanza(
+    text: &[u8],
+    s: Stanza,
+    buffer: &mut Buffer,
+    out: &mut Output,
+    at: usize,
+) -> Answer {
     let body = stanza::body_of(text, s, buffer);
     match body {
         Written::Bytes(n) => {

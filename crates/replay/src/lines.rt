@@ -1,10 +1,15 @@
 // The lines of standard input, read in chunks. Answers are written before more input is read.
+use crate::parts::Buffer;
+use crate::parts::append;
+use crate::parts::front;
+use crate::parts::part;
+use crate::print::Output;
 use crate::print::flush;
 use libc::STDERR_FILENO;
 use libc::STDIN_FILENO;
-use rehearsal::append;
-use rehearsal::front;
-use rehearsal::part;
+
+// The line buffer takes a byte more than the longest line, so that a longer one shows.
+pub type Line = [u8; 65537];
 
 // Where the run stands: whether more input may come, the part of the chunk that is not taken yet, how many bytes of the current line have
 // come, as far as the line buffer takes them, whether it has ended, how many lines have, and how many bytes of the output buffer are in use.
@@ -32,7 +37,7 @@ pub fn start() -> State {
 }
 
 // One step: more bytes of the current line, which may end it; or, where the chunk is taken, another chunk.
-pub fn advance(chunk: &mut [u8], line: &mut [u8], out: &[u8], s: State) -> State {
+pub fn advance(chunk: &mut Buffer, line: &mut Line, out: &Output, s: State) -> State {
     let kept = kept_length(s.ended, s.length);
     if s.from < s.to {
         return take_piece(front(chunk, s.to), line, kept, s);

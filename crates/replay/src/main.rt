@@ -2,24 +2,32 @@
 // answered by its number, and the run goes on.
 mod answers;
 mod calls;
+mod first_phase;
+mod host;
 mod lines;
+mod parts;
 mod print;
+mod requests;
 mod returned;
+mod second_phase;
+mod settings;
 mod show;
 mod turns;
+mod words;
 
 use answers::print_answer;
+use host::no_session;
+use lines::Line;
 use lines::advance;
 use lines::start;
+use parts::Buffer;
+use parts::front;
 use print::Output;
 use print::flush;
-use rehearsal::Buffer;
-use rehearsal::front;
-use rehearsal::no_session;
-use rehearsal::read_line;
 use turns::make_call;
+use words::read_line;
 
-// The line buffer takes a byte more than the longest line, so that a longer one shows. The last seven buffers are those of the session's kinds.
+// The last seven buffers are those of the session's kinds.
 fn main() {
     let mut chunk = io::large_buffer();
     let mut line = [0u8; 65537];
@@ -53,7 +61,7 @@ fn main() {
 // number that no run uses up.
 fn run(
     chunk: &mut Buffer,
-    line: &mut [u8; 65537],
+    line: &mut Line,
     text: &mut Buffer,
     buffer: &mut Buffer,
     out: &mut Output,

@@ -2,12 +2,12 @@
 // those in use, these are written to standard output first.
 ghost use Prim.Native.Nat.{_≤_};
 ghost use lib.ListN.{length};
+use crate::parts::append;
+use crate::parts::front;
+use crate::parts::least;
 use libc::STDERR_FILENO;
 use libc::STDOUT_FILENO;
 use refusal::Written;
-use rehearsal::append;
-use rehearsal::front;
-use rehearsal::least;
 
 // The output buffer.
 pub type Output = [u8; 131072];
@@ -90,9 +90,14 @@ pub fn print_end(out: &mut Output, at: usize) -> usize {
     print_bytes(b"\n", out, at)
 }
 
+// The last word of a line.
+pub fn print_last(bytes: &[u8], out: &mut Output, at: usize) -> usize {
+    let next = print_word(bytes, out, at);
+    print_end(out, next)
+}
+
 // The last two words of a line.
 pub fn print_words(first: &[u8], second: &[u8], out: &mut Output, at: usize) -> usize {
-    let a = print_word(first, out, at);
-    let b = print_word(second, out, a);
-    print_end(out, b)
+    let next = print_word(first, out, at);
+    print_last(second, out, next)
 }

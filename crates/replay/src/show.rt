@@ -1,16 +1,21 @@
 // What the lines `entry` and `show` print: texts and tables as the buffers lent now show them; those of phase two have a file of their own.
+use crate::answers::Answer;
+use crate::answers::NAMES;
+use crate::answers::number_two;
 use crate::answers::print_text;
+use crate::host::Host;
+use crate::host::Lengths;
+use crate::parts::Buffer;
+use crate::parts::front;
+use crate::parts::least;
 use crate::print::Output;
 use crate::print::print_bytes;
 use crate::print::print_end;
 use crate::print::print_number;
 use crate::print::print_word;
 use crate::returned::print_returned;
-use client::Session;
-use rehearsal::Look;
-use rehearsal::NAMES;
-use rehearsal::least;
-use rehearsal::place_two;
+use bech32::Kind;
+use look_up_two::Awaited;
 use session::Phase;
 use session::Tables;
 use tables::Entry;
@@ -30,36 +35,58 @@ const FILE_KEY: usize = 2;
 
 const HEADER: usize = 3;
 
-// Prints what a look at a session shows.
-pub fn print_look<'a>(
-    look: Look,
-    session: Session,
-    recipients: &'a [u8],
-    identities: &'a [u8],
-    keys: &[u8],
-    headers: &[u8],
-    errors: &[u8],
-    stanzas: &[u8],
-    returned: &[u8],
+// entry recipient N, entry identity N
+pub fn look_up<'a>(
+    kind: Kind,
+    n: usize,
+    host: Host,
+    recipients: &'a Buffer,
+    identities: &'a Buffer,
     out: &mut Output,
     at: usize,
-) -> usize {
+) -> Answer {
+    let lengths = host.lengths;
+    let session = host.session;
+    let r = front(recipients, lengths.recipients);
+    let i = front(identities, lengths.identities);
+    Answer::Printed(print_text(session.tables.entry(kind, n, r, i), out, at))
+}
+
+// show
+pub fn show(
+    host: Host,
+    recipients: &Buffer,
+    identities: &Buffer,
+    keys: &Buffer,
+    headers: &Buffer,
+    errors: &Buffer,
+    stanzas: &Buffer,
+    returned: &Buffer,
+    out: &mut Output,
+    at: usize,
+) -> Answer {
+    let lengths = host.lengths;
+    let session = host.session;
+    let phase = session.phase;
     let tables = session.tables;
-    match look {
-        Look::Entry(kind, n) => print_text(tables.entry(kind, n, recipients, identities), out, at),
-        Look::Show => {
-            let phase = session.phase;
-            let a = print_phase(phase, out, at);
-            let b = print_given(tables, recipients, identities, keys, headers, out, a);
-            print_returned(tables, errors, stanzas, returned, out, b)
-        }
-    }
+    let a = print_phase(phase, out, at);
+    let b = print_given(
+        tables,
+        lengths,
+        recipients,
+        identities,
+        keys,
+        headers,
+        out,
+        a,
+    );
+    Answer::Printed(print_returned(tables, lengths, errors, stanzas, returned, out, b))
 }
 
 // The lines of the phase, and of the command that awaits an answer.
 fn print_phase(phase: Phase, out: &mut Output, at: usize) -> usize {
     let a = print_bytes(b"phase", out, at);
-    let b = print_word(stanza::argument(&PHASES, place_of(phase)), out, a);
+    let b = print_word(stanza::argument(&PHASES, phase_number(phase)), out, a);
     let c = print_bytes(b"\nawaits", out, b);
     let d = print_awaited(phase, out, c);
     print_end(out, d)
@@ -67,14 +94,15 @@ fn print_phase(phase: Phase, out: &mut Output, at: usize) -> usize {
 
 // The word of the command that awaits an answer.
 fn print_awaited(phase: Phase, out: &mut Output, at: usize) -> usize {
-    match phase {
-        Phase::Awaiting(word) => print_word(stanza::argument(&NAMES, place_two(word)), out, at),
-        _ => print_bytes(b" -", out, at),
+    let awaited = look_up_two::awaited_command(phase);
+    match awaited {
+        Awaited::Command(word) => print_word(stanza::argument(&NAMES, number_two(word)), out, at),
+        Awaited::Nothing => print_bytes(b" -", out, at),
     }
 }
 
 // The number of a phase.
-fn place_of(phase: Phase) -> usize {
+fn phase_number(phase: Phase) -> usize {
     match phase {
         Phase::One => 0,
         Phase::Two => 1,
@@ -87,17 +115,30 @@ fn place_of(phase: Phase) -> usize {
 // The tables of phase one.
 fn print_given(
     tables: Tables,
-    recipients: &[u8],
-    identities: &[u8],
-    keys: &[u8],
-    headers: &[u8],
+    lengths: Lengths,
+    recipients: &Buffer,
+    identities: &Buffer,
+    keys: &Buffer,
+    headers: &Buffer,
     out: &mut Output,
     at: usize,
 ) -> usize {
-    let a = print_table(0, tables.recipients, recipients, out, at);
-    let b = print_table(1, tables.identities, identities, out, a);
-    let c = print_table(FILE_KEY, tables.keys, keys, out, b);
-    print_headers(tables.headers, headers, out, c)
+    let a = print_table(
+        0,
+        tables.recipients,
+        front(recipients, lengths.recipients),
+        out,
+        at,
+    );
+    let b = print_table(
+        1,
+        tables.identities,
+        front(identities, lengths.identities),
+        out,
+        a,
+    );
+    let c = print_table(FILE_KEY, tables.keys, front(keys, lengths.keys), out, b);
+    print_headers(tables.headers, front(headers, lengths.headers), out, c)
 }
 
 // The entries of a table of 64 slots.

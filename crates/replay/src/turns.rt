@@ -1,124 +1,90 @@
 // The call of a line.
+use crate::answers::Answer;
 use crate::calls::call_plain;
+use crate::first_phase::receive_one;
+use crate::first_phase::send_one;
+use crate::host::Host;
+use crate::host::Turn;
+use crate::host::answered;
+use crate::parts::Buffer;
 use crate::print::Output;
-use crate::show::print_look;
-use rehearsal::Answer;
-use rehearsal::Buffer;
-use rehearsal::Host;
-use rehearsal::Look;
-use rehearsal::Request;
-use rehearsal::Turn;
-use rehearsal::Words;
-use rehearsal::exchange_in;
-use rehearsal::front;
-use rehearsal::read_request;
-use rehearsal::set_in;
-use rehearsal::talk_one;
-use rehearsal::talk_two;
+use crate::requests::Request;
+use crate::requests::TalkOne;
+use crate::requests::TalkTwo;
+use crate::requests::read_request;
+use crate::second_phase::receive_response;
+use crate::second_phase::receive_two;
+use crate::second_phase::reply;
+use crate::second_phase::send_two;
+use crate::settings::set;
+use crate::show::look_up;
+use crate::show::show;
+use crate::words::Words;
 
-// Makes the call of a line.
+// Makes the call of a line. The session's buffers have the letters of the script: recipients, identities, file keys, header stanzas,
+// errors, returned stanzas and returned keys.
 pub fn make_call(
     w: Words,
     text: &[u8],
-    buffer: &mut [u8],
+    buffer: &mut Buffer,
     out: &mut Output,
     at: usize,
     host: Host,
-    recipients: &mut Buffer,
-    identities: &mut Buffer,
-    keys: &mut Buffer,
-    headers: &mut Buffer,
-    errors: &mut Buffer,
-    stanzas: &mut Buffer,
-    returned: &mut Buffer,
+    r: &mut Buffer,
+    i: &mut Buffer,
+    k: &mut Buffer,
+    h: &mut Buffer,
+    e: &mut Buffer,
+    s: &mut Buffer,
+    f: &mut Buffer,
 ) -> Turn {
-    let call = w.call;
     let end = host.end;
-    let request = read_request(call, end, text, w);
+    let request = read_request(end, text, w);
     match request {
-        Request::Plain => answered(call_plain(call, text, w, buffer, out, at), host),
-        Request::Setting => set_in(
-            call,
-            text,
-            w,
-            host,
-            recipients,
-            identities,
-            keys,
-            headers,
-            errors,
-            stanzas,
-            returned,
-        ),
-        Request::PhaseOne(t) => talk_one(
-            t,
-            text,
-            w,
-            buffer,
-            host,
-            recipients,
-            identities,
-            keys,
-            headers,
-        ),
-        Request::PhaseTwo(t) => talk_two(t, text, w, buffer, host, errors, stanzas, returned),
-        Request::Exchange(e) => exchange_in(e, text, w, buffer, host),
-        Request::Look(l) => answered(
-            call_look(
-                l,
-                host,
-                recipients,
-                identities,
-                keys,
-                headers,
-                errors,
-                stanzas,
-                returned,
-                out,
-                at,
-            ),
-            host,
-        ),
+        Request::Plain(call) => answered(call_plain(call, text, w, buffer, out, at), host),
+        Request::Setting(call) => set(call, text, w, host, r, i, k, h, e, s, f),
+        Request::PhaseOne(t) => talk_one(t, text, w, buffer, host, r, i, k, h),
+        Request::PhaseTwo(t) => talk_two(t, text, w, buffer, host, e, s, f),
+        Request::Entry(kind, n) => answered(look_up(kind, n, host, r, i, out, at), host),
+        Request::Show => answered(show(host, r, i, k, h, e, s, f, out, at), host),
         Request::Missing => answered(Answer::Missing, host),
         Request::Bad => answered(Answer::Bad, host),
     }
 }
 
-// A call that changes nothing.
-fn answered(answer: Answer, host: Host) -> Turn {
-    Turn {
-        answer: answer,
-        host: host,
+// Makes a call of phase one.
+fn talk_one(
+    t: TalkOne,
+    text: &[u8],
+    w: Words,
+    buffer: &mut Buffer,
+    host: Host,
+    r: &mut Buffer,
+    i: &mut Buffer,
+    k: &mut Buffer,
+    h: &mut Buffer,
+) -> Turn {
+    match t {
+        TalkOne::Send(n) => send_one(n, text, w, buffer, host, r, i, k, h),
+        TalkOne::Receive => receive_one(text, w, host, r, i, k, h),
     }
 }
 
-// A call that looks at the session, shown the buffers at their lengths.
-fn call_look<'a>(
-    l: Look,
+// Makes a call of phase two.
+fn talk_two(
+    t: TalkTwo,
+    text: &[u8],
+    w: Words,
+    buffer: &mut Buffer,
     host: Host,
-    recipients: &'a [u8],
-    identities: &'a [u8],
-    keys: &[u8],
-    headers: &[u8],
-    errors: &[u8],
-    stanzas: &[u8],
-    returned: &[u8],
-    out: &mut Output,
-    at: usize,
-) -> Answer {
-    let lengths = host.lengths;
-    let session = host.session;
-    Answer::Printed(print_look(
-        l,
-        session,
-        front(recipients, lengths[0]),
-        front(identities, lengths[1]),
-        front(keys, lengths[2]),
-        front(headers, lengths[3]),
-        front(errors, lengths[4]),
-        front(stanzas, lengths[5]),
-        front(returned, lengths[6]),
-        out,
-        at,
-    ))
+    e: &mut Buffer,
+    s: &mut Buffer,
+    f: &mut Buffer,
+) -> Turn {
+    match t {
+        TalkTwo::Send(n) => send_two(n, text, w, buffer, host, e, s, f),
+        TalkTwo::Receive(n) => receive_two(n, text, w, buffer, host, e, s, f),
+        TalkTwo::Reply(response, n) => reply(n, response, text, w, buffer, host),
+        TalkTwo::Response(n) => receive_response(n, text, w, buffer, host),
+    }
 }

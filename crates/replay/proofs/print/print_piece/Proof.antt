@@ -4,7 +4,7 @@ use Prim.Native.Nat.{_-_}
 use lib.ListN.{length, take, drop, length-take, length-drop}
 use denote.Ref.{now}
 use Rattle.script.specs.Escape.{escaped}
-use Rattle.rehearsal.proofs.Laws.{written-fits}
+use Rattle.replay.proofs.Laws.{written-fits}
 use borrow.Author.Needs.{needs}
 use Rattle.replay.proofs.print.print_piece.Statement.{statement}
 use Rattle.replay.proofs.print.print_piece.Tie as tie

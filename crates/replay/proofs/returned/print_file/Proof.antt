@@ -1,38 +1,29 @@
--- `print_file` is safe and ends: n is at most the number of slots.
+-- `print_file` is safe and ends: k is at most the number of stanzas.
 use Prim.Native.Nat.{_-_, _≤_}
 use borrow.Author.Needs.{needs}
 use Rattle.replay.proofs.returned.print_file.Statement.{statement}
 use Rattle.replay.proofs.returned.print_file.Tie as tie
 
 abbrev Inv-loop : tie.InvT-loop
-Inv-loop kind table file buffer out₀ at p₀ n₀ out p n = n ≤ 256
+Inv-loop tables file stanzas out₀ at count next₀ k₀ out next k = k ≤ count
 
 abbrev μ-loop : tie.MeasureT-loop
-μ-loop kind table file buffer out₀ at p₀ n₀ out p n = 256 - n
+μ-loop tables file stanzas out₀ at count next₀ k₀ out next k = count - k
+
+count-stanzas-requires : tie.Need-count-stanzas-requires Inv-loop μ-loop
+count-stanzas-requires c κs = search needs
 
 loop-holds : tie.Need-loop-holds Inv-loop μ-loop
 loop-holds c = search needs
 
-find-requires : tie.Need-find-requires Inv-loop μ-loop
-find-requires c κs = search needs
+stanza-of-requires : tie.Need-stanza-of-requires Inv-loop μ-loop
+stanza-of-requires c κs = search needs
 
-enum-known-found : tie.Need-enum-known-found Inv-loop μ-loop
-enum-known-found c = search needs
+print-stanza-requires : tie.Need-print-stanza-requires Inv-loop μ-loop
+print-stanza-requires c κs = search needs
 
-enum-told : tie.Need-enum-told Inv-loop μ-loop
-enum-told c = search needs
-
-returns : tie.Need-returns Inv-loop μ-loop
-returns c = search needs
-
-payload-requires : tie.Need-payload-requires Inv-loop μ-loop
-payload-requires c κs = search needs
-
-print-entry-requires : tie.Need-print-entry-requires Inv-loop μ-loop
-print-entry-requires c κs = search needs
-
-add-n : tie.Need-add-n Inv-loop μ-loop
-add-n c = search needs
+add-k : tie.Need-add-k Inv-loop μ-loop
+add-k c = search needs
 
 loop-less : tie.Need-loop-less Inv-loop μ-loop
 loop-less c = search needs
@@ -40,8 +31,8 @@ loop-less c = search needs
 loop-again : tie.Need-loop-again Inv-loop μ-loop
 loop-again c = search needs
 
-returns-2 : tie.Need-returns-2 Inv-loop μ-loop
-returns-2 c = search needs
+returns : tie.Need-returns Inv-loop μ-loop
+returns c = search needs
 
 pub print-file-spec : {M : Type 1} → statement M
 print-file-spec =
@@ -49,14 +40,11 @@ print-file-spec =
     (tie.spec
     Inv-loop
     μ-loop
+    count-stanzas-requires
     loop-holds
-    find-requires
-    enum-known-found
-    enum-told
-    returns
-    payload-requires
-    print-entry-requires
-    add-n
+    stanza-of-requires
+    print-stanza-requires
+    add-k
     loop-less
     loop-again
-    returns-2)
+    returns)

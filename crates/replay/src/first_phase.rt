@@ -1,0 +1,116 @@
+// The calls of phase one: the client end sends, the plugin end receives. Each buffer is cut to the length that the host keeps.
+use crate::answers::Answer;
+use crate::answers::answer_of;
+use crate::answers::number_one;
+use crate::host::Host;
+use crate::host::Turn;
+use crate::host::from_plugin;
+use crate::host::to_plugin;
+use crate::parts::cut;
+use crate::words::Words;
+use crate::words::joined_words;
+use crate::words::word;
+use client::Sent;
+use plugin::Received;
+use plugin::Taking;
+use script::Command;
+use session::Word;
+
+// send COMMAND ARGS BODY OUT, where OUT is n
+pub fn send_one(
+    n: usize,
+    text: &[u8],
+    w: Words,
+    buffer: &mut [u8],
+    host: Host,
+    recipients: &mut [u8],
+    identities: &mut [u8],
+    keys: &mut [u8],
+    headers: &mut [u8],
+) -> Turn {
+    let lengths = host.lengths;
+    let command = command_one(word(text, w, 1));
+    let sent = host.session.send(
+        command,
+        arguments_one(command, text, w),
+        word(text, w, 3),
+        cut(recipients, lengths.recipients),
+        cut(identities, lengths.identities),
+        cut(keys, lengths.keys),
+        cut(headers, lengths.headers),
+        cut(buffer, n),
+    );
+    keep_sent(sent, host)
+}
+
+// The command that a word names.
+fn command_one(name: &[u8]) -> Word {
+    let command = script::choose_command(name);
+    match command {
+        Command::AddRecipient => Word::AddRecipient,
+        Command::AddIdentity => Word::AddIdentity,
+        Command::WrapFileKey => Word::WrapFileKey,
+        Command::RecipientStanza => Word::RecipientStanza,
+        Command::Done => Word::Done,
+        Command::Other => Word::Other,
+    }
+}
+
+// The arguments' text of a command; any other word stands first in it.
+fn arguments_one(command: Word, text: &[u8], w: Words) -> &[u8] {
+    match command {
+        Word::Other => joined_words(text, w),
+        _ => word(text, w, 2),
+    }
+}
+
+// What a sending came to.
+fn keep_sent(sent: Sent, mut host: Host) -> Turn {
+    let written = sent.answer;
+    let session = sent.session;
+    host.session = session;
+    Turn {
+        answer: answer_of(written),
+        host: host,
+    }
+}
+
+// receive TEXT OUT; nothing is written in phase one.
+pub fn receive_one(
+    text: &[u8],
+    w: Words,
+    host: Host,
+    recipients: &mut [u8],
+    identities: &mut [u8],
+    keys: &mut [u8],
+    headers: &mut [u8],
+) -> Turn {
+    let lengths = host.lengths;
+    let received = to_plugin(host.session).receive(
+        word(text, w, 1),
+        cut(recipients, lengths.recipients),
+        cut(identities, lengths.identities),
+        cut(keys, lengths.keys),
+        cut(headers, lengths.headers),
+    );
+    keep_received(received, host)
+}
+
+// What a receiving came to.
+fn keep_received(received: Received, mut host: Host) -> Turn {
+    let taking = received.answer;
+    let session = received.session;
+    host.session = from_plugin(session);
+    Turn {
+        answer: answer_taken(taking),
+        host: host,
+    }
+}
+
+// The answer of a command received.
+fn answer_taken(taking: Taking) -> Answer {
+    match taking {
+        Taking::Command(word, taken) => Answer::Received(number_one(word), taken, 0),
+        Taking::Refused(r) => Answer::Refused(r),
+    }
+}

@@ -1,0 +1,96 @@
+// What is open: a session of either end or none, and the lengths of the buffers that each call of it is lent.
+use crate::answers::Answer;
+use client::Session;
+
+// Which end is open.
+pub enum End {
+    Nothing,
+    Client,
+    Plugin,
+}
+
+// The lengths of the session's buffers.
+pub struct Lengths {
+    pub recipients: usize,
+    pub identities: usize,
+    pub keys: usize,
+    pub headers: usize,
+    pub errors: usize,
+    pub stanzas: usize,
+    pub returned: usize,
+}
+
+// The session is kept as one of the client end; one of the plugin end has the same parts but for the screen. Behind its length a buffer has
+// zeros.
+pub struct Host {
+    pub end: End,
+    pub lengths: Lengths,
+    pub session: Session,
+}
+
+// What a call came to, and what is open afterwards.
+pub struct Turn {
+    pub answer: Answer,
+    pub host: Host,
+}
+
+// Lengths in the order of a script.
+pub fn lengths_of(given: [usize; 7]) -> Lengths {
+    Lengths {
+        recipients: given[0],
+        identities: given[1],
+        keys: given[2],
+        headers: given[3],
+        errors: given[4],
+        stanzas: given[5],
+        returned: given[6],
+    }
+}
+
+// Nothing is open; a refused opening left a closed session.
+pub fn no_session() -> Host {
+    let opening = Session::open(b"", b"");
+    let session = opening.session;
+    Host {
+        end: End::Nothing,
+        lengths: lengths_of([0; 7]),
+        session: session,
+    }
+}
+
+// A call that changes nothing.
+pub fn answered(answer: Answer, host: Host) -> Turn {
+    Turn {
+        answer: answer,
+        host: host,
+    }
+}
+
+// A session of the plugin end from its parts.
+pub fn to_plugin(session: Session) -> plugin::Session {
+    let machine = session.machine;
+    let phase = session.phase;
+    let name = session.name;
+    let tables = session.tables;
+    plugin::Session {
+        machine: machine,
+        phase: phase,
+        name: name,
+        tables: tables,
+    }
+}
+
+// The parts of a session of the plugin end.
+pub fn from_plugin(session: plugin::Session) -> Session {
+    let machine = session.machine;
+    let phase = session.phase;
+    let name = session.name;
+    let tables = session.tables;
+    Session {
+        machine: machine,
+        phase: phase,
+        screen: false,
+        name: name,
+        tables: tables,
+    }
+}

@@ -1,0 +1,165 @@
+// What a line asks for. The words of a line that calls a session are judged before any session is looked at.
+use crate::host::End;
+use crate::words::Words;
+use crate::words::last_word;
+use crate::words::word;
+use bech32::Kind;
+use responses::Response;
+use script::Call;
+use script::Number;
+use script::Reply;
+
+// The longest output buffer.
+const LONGEST: u64 = 65536;
+
+// A call that needs no session; one that opens a session or sets the lengths of its buffers; one of phase one or of phase two; an entry by
+// kind and number; all tables; one that no open session takes; or no call.
+pub enum Request {
+    Plain(Call),
+    Setting(Call),
+    PhaseOne(TalkOne),
+    PhaseTwo(TalkTwo),
+    Entry(Kind, usize),
+    Show,
+    Missing,
+    Bad,
+}
+
+// The client end sends, lent an output buffer of some length, or the plugin end receives.
+pub enum TalkOne {
+    Send(usize),
+    Receive,
+}
+
+// The plugin end sends, the client end receives, the client's host replies, or the plugin end receives a response, each lent an output
+// buffer of some length.
+pub enum TalkTwo {
+    Send(usize),
+    Receive(usize),
+    Reply(Response, usize),
+    Response(usize),
+}
+
+// What a line asks for, by its words and by the end that is open.
+pub fn read_request(end: End, text: &[u8], w: Words) -> Request {
+    let call = script::choose_call(word(text, w, 0));
+    match call {
+        Call::Open => Request::Setting(call),
+        Call::Buffers => Request::Setting(call),
+        Call::Send => send_at(end, read_out(5, text, w)),
+        Call::Receive => receive_at(end, read_out(3, text, w)),
+        Call::Response => response_at(end, read_out(3, text, w)),
+        Call::Reply => reply_at(end, read_reply(text, w)),
+        Call::Entry => look_at(end, read_entry(text, w)),
+        Call::Show => look_at(end, read_show(w)),
+        _ => Request::Plain(call),
+    }
+}
+
+// OUT, the last of so many words.
+fn read_out(count: usize, text: &[u8], w: Words) -> Number {
+    if w.count != count {
+        return Number::Bad;
+    }
+    script::read_number(last_word(text, w), LONGEST)
+}
+
+// send COMMAND ARGS BODY OUT: the client's phase is the first, the plugin's the second.
+fn send_at(end: End, out: Number) -> Request {
+    let Number::Value(n) = out else {
+        return Request::Bad;
+    };
+    match end {
+        End::Nothing => Request::Missing,
+        End::Client => Request::PhaseOne(TalkOne::Send(n as usize)),
+        End::Plugin => Request::PhaseTwo(TalkTwo::Send(n as usize)),
+    }
+}
+
+// receive TEXT OUT: each end receives in the other's phase.
+fn receive_at(end: End, out: Number) -> Request {
+    let Number::Value(n) = out else {
+        return Request::Bad;
+    };
+    match end {
+        End::Nothing => Request::Missing,
+        End::Client => Request::PhaseTwo(TalkTwo::Receive(n as usize)),
+        End::Plugin => Request::PhaseOne(TalkOne::Receive),
+    }
+}
+
+// response TEXT OUT, which the client end does not have
+fn response_at(end: End, out: Number) -> Request {
+    let Number::Value(n) = out else {
+        return Request::Bad;
+    };
+    match end {
+        End::Plugin => Request::PhaseTwo(TalkTwo::Response(n as usize)),
+        _ => Request::Missing,
+    }
+}
+
+// reply ANSWER BODY OUT
+fn read_reply(text: &[u8], w: Words) -> Request {
+    let out = read_out(4, text, w);
+    let Number::Value(v) = out else {
+        return Request::Bad;
+    };
+    let n = v as usize;
+    let reply = script::choose_reply(word(text, w, 1));
+    match reply {
+        Reply::Ok => Request::PhaseTwo(TalkTwo::Reply(Response::Ok, n)),
+        Reply::Yes => Request::PhaseTwo(TalkTwo::Reply(Response::Yes, n)),
+        Reply::No => Request::PhaseTwo(TalkTwo::Reply(Response::No, n)),
+        Reply::Fail => Request::PhaseTwo(TalkTwo::Reply(Response::Fail, n)),
+        Reply::Unsupported => Request::PhaseTwo(TalkTwo::Reply(Response::Unsupported, n)),
+        Reply::Other => Request::Bad,
+    }
+}
+
+// A reply at the end that is open; the plugin end does not have it.
+fn reply_at(end: End, request: Request) -> Request {
+    let Request::PhaseTwo(reply) = request else {
+        return request;
+    };
+    match end {
+        End::Client => Request::PhaseTwo(reply),
+        _ => Request::Missing,
+    }
+}
+
+// entry recipient N, entry identity N
+fn read_entry(text: &[u8], w: Words) -> Request {
+    if w.count != 3 {
+        return Request::Bad;
+    }
+    let number = script::read_number(last_word(text, w), u64::MAX);
+    let Number::Value(n) = number else {
+        return Request::Bad;
+    };
+    let kind = script::choose_kind(word(text, w, 1));
+    match kind {
+        script::Kind::Recipient => Request::Entry(Kind::Recipient, n as usize),
+        script::Kind::Identity => Request::Entry(Kind::Identity, n as usize),
+        script::Kind::Other => Request::Bad,
+    }
+}
+
+// show
+fn read_show(w: Words) -> Request {
+    if w.count != 1 {
+        return Request::Bad;
+    }
+    Request::Show
+}
+
+// A look at the end that is open.
+fn look_at(end: End, request: Request) -> Request {
+    if let Request::Bad = request {
+        return Request::Bad;
+    }
+    if let End::Nothing = end {
+        return Request::Missing;
+    }
+    request
+}

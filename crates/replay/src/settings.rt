@@ -1,0 +1,220 @@
+// The lines that open a session or change the lengths of its buffers.
+use crate::answers::Answer;
+use crate::host::End;
+use crate::host::Host;
+use crate::host::Lengths;
+use crate::host::Turn;
+use crate::host::from_plugin;
+use crate::host::lengths_of;
+use crate::parts::Buffer;
+use crate::parts::clear;
+use crate::words::Words;
+use crate::words::word;
+use client::Opening;
+use client::Session;
+use script::Call;
+use script::Number;
+use script::Screen;
+use session::Verdict;
+
+// The longest buffer.
+const LONGEST: u64 = 65536;
+
+// What such a line comes to, and how many bytes each buffer keeps; zeros stand behind them.
+struct Setting {
+    answer: Answer,
+    host: Host,
+    kept: Lengths,
+}
+
+// The lengths of the buffers, if they are given.
+enum Given {
+    Lengths(Lengths),
+    Bad,
+}
+
+// The session that a line opens, if its words are good.
+enum Opens {
+    Client(Screen),
+    Plugin,
+    Bad,
+}
+
+// A line that opens a session or sets the lengths of its buffers.
+pub fn set(
+    call: Call,
+    text: &[u8],
+    w: Words,
+    host: Host,
+    recipients: &mut Buffer,
+    identities: &mut Buffer,
+    keys: &mut Buffer,
+    headers: &mut Buffer,
+    errors: &mut Buffer,
+    stanzas: &mut Buffer,
+    returned: &mut Buffer,
+) -> Turn {
+    let s = set_host(call, text, w, host);
+    let kept = s.kept;
+    clear(recipients, kept.recipients);
+    clear(identities, kept.identities);
+    clear(keys, kept.keys);
+    clear(headers, kept.headers);
+    clear(errors, kept.errors);
+    clear(stanzas, kept.stanzas);
+    clear(returned, kept.returned);
+    let answer = s.answer;
+    let after = s.host;
+    Turn {
+        answer: answer,
+        host: after,
+    }
+}
+
+// The line's call.
+fn set_host(call: Call, text: &[u8], w: Words, host: Host) -> Setting {
+    let lengths = read_lengths(text, w);
+    let Given::Lengths(given) = lengths else {
+        return unchanged(Answer::Bad, host);
+    };
+    match call {
+        Call::Buffers => set_lengths(w.count, given, host),
+        _ => open(text, w, given, host),
+    }
+}
+
+// Nothing is opened, and the buffers keep their lengths.
+fn unchanged(answer: Answer, host: Host) -> Setting {
+    let kept = host.lengths;
+    Setting {
+        answer: answer,
+        host: host,
+        kept: kept,
+    }
+}
+
+// The last seven words of a line.
+fn read_lengths(text: &[u8], w: Words) -> Given {
+    let count = w.count;
+    if count < 7 {
+        return Given::Bad;
+    }
+    let first = count - 7;
+    let mut given = [0usize; 7];
+    let mut k: usize = 0;
+    while k < 7 {
+        let length = script::read_number(word(text, w, first + k), LONGEST);
+        let Number::Value(n) = length else {
+            return Given::Bad;
+        };
+        given[k] = n as usize;
+        k += 1;
+    }
+    Given::Lengths(lengths_of(given))
+}
+
+// buffers R I K H E S F
+fn set_lengths(count: usize, given: Lengths, mut host: Host) -> Setting {
+    if count != 8 {
+        return unchanged(Answer::Bad, host);
+    }
+    let end = host.end;
+    if let End::Nothing = end {
+        return unchanged(Answer::Missing, host);
+    }
+    host.lengths = given;
+    unchanged(Answer::Accepted, host)
+}
+
+// open client .., open plugin ..
+fn open(text: &[u8], w: Words, given: Lengths, host: Host) -> Setting {
+    let opens = read_opening(text, w);
+    if let Opens::Bad = opens {
+        return unchanged(Answer::Bad, host);
+    }
+    let opening = open_session(opens, word(text, w, 2), word(text, w, 3));
+    opened(end_of(opens), opening, given, host)
+}
+
+// open client MACHINE NAME SCREEN R I K H E S F, open plugin MACHINE NAME R I K H E S F
+fn read_opening(text: &[u8], w: Words) -> Opens {
+    let end = script::choose_end(word(text, w, 1));
+    match end {
+        script::End::Client => {
+            if w.count != 12 {
+                return Opens::Bad;
+            }
+            screen_opening(script::choose_screen(word(text, w, 4)))
+        }
+        script::End::Plugin => {
+            if w.count != 11 {
+                return Opens::Bad;
+            }
+            Opens::Plugin
+        }
+        script::End::Other => Opens::Bad,
+    }
+}
+
+// The client end is told of a screen, or left to its default.
+fn screen_opening(screen: Screen) -> Opens {
+    if let Screen::Other = screen {
+        return Opens::Bad;
+    }
+    Opens::Client(screen)
+}
+
+// The end that is opened.
+fn end_of(opens: Opens) -> End {
+    match opens {
+        Opens::Client(_) => End::Client,
+        Opens::Plugin => End::Plugin,
+        Opens::Bad => End::Nothing,
+    }
+}
+
+// A session of either end.
+fn open_session(opens: Opens, machine: &[u8], name: &[u8]) -> Opening {
+    match opens {
+        Opens::Client(screen) => open_client(screen, machine, name),
+        _ => open_plugin(machine, name),
+    }
+}
+
+// A session of the client end.
+fn open_client(screen: Screen, machine: &[u8], name: &[u8]) -> Opening {
+    match screen {
+        Screen::Shown => Session::open_with(machine, name, true),
+        Screen::Missing => Session::open_with(machine, name, false),
+        _ => Session::open(machine, name),
+    }
+}
+
+// A session of the plugin end.
+fn open_plugin(machine: &[u8], name: &[u8]) -> Opening {
+    let opening = plugin::Session::open(machine, name);
+    let verdict = opening.verdict;
+    let session = opening.session;
+    Opening {
+        verdict: verdict,
+        session: from_plugin(session),
+    }
+}
+
+// What an opening came to. The buffers of a session that is opened are zeros.
+fn opened(end: End, opening: Opening, given: Lengths, host: Host) -> Setting {
+    let verdict = opening.verdict;
+    if let Verdict::Refused(r) = verdict {
+        return unchanged(Answer::Refused(r), host);
+    }
+    let session = opening.session;
+    Setting {
+        answer: Answer::Accepted,
+        host: Host {
+            end: end,
+            lengths: given,
+            session: session,
+        },
+        kept: lengths_of([0; 7]),
+    }
+}
