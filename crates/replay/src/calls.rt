@@ -2,6 +2,7 @@
 use crate::answers::Answer;
 use crate::answers::answer_of;
 use crate::parts::Buffer;
+use crate::parts::LONGEST;
 use crate::parts::cut;
 use crate::parts::front;
 use crate::print::Output;
@@ -20,9 +21,6 @@ use script::Number;
 use stanza::First;
 use stanza::Index;
 use stanza::Stanza;
-
-// The longest output buffer.
-const LONGEST: u64 = 65536;
 
 // Makes the call of a line.
 pub fn call_plain(

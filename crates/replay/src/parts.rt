@@ -6,6 +6,9 @@ ghost use lib.ListN.{length};
 // As long as the longest buffer that a line lends, and as the longest line.
 pub type Buffer = [u8; 65536];
 
+// The length of the longest buffer, as a number of a script.
+pub const LONGEST: u64 = 65536;
+
 // The lesser of two numbers.
 pub fn least(a: usize, b: usize) -> usize
     ensures { λ r. ⌜ r ≡ min a b ⌝ }

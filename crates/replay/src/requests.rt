@@ -1,5 +1,6 @@
 // What a line asks for. The words of a line that calls a session are judged before any session is looked at.
 use crate::host::End;
+use crate::parts::LONGEST;
 use crate::words::Words;
 use crate::words::last_word;
 use crate::words::word;
@@ -8,9 +9,6 @@ use responses::Response;
 use script::Call;
 use script::Number;
 use script::Reply;
-
-// The longest output buffer.
-const LONGEST: u64 = 65536;
 
 // A call that needs no session; one that opens a session or sets the lengths of its buffers; one of phase one or of phase two; an entry by
 // kind and number; all tables; one that no open session takes; or no call.

@@ -7,6 +7,7 @@ use crate::host::Turn;
 use crate::host::from_plugin;
 use crate::host::lengths_of;
 use crate::parts::Buffer;
+use crate::parts::LONGEST;
 use crate::parts::clear;
 use crate::words::Words;
 use crate::words::word;
@@ -16,9 +17,6 @@ use script::Call;
 use script::Number;
 use script::Screen;
 use session::Verdict;
-
-// The longest buffer.
-const LONGEST: u64 = 65536;
 
 // What such a line comes to, and how many bytes each buffer keeps; zeros stand behind them.
 struct Setting {
