@@ -3,6 +3,7 @@
 //! The same script comes out every time: the seed is fixed and nothing else decides.
 
 mod bech32;
+mod class;
 mod commands;
 mod judge;
 mod lines;
@@ -33,6 +34,7 @@ pub fn script() -> Vec<u8> {
     session::sections(&mut script);
     lines::sections(&mut script);
     phase_two::sections(&mut script);
+    class::sections(&mut script);
     script.heading("The last line lacks its LF");
     script.index(b"7");
     script.text.pop();

@@ -4,7 +4,7 @@ use std::collections::BTreeSet;
 use std::fs;
 use std::path::{Path, PathBuf};
 
-use reference::replay;
+use reference::{generate, replay};
 
 fn folder() -> PathBuf {
     Path::new(env!("CARGO_MANIFEST_DIR")).join("../scripts")
@@ -32,6 +32,16 @@ fn every_script_prints_what_is_beside_it() {
     assert_eq!(names(".txt").len(), 7);
     for name in names(".txt") {
         assert_eq!(answers(&text(&name, ".txt")), text(&name, ".out"), "{name}");
+    }
+}
+
+/// So the library's answers are compared too.
+#[test]
+fn every_script_is_part_of_the_stored_one() {
+    let stored = generate::script();
+    let stored = String::from_utf8_lossy(&stored);
+    for name in names(".txt") {
+        assert!(stored.contains(&text(&name, ".txt")), "{name}");
     }
 }
 
