@@ -14,12 +14,12 @@ use Rattle.stanza.specs.Arguments.{argumentOf}
 use Rattle.stanza.specs.Writing.{isWritable}
 use Rattle.responses.specs.Responses.{fitsWhole, responseLine, response, responseOf}
 use Rattle.responses.specs.declared.Response.{Response}
-use Rattle.responses.specs.declared.WordTwo.{WordTwo}
-use Rattle.session.specs.Commands.{Command, bad, recipient, identity, key, header, done, other, doneWord}
-use Rattle.session.specs.PhaseOne as one
-use Rattle.session.specs.Views as one-kind
-use Rattle.session.specs.Views.{recipients, identities, keys, headers}
-use Rattle.session.specs.declared.commands.Machine.{Machine}
+use Rattle.session.specs.declared.words.WordTwo.{WordTwo}
+use Rattle.phase_one.specs.Commands.{CommandOne, bad, recipient, identity, key, header, done, other, doneWord}
+use Rattle.phase_one.specs.PhaseOne as one
+use Rattle.phase_one.specs.Views as one-kind
+use Rattle.phase_one.specs.Views.{recipients, identities, keys, headers}
+use Rattle.session.specs.declared.opening.Machine.{Machine}
 use Rattle.conversation.specs.Calls.{Call, send-two, respond}
 use Rattle.conversation.specs.CommandsTwo as two-command
 use Rattle.conversation.specs.CommandsTwo.{CommandTwo, lineSent}
@@ -30,7 +30,7 @@ use Rattle.conversation.specs.Phases.{All, Whole, lineIn, bodyIn, comman
 -- ---- phase one
 
 -- 4 and 5: a known command, or done, with wrong arguments or body, or an index badly written
-abbrev pub isRight : Command → Bool
+abbrev pub isRight : CommandOne → Bool
 isRight (recipient m) = true
 isRight (identity m) = true
 isRight key = true

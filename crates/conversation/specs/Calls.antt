@@ -12,13 +12,13 @@ use Rattle.refusal.specs.Pick.{pick}
 use Rattle.stanza.specs.Reading as reading
 use Rattle.stanza.specs.Reading.{Reading, readFirst}
 use Rattle.responses.specs.declared.Response.{Response}
-use Rattle.responses.specs.declared.WordTwo.{WordTwo}
+use Rattle.session.specs.declared.words.WordTwo.{WordTwo}
 use Rattle.tables.specs.Tables.{Row}
-use Rattle.session.specs.Commands as one-command
-use Rattle.session.specs.Commands.{Word}
-use Rattle.session.specs.PhaseOne as one
+use Rattle.phase_one.specs.Commands as one-command
+use Rattle.phase_one.specs.Commands.{WordOne}
+use Rattle.phase_one.specs.PhaseOne as one
 use Rattle.session.specs.Phases.{closes}
-use Rattle.session.specs.Views as one-kind
+use Rattle.phase_one.specs.Views as one-kind
 use Rattle.conversation.specs.CommandsTwo as two-command
 use Rattle.conversation.specs.Kinds.{Kind, first, second, Buffers, buffersOf}
 use Rattle.conversation.specs.PhaseTwo as two
@@ -28,13 +28,13 @@ use Rattle.conversation.specs.ReceivingTwo as receiving-two
 use Rattle.conversation.specs.Replying as replying
 use Rattle.conversation.specs.SendingTwo as sending-two
 use Rattle.conversation.specs.Responding as responding
-use Rattle.conversation.specs.Session.{Session, closed}
+use Rattle.session.specs.Session.{Session, closed}
 
 -- Phase one: the plugin end receives a text; the client end sends a command with its arguments' text and its body. Phase two: the client end receives a text, and
 -- its host replies with a response and its body; the plugin end sends a command, and receives the text of a response. A call that may write lends an output buffer.
 pub data Call : Type 0 where
   receive : List ℕ → Call
-  send : Word → List ℕ → List ℕ → List ℕ → Call
+  send : WordOne → List ℕ → List ℕ → List ℕ → Call
   receive-two : List ℕ → List ℕ → Call
   reply : Response → List ℕ → List ℕ → Call
   send-two : WordTwo → List ℕ → List ℕ → List ℕ → Call

@@ -9,11 +9,11 @@ use Rattle.refusal.specs.Same.{same}
 use Rattle.base64.specs.Code.{isBase64}
 use Rattle.stanza.specs.Arguments.{countOf, argumentOf, lineWith}
 use Rattle.stanza.specs.Index.{readIndex, Reading, number, refused}
-use Rattle.responses.specs.declared.WordTwo.{WordTwo}
-use Rattle.responses.specs.declared.WordTwo.the-variants.{Msg, Confirm, RequestPublic, RequestSecret, RecipientStanza, FileKey, Error, Other, Done}
-use Rattle.session.specs.Commands.{recipientStanza, doneWord, isBare, restOf}
-use Rattle.session.specs.declared.commands.Machine.{Machine}
-use Rattle.session.specs.declared.commands.Machine.the-variants.{RecipientV1, IdentityV1}
+use Rattle.session.specs.declared.words.WordTwo.{WordTwo}
+use Rattle.session.specs.declared.words.WordTwo.the-variants.{Msg, Confirm, RequestPublic, RequestSecret, RecipientStanza, FileKey, Error, Other, Done}
+use Rattle.phase_one.specs.Commands.{recipientStanza, doneWord, isBare, restOf}
+use Rattle.session.specs.declared.opening.Machine.{Machine}
+use Rattle.session.specs.declared.opening.Machine.the-variants.{RecipientV1, IdentityV1}
 
 -- ---- words
 

@@ -6,9 +6,9 @@ use mathlib.Core.List.{List, [], _∷_, _++_}
 use lib.Dec.{eqb}
 use Rattle.refusal.specs.Pick.{pick}
 use Rattle.tables.specs.Tables.{Table, Row}
-use Rattle.session.specs.PhaseOne as one
-use Rattle.session.specs.PhaseOne.{Tables}
-use Rattle.session.specs.Views as one-kind
+use Rattle.phase_one.specs.PhaseOne as one
+use Rattle.session.specs.Tables.{Tables}
+use Rattle.phase_one.specs.Views as one-kind
 use Rattle.conversation.specs.PhaseTwo as two
 
 -- the kinds of phase one, and those of phase two

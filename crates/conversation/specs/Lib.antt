@@ -1,5 +1,4 @@
 -- The calls of both ends, and lists of calls.
-pub mod Session
 pub mod Receiving
 pub mod Sending
 pub mod CommandsTwo

@@ -6,9 +6,10 @@ use mathlib.Core.List.{List, [], _∷_, map}
 use lib.Dec.{ltb, leb, eqb}
 use lib.ListN.{length, take}
 use Rattle.refusal.specs.Pick.{pick}
-use Rattle.tables.specs.declared.tables.Entry.{Entry}
+use Rattle.tables.specs.declared.slots.Entry.{Entry}
 use Rattle.tables.specs.Tables.{Table, Row, fits, entered, kept, view}
-use Rattle.session.specs.PhaseOne.{Tables, firstOf}
+use Rattle.session.specs.Tables.{Tables}
+use Rattle.refusal.specs.Verdict.{firstOf}
 use Rattle.conversation.specs.CommandsTwo.{Named, internal, identity, recipient, header, CommandTwo, ask, stanza, key, error, done, other, bad}
 
 -- ---- kinds
@@ -254,14 +255,16 @@ faultOf done = 0
 faultOf other = 0
 faultOf (bad n) = n
 
--- 4, 5, 6, 9, 10, 11, at the plugin's own sending 19, then 8; 0 where there is none. n is the payload's length
-unfoldable pub decided : Bool → Tables → Buffers → CommandTwo → ℕ → ℕ
-decided own t b c n =
+-- 4, 5, 6, 9, 10, 11, at the plugin's own sending 19: all that the tables alone decide; 0 where there is none
+abbrev pub ruled : Bool → Tables → CommandTwo → ℕ
+ruled own t c =
     firstOf (faultOf c)
     (firstOf (when (isMissing t c) 6)
-    (firstOf (when (isSecondKey t c) 9)
-    (firstOf (when (isTooMany t c) 10)
-    (firstOf (when (isClashing t c) 11) (firstOf (when (own && isHeldBack t c) 19) (when (isSpaceless t b c n) 8))))))
+    (firstOf (when (isSecondKey t c) 9) (firstOf (when (isTooMany t c) 10) (firstOf (when (isClashing t c) 11) (when (own && isHeldBack t c) 19)))))
+
+-- then 8. n is the payload's length
+unfoldable pub decided : Bool → Tables → Buffers → CommandTwo → ℕ → ℕ
+decided own t b c n = firstOf (ruled own t c) (when (isSpaceless t b c n) 8)
 
 -- ---- what an accepted command does
 

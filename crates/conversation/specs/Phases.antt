@@ -14,18 +14,18 @@ use Rattle.stanza.specs.Reading.{stanza, readFirst}
 use Rattle.tables.specs.Tables.{Row}
 use Rattle.responses.specs.Responses.{responseLine}
 use Rattle.responses.specs.declared.Response.{Response}
-use Rattle.session.specs.Commands as one-command
-use Rattle.session.specs.Commands.{Word, add-recipient, add-identity, wrap-file-key, recipient-stanza, done-word, other-word, wordIn, doneWord, lineSent}
-use Rattle.session.specs.PhaseOne as one
-use Rattle.session.specs.Views as one-kind
-use Rattle.session.specs.declared.commands.Machine.{Machine}
+use Rattle.phase_one.specs.Commands as one-command
+use Rattle.phase_one.specs.Commands.{WordOne, add-recipient, add-identity, wrap-file-key, recipient-stanza, done-word, other-word, wordIn, doneWord, lineSent}
+use Rattle.phase_one.specs.PhaseOne as one
+use Rattle.phase_one.specs.Views as one-kind
+use Rattle.session.specs.declared.opening.Machine.{Machine}
 use Rattle.conversation.specs.Calls.{Call, receive, send, receive-two, reply, send-two, respond, isClient, outcome, outputIn, writtenBy, State, after, written, lineRead, bodyRead, Accepted}
 use Rattle.conversation.specs.CommandsTwo as two-command
 use Rattle.conversation.specs.CommandsTwo.{CommandTwo}
 use Rattle.conversation.specs.Kinds.{Kind, first, second, Buffers, viewOf, ofFile}
 use Rattle.conversation.specs.PhaseTwo as two
 use Rattle.conversation.specs.ReceivingTwo.{atOnce, textOf}
-use Rattle.conversation.specs.Session.{Session, openedSession, opened}
+use Rattle.session.specs.Session.{Session, openedSession, opened}
 
 -- ---- lists
 
@@ -66,7 +66,7 @@ isDone t = same (wordOf t) doneWord
 -- ---- in phase one
 
 -- "unknown if its command is neither done nor named for that machine in the phase's table"
-abbrev pub isNamed : Word → Bool
+abbrev pub isNamed : WordOne → Bool
 isNamed add-recipient = true
 isNamed add-identity = true
 isNamed wrap-file-key = true
@@ -75,7 +75,7 @@ isNamed done-word = true
 isNamed other-word = false
 
 -- its command, by the machine and the plugin's name
-abbrev pub commandOf : Machine → List ℕ → List ℕ → one-command.Command
+abbrev pub commandOf : Machine → List ℕ → List ℕ → one-command.CommandOne
 commandOf machine name t = one.commandIn machine name (lineIn t) (bodyIn t)
 
 -- the rows that it makes in a kind's table
@@ -246,7 +246,7 @@ pub record JustDone (s : Session) : Type 0 where
   pub screen : Bool
   pub before : List CallWith
   pub client : All (λ c. isClient (c .call) ≡ true) before
-  pub word : Word
+  pub word : WordOne
   pub arguments : List ℕ
   pub body : List ℕ
   pub out : List ℕ

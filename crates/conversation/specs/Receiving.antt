@@ -6,18 +6,19 @@ use lib.ListN.{take, drop}
 use Rattle.refusal.specs.Pick.{pick}
 use Rattle.base64.specs.Lines.{bodyOf}
 use Rattle.stanza.specs.Reading.{Reading, stanza, refused, readFirst}
-use Rattle.session.specs.Commands.{Command, Word, wordOf}
-use Rattle.session.specs.PhaseOne.{Buffers, commandIn, numberOne, tablesOne, buffersOne}
-use Rattle.session.specs.Phases.{turnOne, closes, phaseAfter}
-use Rattle.conversation.specs.Session.{Session, moved, closed}
+use Rattle.phase_one.specs.Commands.{CommandOne, WordOne, wordOf}
+use Rattle.phase_one.specs.PhaseOne.{Buffers, commandIn, numberOne, tablesOne, buffersOne}
+use Rattle.phase_one.specs.Turns.{turnOne, phaseAfter}
+use Rattle.session.specs.Phases.{closes}
+use Rattle.session.specs.Session.{Session, moved, closed}
 
 -- which command it was and how many bytes were taken; or the number
 pub data Taking : Type 0 where
-  took : Word → ℕ → Taking
+  took : WordOne → ℕ → Taking
   declined : ℕ → Taking
 
 -- the answer to a command with the number n that took k bytes
-abbrev pub answerOf : ℕ → Command → ℕ → Taking
+abbrev pub answerOf : ℕ → CommandOne → ℕ → Taking
 answerOf n c k = pick (eqb n 0) (took (wordOf c) k) (declined n)
 
 -- the answer, the session and the four buffers afterwards

@@ -14,14 +14,14 @@ use Rattle.stanza.specs.Reading.{Reading, readFirst}
 use Rattle.responses.specs.Responses.{responseLine, response}
 use Rattle.responses.specs.declared.Response.{Response}
 use Rattle.responses.specs.declared.Response.the-variants.{Ok, Fail, Unsupported}
-use Rattle.responses.specs.declared.WordTwo.{WordTwo}
-use Rattle.session.specs.PhaseOne.{firstOf}
+use Rattle.session.specs.declared.words.WordTwo.{WordTwo}
+use Rattle.refusal.specs.Verdict.{firstOf}
 use Rattle.session.specs.Phases.{closes}
 use Rattle.session.specs.declared.phases.Phase.{Phase}
 use Rattle.session.specs.declared.phases.Phase.the-variants.{Two, Awaiting, Ended}
 use Rattle.conversation.specs.CommandsTwo.{CommandTwo, ask, stanza, key, error, done, other, bad, commandTwo, wordOf, payloadOf}
 use Rattle.conversation.specs.PhaseTwo.{Buffers, decided, applied, filledBy}
-use Rattle.conversation.specs.Session.{Session, moved, closed}
+use Rattle.session.specs.Session.{Session, moved, closed}
 use Rattle.conversation.specs.Sending.{shortness}
 use Rattle.conversation.specs.TurnsTwo.{turnTwo}
 

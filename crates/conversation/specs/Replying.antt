@@ -10,11 +10,11 @@ use Rattle.stanza.specs.Grammar.{stanzaText}
 use Rattle.stanza.specs.Writing.{isWritable}
 use Rattle.responses.specs.Responses.{fitsWhole, responseLine, response}
 use Rattle.responses.specs.declared.Response.{Response}
-use Rattle.responses.specs.declared.WordTwo.{WordTwo}
-use Rattle.session.specs.PhaseOne.{firstOf}
+use Rattle.session.specs.declared.words.WordTwo.{WordTwo}
+use Rattle.refusal.specs.Verdict.{firstOf}
 use Rattle.session.specs.declared.phases.Phase.{Phase}
 use Rattle.session.specs.declared.phases.Phase.the-variants.{One, Two, Awaiting, Ended, Closed}
-use Rattle.conversation.specs.Session.{Session}
+use Rattle.session.specs.Session.{Session}
 use Rattle.conversation.specs.Sending.{shortness}
 use Rattle.conversation.specs.TurnsTwo.{answered}
 

@@ -10,12 +10,12 @@ use Rattle.stanza.specs.Reading as reading
 use Rattle.stanza.specs.Reading.{Reading, readFirst}
 use Rattle.responses.specs.Responses.{fitsWhole, ResponseRead, response, nothing, responseOf}
 use Rattle.responses.specs.declared.Response.{Response}
-use Rattle.responses.specs.declared.WordTwo.{WordTwo}
-use Rattle.session.specs.PhaseOne.{firstOf}
+use Rattle.session.specs.declared.words.WordTwo.{WordTwo}
+use Rattle.refusal.specs.Verdict.{firstOf}
 use Rattle.session.specs.Phases.{closes}
 use Rattle.session.specs.declared.phases.Phase.{Phase}
 use Rattle.session.specs.declared.phases.Phase.the-variants.{One, Two, Awaiting, Ended, Closed}
-use Rattle.conversation.specs.Session.{Session, closed}
+use Rattle.session.specs.Session.{Session, closed}
 use Rattle.conversation.specs.Sending.{shortness}
 use Rattle.conversation.specs.TurnsTwo.{answered}
 

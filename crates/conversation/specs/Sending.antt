@@ -8,10 +8,10 @@ use Rattle.refusal.specs.Output.{Answer, bytes, refused, overflows, filled}
 use Rattle.refusal.specs.Pick.{pick}
 use Rattle.stanza.specs.Grammar.{stanzaText}
 use Rattle.stanza.specs.Writing.{isWritable}
-use Rattle.session.specs.Commands.{Word, lineSent}
-use Rattle.session.specs.PhaseOne.{Buffers, commandIn, numberOne, tablesOne, buffersOne}
-use Rattle.session.specs.Phases.{turnOne, phaseAfter}
-use Rattle.conversation.specs.Session.{Session, moved}
+use Rattle.phase_one.specs.Commands.{WordOne, lineSent}
+use Rattle.phase_one.specs.PhaseOne.{Buffers, commandIn, numberOne, tablesOne, buffersOne}
+use Rattle.phase_one.specs.Turns.{turnOne, phaseAfter}
+use Rattle.session.specs.Session.{Session, moved}
 
 -- how many bytes were written, or the number; the session, the four buffers and the output buffer afterwards
 pub record Sent : Type 0 where
@@ -47,6 +47,6 @@ abbrev pub sentLine : Session → Buffers → List ℕ → List ℕ → List ℕ
 sentLine s b line body out = pick (isWritable line body) (sentStanza s b line body out) (refusedSending 17 s b out)
 
 -- a call: the command, its arguments' text, its body, the buffers and the output buffer
-unfoldable pub sent : Session → Word → List ℕ → List ℕ → Buffers → List ℕ → Sent
+unfoldable pub sent : Session → WordOne → List ℕ → List ℕ → Buffers → List ℕ → Sent
 sent s word arguments body b out =
     pick (eqb (turnOne (s .phase)) 0) (sentLine s b (lineSent word arguments) body out) (refusedSending (turnOne (s .phase)) s b out)

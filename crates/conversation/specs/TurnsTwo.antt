@@ -3,7 +3,7 @@ use Prim.Native.Nat.{ℕ}
 use Rattle.session.specs.declared.phases.Phase.{Phase}
 use Rattle.session.specs.declared.phases.Phase.the-variants.{One, Two, Awaiting, Ended, Closed}
 use Rattle.conversation.specs.CommandsTwo.{other}
-use Rattle.conversation.specs.Session.{Session, moved, closed}
+use Rattle.session.specs.Session.{Session, moved, closed}
 
 -- a command: No. 13, the session is closed or has ended; No. 14, a call of the other phase, or a command while an answer is due
 abbrev pub turnTwo : Phase → ℕ

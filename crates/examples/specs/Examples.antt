@@ -13,19 +13,19 @@ use Rattle.stanza.specs.Reading.{Reading, stanza, refused, readFirst}
 use Rattle.responses.specs.Responses.{response, responseOf}
 use Rattle.responses.specs.declared.Response.{Response}
 use Rattle.responses.specs.declared.Response.the-variants.{No}
-use Rattle.responses.specs.declared.WordTwo.{WordTwo}
-use Rattle.responses.specs.declared.WordTwo.the-variants.{Confirm}
-use Rattle.session.specs.Commands.{recipientStanza}
-use Rattle.session.specs.PhaseOne as one
-use Rattle.session.specs.PhaseOne.{openedTables}
-use Rattle.session.specs.declared.commands.Machine.the-variants.{IdentityV1}
+use Rattle.session.specs.declared.words.WordTwo.{WordTwo}
+use Rattle.session.specs.declared.words.WordTwo.the-variants.{Confirm}
+use Rattle.phase_one.specs.Commands.{recipientStanza}
+use Rattle.phase_one.specs.PhaseOne as one
+use Rattle.session.specs.Tables.{openedTables}
+use Rattle.session.specs.declared.opening.Machine.the-variants.{IdentityV1}
 use Rattle.session.specs.declared.phases.Phase.the-variants.{Awaiting}
 use Rattle.conversation.specs.Calls.{Call, receive, numbers}
 use Rattle.conversation.specs.Kinds.{Buffers, buffersOf}
 use Rattle.conversation.specs.PhaseTwo as two
 use Rattle.conversation.specs.Phases.{lineIn}
 use Rattle.conversation.specs.Responding.{took-response, responded}
-use Rattle.conversation.specs.Session.{Session, moved, openedSession}
+use Rattle.session.specs.Session.{Session, moved, openedSession}
 
 -- an example: a text is read so; arguments and a body make so many bytes; so many body bytes make a line of so many characters and then these
 -- bytes; a text is read as an index so; header stanzas of these files, received one behind the other, give these numbers; a text is this response, and

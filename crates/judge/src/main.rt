@@ -29,7 +29,14 @@ fn main() {
     let mut recipients = [0u8; 16384];
     let mut identities = [0u8; 16384];
     let mut keys = [0u8; 1024];
-    let judged = run(&mut window, &mut recipients, &mut identities, &mut keys);
+    let mut slots = tables::open_slots();
+    let judged = run(
+        &mut window,
+        &mut slots,
+        &mut recipients,
+        &mut identities,
+        &mut keys,
+    );
     if !print(judged) {
         io::write_all(STDERR_FILENO, b"judge: standard output failed\n");
     }
@@ -37,7 +44,13 @@ fn main() {
 
 // Reads up to done, a refusal or the end of the input. A proved loop has to end, and nothing says that the input does, so the turns are counted down from a
 // number that no run uses up.
-fn run(window: &mut [u8], recipients: &mut [u8], identities: &mut [u8], keys: &mut [u8]) -> Judged
+fn run(
+    window: &mut [u8],
+    slots: &mut [[usize; 4]; 1344],
+    recipients: &mut [u8],
+    identities: &mut [u8],
+    keys: &mut [u8],
+) -> Judged
     requires { ⌜ 8192 ≤ length (now window) ⌝ }
 {
     let mut s = State {
@@ -47,7 +60,7 @@ fn run(window: &mut [u8], recipients: &mut [u8], identities: &mut [u8], keys: &m
     };
     let mut turns = u64::MAX;
     while turns > 0 && s.more {
-        s = run_turn(s, window, recipients, identities, keys);
+        s = run_turn(s, window, slots, recipients, identities, keys);
         turns -= 1;
     }
     s.judging.numbers()
@@ -57,6 +70,7 @@ fn run(window: &mut [u8], recipients: &mut [u8], identities: &mut [u8], keys: &m
 fn run_turn(
     s: State,
     window: &mut [u8],
+    slots: &mut [[usize; 4]; 1344],
     recipients: &mut [u8],
     identities: &mut [u8],
     keys: &mut [u8],
@@ -71,6 +85,7 @@ fn run_turn(
         window,
         end,
         end == left,
+        slots,
         recipients,
         identities,
         keys,
@@ -83,16 +98,17 @@ fn judge_chunk(
     window: &mut [u8],
     end: usize,
     last: bool,
+    slots: &mut [[usize; 4]; 1344],
     recipients: &mut [u8],
     identities: &mut [u8],
     keys: &mut [u8],
 ) -> State
     requires { ⌜ end ≤ length (now window) ⌝ }
-    ensures cut { λ r. ⌜ Cut last (standingOf judging) (buffersIn (now (recipients .entry)) (now (identities .entry)) (now (keys .entry))) (take end (now (window .entry))) (turnSaid (r .judging) (now (recipients .exit)) (now (identities .exit)) (now (keys .exit))) ⌝ }
+    ensures cut { λ r. ⌜ Cut last (standingOf judging (now (slots .entry))) (buffersIn (now (recipients .entry)) (now (identities .entry)) (now (keys .entry))) (take end (now (window .entry))) (turnSaid (r .judging) (now (slots .exit)) (now (recipients .exit)) (now (identities .exit)) (now (keys .exit))) ⌝ }
     ensures rest { λ r. ⌜ take (r .left) (now (window .exit)) ≡ drop (r .judging .taken) (take end (now (window .entry))) ⌝ }
     ensures short { λ r. ⌜ (r .left ≤ end) × (r .more ≡ true → r .left < 8192) ⌝ }
 {
-    let j = judging.judge_window(&window[..end], last, recipients, identities, keys);
+    let j = judging.judge_window(&window[..end], last, slots, recipients, identities, keys);
     let left = keep_rest(window, j.taken, end);
     let progress = j.progress;
     match progress {

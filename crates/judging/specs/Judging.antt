@@ -5,10 +5,11 @@ use mathlib.Core.List.{List, [], _∷_}
 use lib.Dec.{eqb}
 use lib.ListN.{length, drop, replicate}
 use Rattle.refusal.specs.Pick.{pick}
-use Rattle.session.specs.Commands.{Word, add-recipient, add-identity, wrap-file-key, recipient-stanza, done-word, other-word}
-use Rattle.session.specs.PhaseOne.{Tables, Buffers, buffersOf}
-use Rattle.session.specs.declared.commands.Machine.the-variants.{RecipientV1}
-use Rattle.conversation.specs.Session.{Session, openedSession}
+use Rattle.phase_one.specs.Commands.{WordOne, add-recipient, add-identity, wrap-file-key, recipient-stanza, done-word, other-word}
+use Rattle.session.specs.Tables.{Tables}
+use Rattle.phase_one.specs.PhaseOne.{Buffers, buffersOf}
+use Rattle.session.specs.declared.opening.Machine.the-variants.{RecipientV1}
+use Rattle.session.specs.Session.{Session, openedSession}
 use Rattle.conversation.specs.Receiving.{Taking, took, declined, Received, received}
 
 -- what the program writes: four counts and the answer, 0 behind done, else the number of the refusal
@@ -41,7 +42,7 @@ turnOf d b k = record { standing = d; buffers = b; taken = k }
 -- ---- one stanza
 
 -- the command is done
-abbrev pub isDone : Word → Bool
+abbrev pub isDone : WordOne → Bool
 isDone done-word = true
 isDone add-recipient = false
 isDone add-identity = false
@@ -50,7 +51,7 @@ isDone recipient-stanza = false
 isDone other-word = false
 
 -- behind a command: it "stops at done"
-abbrev pub behindCommand : Word → Session → Standing
+abbrev pub behindCommand : WordOne → Session → Standing
 behindCommand w after = pick (isDone w) (stopped (counted (after .tables) 0)) (going after)
 
 -- behind a refusal: it stops, and "the counts are those before it". But an unfinished stanza, No. 2, waits for more where the text is not the input's last

@@ -6,8 +6,8 @@ use mathlib.Core.Bool.{Bool, true, false}
 use mathlib.Core.List.{List, [], _++_}
 use lib.ListN.{length, drop}
 use Rattle.stanza.specs.Reading.{refused, readFirst}
-use Rattle.conversation.specs.Session.{Session}
-use Rattle.session.specs.PhaseOne.{Buffers}
+use Rattle.session.specs.Session.{Session}
+use Rattle.phase_one.specs.PhaseOne.{Buffers}
 use Rattle.judging.specs.Judging.{Judged, Standing, going, stopped, Turn, turnOf, behind, judgedFrom}
 
 -- what a turn t promises that judged a window, from d with the buffers b

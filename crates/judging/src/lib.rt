@@ -1,10 +1,12 @@
 // Judging a recorded phase one of recipient-v1: stanza after stanza up to done or a refusal, window by window of the input. How the input is cut does not show.
 ghost use mathlib.Core.Path.{_≡_};
-ghost use Prim.Native.Nat.{_≤_};
+ghost use Prim.Native.Nat.{ℕ, _≤_};
+ghost use mathlib.Core.List.{List};
+ghost use Rattle.tables.specs.Slots.{openedSlots};
 ghost use lib.ListN.{length, drop};
 ghost use Rattle.refusal.specs.Number.{numberOf};
-ghost use Rattle.session.specs.Commands.{wordSaid};
-ghost use Rattle.session.specs.PhaseOne.{tablesOf};
+ghost use Rattle.phase_one.specs.Commands.{wordSaid};
+ghost use Rattle.session.specs.Tables.{tablesIn};
 ghost use Rattle.plugin.specs.Session.{sessionOf};
 ghost use Rattle.judging.specs.Judging.{counted, going, isDone, behindCommand, behindRefusal, turned, behind, judgedFrom, start, judgedText, numbersOf};
 ghost use Rattle.judging.specs.Windows.{Cut};
@@ -39,7 +41,7 @@ pub struct Judging {
 
 // The counts of tables, and an answer.
 fn count(tables: Tables, answer: u8) -> Judged
-    ensures { λ r. ⌜ judgedSaid r ≡ counted (tablesOf tables) answer ⌝ }
+    ensures { λ r. ⌜ ((xs : List (List ℕ)) → judgedSaid r ≡ counted (tablesIn tables xs) answer) ⌝ }
 {
     Judged {
         recipients: tables.recipients.count,
@@ -66,7 +68,7 @@ fn is_done(word: Word) -> bool
 
 // Where judging stands behind a command: done stops it.
 fn behind_command(word: Word, session: Session) -> Progress
-    ensures { λ r. ⌜ standingIn r (sessionOf session) ≡ behindCommand (wordSaid word) (sessionOf session) ⌝ }
+    ensures { λ r. ⌜ ((xs : List (List ℕ)) → standingIn r (sessionOf session xs) ≡ behindCommand (wordSaid word) (sessionOf session xs)) ⌝ }
 {
     if is_done(word) {
         return Progress::Stopped(count(session.tables, 0));
@@ -76,7 +78,7 @@ fn behind_command(word: Word, session: Session) -> Progress
 
 // Where judging stands behind a refusal: it stops, but an unfinished stanza waits for more where the window is not the last.
 fn behind_refusal(r: Refusal, last: bool, session: Session) -> Progress
-    ensures { λ p. ⌜ standingIn p (sessionOf session) ≡ behindRefusal last (numberOf r) (sessionOf session) ⌝ }
+    ensures { λ p. ⌜ ((xs : List (List ℕ)) → standingIn p (sessionOf session xs) ≡ behindRefusal last (numberOf r) (sessionOf session xs)) ⌝ }
 {
     let number = refusal::number(r);
     if number == 2 && !last {
@@ -91,15 +93,23 @@ fn advance(
     window: &[u8],
     at: usize,
     last: bool,
+    slots: &mut [[usize; 4]; 1344],
     recipients: &mut [u8],
     identities: &mut [u8],
     keys: &mut [u8],
 ) -> Judging
     requires { ⌜ at ≤ length (now window) ⌝ }
-    ensures { λ r. ⌜ turnSaid r (now (recipients .exit)) (now (identities .exit)) (now (keys .exit)) ≡ behind at (turned last (sessionOf session) (buffersIn (now (recipients .entry)) (now (identities .entry)) (now (keys .entry))) (drop at (now (window .entry)))) ⌝ }
+    ensures { λ r. ⌜ turnSaid r (now (slots .exit)) (now (recipients .exit)) (now (identities .exit)) (now (keys .exit)) ≡ behind at (turned last (sessionOf session (now (slots .entry))) (buffersIn (now (recipients .entry)) (now (identities .entry)) (now (keys .entry))) (drop at (now (window .entry)))) ⌝ }
 {
     let mut headers = [0u8; 0];
-    let received = session.receive(&window[at..], recipients, identities, keys, &mut headers);
+    let received = session.receive(
+        &window[at..],
+        slots,
+        recipients,
+        identities,
+        keys,
+        &mut headers,
+    );
     let answer = received.answer;
     let after = received.session;
     match answer {
@@ -122,7 +132,7 @@ fn advance(
 impl Judging {
     // Nothing judged yet: a session of recipient-v1 just opened. The plugin's name does not show in the numbers.
     pub fn open() -> Judging
-        ensures { λ r. ⌜ (standingOf r ≡ going start) × (r .taken ≡ 0) ⌝ }
+        ensures { λ r. ⌜ (standingOf r openedSlots ≡ going start) × (r .taken ≡ 0) ⌝ }
     {
         let opening = Session::open(b"recipient-v1", b"judge");
         let session = opening.session;
@@ -139,12 +149,13 @@ impl Judging {
         self,
         window: &[u8],
         last: bool,
+        slots: &mut [[usize; 4]; 1344],
         recipients: &mut [u8],
         identities: &mut [u8],
         keys: &mut [u8],
     ) -> Judging
-        ensures exact { λ r. ⌜ turnSaid r (now (recipients .exit)) (now (identities .exit)) (now (keys .exit)) ≡ judgedFrom last (standingOf self) (buffersIn (now (recipients .entry)) (now (identities .entry)) (now (keys .entry))) (now (window .entry)) ⌝ }
-        ensures any_cut { λ r. ⌜ Cut last (standingOf self) (buffersIn (now (recipients .entry)) (now (identities .entry)) (now (keys .entry))) (now (window .entry)) (turnSaid r (now (recipients .exit)) (now (identities .exit)) (now (keys .exit))) ⌝ }
+        ensures exact { λ r. ⌜ turnSaid r (now (slots .exit)) (now (recipients .exit)) (now (identities .exit)) (now (keys .exit)) ≡ judgedFrom last (standingOf self (now (slots .entry))) (buffersIn (now (recipients .entry)) (now (identities .entry)) (now (keys .entry))) (now (window .entry)) ⌝ }
+        ensures any_cut { λ r. ⌜ Cut last (standingOf self (now (slots .entry))) (buffersIn (now (recipients .entry)) (now (identities .entry)) (now (keys .entry))) (now (window .entry)) (turnSaid r (now (slots .exit)) (now (recipients .exit)) (now (identities .exit)) (now (keys .exit))) ⌝ }
     {
         let mut j = self;
         j.taken = 0;
@@ -154,7 +165,16 @@ impl Judging {
                 return j;
             }
             let at = j.taken;
-            j = advance(j.session, window, at, last, recipients, identities, keys);
+            j = advance(
+                j.session,
+                window,
+                at,
+                last,
+                slots,
+                recipients,
+                identities,
+                keys,
+            );
             if j.taken == at {
                 return j;
             }
@@ -163,7 +183,7 @@ impl Judging {
 
     // The five numbers. Where judging goes on the input has ended before done: 2.
     pub fn numbers(self) -> Judged
-        ensures { λ r. ⌜ judgedSaid r ≡ numbersOf (standingOf self) ⌝ }
+        ensures { λ r. ⌜ ((xs : List (List ℕ)) → judgedSaid r ≡ numbersOf (standingOf self xs)) ⌝ }
     {
         let progress = self.progress;
         match progress {
@@ -179,6 +199,7 @@ pub fn judge(text: &[u8], recipients: &mut [u8], identities: &mut [u8], keys: &m
     ensures buffers { λ _. ⌜ buffersIn (now (recipients .exit)) (now (identities .exit)) (now (keys .exit)) ≡ judgedText (buffersIn (now (recipients .entry)) (now (identities .entry)) (now (keys .entry))) (now (text .entry)) .buffers ⌝ }
 {
     let begun = Judging::open();
-    let judging = begun.judge_window(text, true, recipients, identities, keys);
+    let mut slots = tables::open_slots();
+    let judging = begun.judge_window(text, true, &mut slots, recipients, identities, keys);
     judging.numbers()
 }

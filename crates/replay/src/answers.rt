@@ -11,8 +11,8 @@ use judging::Judged;
 use refusal::Refusal;
 use refusal::Written;
 use responses::Response;
-use responses::WordTwo;
 use session::Word;
+use session::WordTwo;
 
 // The words of the commands and the responses that are received, which number them.
 pub const NAMES: [u8; 152] =

@@ -23,6 +23,7 @@ pub fn send_one(
     w: Words,
     buffer: &mut [u8],
     host: Host,
+    slots: &mut [[usize; 4]; 1344],
     recipients: &mut [u8],
     identities: &mut [u8],
     keys: &mut [u8],
@@ -34,6 +35,7 @@ pub fn send_one(
         command,
         arguments_one(command, text, w),
         word(text, w, 3),
+        slots,
         cut(recipients, lengths.recipients),
         cut(identities, lengths.identities),
         cut(keys, lengths.keys),
@@ -80,6 +82,7 @@ pub fn receive_one(
     text: &[u8],
     w: Words,
     host: Host,
+    slots: &mut [[usize; 4]; 1344],
     recipients: &mut [u8],
     identities: &mut [u8],
     keys: &mut [u8],
@@ -88,6 +91,7 @@ pub fn receive_one(
     let lengths = host.lengths;
     let received = to_plugin(host.session).receive(
         word(text, w, 1),
+        slots,
         cut(recipients, lengths.recipients),
         cut(identities, lengths.identities),
         cut(keys, lengths.keys),

@@ -34,6 +34,7 @@ fn main() {
     let mut text = io::large_buffer();
     let mut buffer = io::large_buffer();
     let mut out = [0u8; 131072];
+    let mut slots = tables::open_slots();
     let mut recipients = [0u8; 65536];
     let mut identities = [0u8; 65536];
     let mut keys = [0u8; 65536];
@@ -47,6 +48,7 @@ fn main() {
         &mut text,
         &mut buffer,
         &mut out,
+        &mut slots,
         &mut recipients,
         &mut identities,
         &mut keys,
@@ -65,6 +67,7 @@ fn run(
     text: &mut Buffer,
     buffer: &mut Buffer,
     out: &mut Output,
+    slots: &mut [[usize; 4]; 1344],
     recipients: &mut Buffer,
     identities: &mut Buffer,
     keys: &mut Buffer,
@@ -86,6 +89,7 @@ fn run(
             out,
             s.at,
             host,
+            slots,
             recipients,
             identities,
             keys,

@@ -4,7 +4,7 @@ use crate::parts::LONGEST;
 use crate::words::Words;
 use crate::words::last_word;
 use crate::words::word;
-use bech32::Kind;
+use bech32::TextKind;
 use responses::Response;
 use script::Call;
 use script::Number;
@@ -17,7 +17,7 @@ pub enum Request {
     Setting(Call),
     PhaseOne(TalkOne),
     PhaseTwo(TalkTwo),
-    Entry(Kind, usize),
+    Entry(TextKind, usize),
     Show,
     Missing,
     Bad,
@@ -137,9 +137,9 @@ fn read_entry(text: &[u8], w: Words) -> Request {
     };
     let kind = script::choose_kind(word(text, w, 1));
     match kind {
-        script::Kind::Recipient => Request::Entry(Kind::Recipient, n as usize),
-        script::Kind::Identity => Request::Entry(Kind::Identity, n as usize),
-        script::Kind::Other => Request::Bad,
+        script::TextKind::Recipient => Request::Entry(TextKind::Recipient, n as usize),
+        script::TextKind::Identity => Request::Entry(TextKind::Identity, n as usize),
+        script::TextKind::Other => Request::Bad,
     }
 }
 

@@ -19,8 +19,8 @@ use plugin::Answering;
 use plugin::Responded;
 use plugin::Sent;
 use responses::Response;
-use responses::WordTwo;
 use script::CommandTwo;
+use session::WordTwo;
 
 // send COMMAND ARGS BODY OUT, where OUT is n
 pub fn send_two(
@@ -29,6 +29,7 @@ pub fn send_two(
     w: Words,
     buffer: &mut [u8],
     host: Host,
+    slots: &mut [[usize; 4]; 1344],
     errors: &mut [u8],
     stanzas: &mut [u8],
     returned: &mut [u8],
@@ -39,6 +40,7 @@ pub fn send_two(
         command,
         arguments_two(command, text, w),
         word(text, w, 3),
+        slots,
         cut(errors, lengths.errors),
         cut(stanzas, lengths.stanzas),
         cut(returned, lengths.returned),
@@ -89,6 +91,7 @@ pub fn receive_two(
     w: Words,
     buffer: &mut [u8],
     host: Host,
+    slots: &mut [[usize; 4]; 1344],
     errors: &mut [u8],
     stanzas: &mut [u8],
     returned: &mut [u8],
@@ -96,6 +99,7 @@ pub fn receive_two(
     let lengths = host.lengths;
     let received = host.session.receive(
         word(text, w, 1),
+        slots,
         cut(errors, lengths.errors),
         cut(stanzas, lengths.stanzas),
         cut(returned, lengths.returned),

@@ -13,10 +13,10 @@ use crate::words::Words;
 use crate::words::word;
 use client::Opening;
 use client::Session;
+use refusal::Verdict;
 use script::Call;
 use script::Number;
 use script::Screen;
-use session::Verdict;
 
 // What such a line comes to, and how many bytes each buffer keeps; zeros stand behind them.
 struct Setting {

@@ -14,14 +14,14 @@ use crate::print::print_end;
 use crate::print::print_number;
 use crate::print::print_word;
 use crate::returned::print_returned;
-use bech32::Kind;
-use look_up_two::Awaited;
+use bech32::TextKind;
+use look_up::Awaited;
 use session::Phase;
 use session::Tables;
 use tables::Entry;
 use tables::Found;
-use tables::Table64;
-use tables::Table256;
+use tables::Holding;
+use tables::Table;
 
 // The phases, the kinds and the marks by their numbers.
 const PHASES: [u8; 20] = *b"one two ended closed";
@@ -37,9 +37,10 @@ const HEADER: usize = 3;
 
 // entry recipient N, entry identity N
 pub fn look_up<'a>(
-    kind: Kind,
+    kind: TextKind,
     n: usize,
     host: Host,
+    slots: &[[usize; 4]; 1344],
     recipients: &'a Buffer,
     identities: &'a Buffer,
     out: &mut Output,
@@ -49,12 +50,13 @@ pub fn look_up<'a>(
     let session = host.session;
     let r = front(recipients, lengths.recipients);
     let i = front(identities, lengths.identities);
-    Answer::Printed(print_text(session.tables.entry(kind, n, r, i), out, at))
+    Answer::Printed(print_text(session.tables.entry(kind, n, slots, r, i), out, at))
 }
 
 // show
 pub fn show(
     host: Host,
+    slots: &[[usize; 4]; 1344],
     recipients: &Buffer,
     identities: &Buffer,
     keys: &Buffer,
@@ -73,6 +75,7 @@ pub fn show(
     let b = print_given(
         tables,
         lengths,
+        slots,
         recipients,
         identities,
         keys,
@@ -80,7 +83,7 @@ pub fn show(
         out,
         a,
     );
-    Answer::Printed(print_returned(tables, lengths, errors, stanzas, returned, out, b))
+    Answer::Printed(print_returned(tables, lengths, slots, errors, stanzas, returned, out, b))
 }
 
 // The lines of the phase, and of the command that awaits an answer.
@@ -94,7 +97,7 @@ fn print_phase(phase: Phase, out: &mut Output, at: usize) -> usize {
 
 // The word of the command that awaits an answer.
 fn print_awaited(phase: Phase, out: &mut Output, at: usize) -> usize {
-    let awaited = look_up_two::awaited_command(phase);
+    let awaited = look_up::awaited_command(phase);
     match awaited {
         Awaited::Command(word) => print_word(stanza::argument(&NAMES, number_two(word)), out, at),
         Awaited::Nothing => print_bytes(b" -", out, at),
@@ -116,6 +119,7 @@ fn phase_number(phase: Phase) -> usize {
 fn print_given(
     tables: Tables,
     lengths: Lengths,
+    slots: &[[usize; 4]; 1344],
     recipients: &Buffer,
     identities: &Buffer,
     keys: &Buffer,
@@ -126,6 +130,8 @@ fn print_given(
     let a = print_table(
         0,
         tables.recipients,
+        Holding::Recipients,
+        slots,
         front(recipients, lengths.recipients),
         out,
         at,
@@ -133,20 +139,44 @@ fn print_given(
     let b = print_table(
         1,
         tables.identities,
+        Holding::Identities,
+        slots,
         front(identities, lengths.identities),
         out,
         a,
     );
-    let c = print_table(FILE_KEY, tables.keys, front(keys, lengths.keys), out, b);
-    print_headers(tables.headers, front(headers, lengths.headers), out, c)
+    let c = print_table(
+        FILE_KEY,
+        tables.keys,
+        Holding::Keys,
+        slots,
+        front(keys, lengths.keys),
+        out,
+        b,
+    );
+    print_headers(
+        tables.headers,
+        slots,
+        front(headers, lengths.headers),
+        out,
+        c,
+    )
 }
 
 // The entries of a table of 64 slots.
-fn print_table(kind: usize, table: Table64, buffer: &[u8], out: &mut Output, at: usize) -> usize {
+fn print_table(
+    kind: usize,
+    table: Table,
+    holding: Holding,
+    slots: &[[usize; 4]; 1344],
+    buffer: &[u8],
+    out: &mut Output,
+    at: usize,
+) -> usize {
     let mut next = at;
     let mut n: usize = 0;
     while n < 64 {
-        let found = table.find(n);
+        let found = table.find(holding, n, slots);
         match found {
             Found::Nothing => {
                 return next;
@@ -161,11 +191,17 @@ fn print_table(kind: usize, table: Table64, buffer: &[u8], out: &mut Output, at:
 }
 
 // The header stanzas.
-fn print_headers(table: Table256, buffer: &[u8], out: &mut Output, at: usize) -> usize {
+fn print_headers(
+    table: Table,
+    slots: &[[usize; 4]; 1344],
+    buffer: &[u8],
+    out: &mut Output,
+    at: usize,
+) -> usize {
     let mut next = at;
     let mut n: usize = 0;
     while n < 256 {
-        let found = table.find(n);
+        let found = table.find(Holding::Headers, n, slots);
         match found {
             Found::Nothing => {
                 return next;
@@ -205,7 +241,7 @@ fn print_index(kind: usize, index: usize, out: &mut Output, at: usize) -> usize 
 }
 
 // The mark of an entry, if its kind has marks.
-fn print_mark(kind: usize, mark: u8, out: &mut Output, at: usize) -> usize {
+fn print_mark(kind: usize, mark: usize, out: &mut Output, at: usize) -> usize {
     if kind == FILE_KEY {
         return at;
     }
@@ -213,9 +249,9 @@ fn print_mark(kind: usize, mark: u8, out: &mut Output, at: usize) -> usize {
 }
 
 // The number of a mark's word: a recipient or an identity is valid where its mark is 0; a header stanza's mark is 0, 1 or 2.
-fn mark_number(kind: usize, mark: u8) -> usize {
+fn mark_number(kind: usize, mark: usize) -> usize {
     if kind == HEADER {
-        return 2 + least(2, mark as usize);
+        return 2 + least(2, mark);
     }
-    least(1, mark as usize)
+    least(1, mark)
 }

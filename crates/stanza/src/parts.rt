@@ -4,7 +4,7 @@ ghost use mathlib.Core.Path.{_≡_};
 ghost use Prim.Native.Nat.{_+_, min};
 ghost use lib.ListN.{take, drop};
 ghost use Rattle.refusal.specs.Output.{said, answered, filled};
-ghost use Rattle.stanza.specs.Parts.{argumentsIn, bodyIn};
+ghost use Rattle.stanza.specs.Parts.{argumentsIn, linesIn, bodyIn};
 use crate::reading::Stanza;
 use refusal::Written;
 
@@ -24,6 +24,13 @@ pub fn body_of(text: &[u8], s: Stanza, out: &mut [u8]) -> Written
     ensures buffer { λ r. ⌜ now (out .exit) ≡ filled (bodyIn (now (text .entry)) s) (now (out .entry)) ⌝ }
 {
     base64::decode_lines(lines(text, s.line, s.taken), out)
+}
+
+// The lines of base64 that the body is, a part of the stanza's text.
+pub fn lines_of<'a>(text: &'a [u8], s: Stanza) -> &'a [u8]
+    ensures { λ r. ⌜ now r ≡ linesIn (now (text .entry)) s ⌝ }
+{
+    lines(text, s.line, s.taken)
 }
 
 // The lines behind the first line, up to `taken`.

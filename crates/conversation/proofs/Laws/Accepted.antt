@@ -19,19 +19,20 @@ use Rattle.stanza.specs.Writing.{isWritable}
 use Rattle.stanza.proofs.Laws.RoundTrip.{written-read}
 use Rattle.responses.specs.Responses.{ResponseRead, response, nothing, responseOf, responseLine, fitsWhole}
 use Rattle.responses.specs.declared.Response.{Response}
-use Rattle.responses.specs.declared.WordTwo.{WordTwo}
+use Rattle.session.specs.declared.words.WordTwo.{WordTwo}
 use Rattle.responses.proofs.Laws.Responses.{read-line}
-use Rattle.session.specs.Commands as one-command
-use Rattle.session.specs.Commands.{Word}
-use Rattle.session.specs.PhaseOne as one
-use Rattle.session.specs.PhaseOne.{firstOf, commandIn, payloadIn, numberOne, tablesOne, buffersOne}
-use Rattle.session.specs.Phases.{turnOne, phaseAfter}
-use Rattle.session.specs.Views as one-kind
+use Rattle.phase_one.specs.Commands as one-command
+use Rattle.phase_one.specs.Commands.{WordOne}
+use Rattle.phase_one.specs.PhaseOne as one
+use Rattle.refusal.specs.Verdict.{firstOf}
+use Rattle.phase_one.specs.PhaseOne.{commandIn, payloadIn, numberOne, tablesOne, buffersOne}
+use Rattle.phase_one.specs.Turns.{turnOne, phaseAfter}
+use Rattle.phase_one.specs.Views as one-kind
 use Rattle.session.specs.declared.phases.Phase.{Phase}
 use Rattle.session.specs.declared.phases.Phase.the-variants.{One, Two, Awaiting, Ended, Closed}
-use Rattle.session.proofs.Laws.PhaseOne.{accepted-one}
-use Rattle.session.proofs.Laws.Views.{Reached, applied-view, first-zero}
-use Rattle.conversation.specs.Session.{Session, moved}
+use Rattle.phase_one.proofs.Laws.PhaseOne.{accepted-one}
+use Rattle.phase_one.proofs.Laws.Views.{Reached, applied-view, first-zero}
+use Rattle.session.specs.Session.{Session, moved}
 use Rattle.conversation.specs.Kinds.{Buffers, buffersOf}
 use Rattle.conversation.specs.CommandsTwo as two-command
 use Rattle.conversation.specs.CommandsTwo.{CommandTwo, commandTwo, payloadOf}
@@ -249,7 +250,7 @@ module _ (s : Session) (b : Buffers) where
       (λ f. eqb-false n 0 f))
       (λ w h. omega arith)
 
-  sent-one : (word : Word) (arguments body out : List ℕ) → numberSent (sending.sent s word arguments body (b .first) out) ≡ 0 →
+  sent-one : (word : WordOne) (arguments body out : List ℕ) → numberSent (sending.sent s word arguments body (b .first) out) ≡ 0 →
       SentOne (one-command.lineSent word arguments) body out (sending.sent s word arguments body (b .first) out)
   unfolding sending.sent
   sent-one word arguments body out =

@@ -17,13 +17,15 @@ use Rattle.stanza.specs.Reading.{readFirst}
 use Rattle.stanza.specs.Writing.{isWritable}
 use Rattle.stanza.proofs.Laws.RoundTrip.{read-written, read-arguments, read-body}
 use Rattle.tables.specs.Tables.{Table, fits, appended, entered}
-use Rattle.session.specs.Commands.{Command, recipient, identity, key, header, done, other, bad, Word, wordOf, lineSent}
-use Rattle.session.specs.PhaseOne.{Tables, Buffers, commandIn, payloadIn, falls, decided, applied, firstOf, numberOne}
-use Rattle.session.specs.Phases.{turnOne}
-use Rattle.session.specs.Views.{Kind, recipients, identities, keys, headers, tableOf, bufferOf, viewOf, rowsOf}
+use Rattle.phase_one.specs.Commands.{CommandOne, recipient, identity, key, header, done, other, bad, WordOne, wordOf, lineSent}
+use Rattle.session.specs.Tables.{Tables}
+use Rattle.phase_one.specs.PhaseOne.{Buffers, commandIn, payloadIn, falls, decided, applied, numberOne}
+use Rattle.refusal.specs.Verdict.{firstOf}
+use Rattle.phase_one.specs.Turns.{turnOne}
+use Rattle.phase_one.specs.Views.{Kind, recipients, identities, keys, headers, tableOf, bufferOf, viewOf, rowsOf}
 use Rattle.session.specs.declared.phases.Phase.the-variants.{One}
-use Rattle.session.proofs.Laws.Views.{Reached, space, header-space}
-use Rattle.conversation.specs.Session.{Session}
+use Rattle.phase_one.proofs.Laws.Views.{Reached, space, header-space}
+use Rattle.session.specs.Session.{Session}
 use Rattle.conversation.specs.Receiving.{took, Received, refusedReceipt, receivedStanza, receivedAs, received}
 use Rattle.conversation.specs.Sending.{Sent, sent}
 use Rattle.conversation.specs.Kinds as kinds
@@ -48,11 +50,11 @@ fits-again t n index mark c c′ f h =
 
 module _ (t : Tables) (b b′ : Buffers) (p : List ℕ) where
   -- the other end's buffers are long enough for what the tables then take
-  abbrev Enough : Command → Type 0
+  abbrev Enough : CommandOne → Type 0
   Enough c = (k : Kind) → tableOf k (applied t b c p) .used ≤ length (bufferOf k b′)
 
   -- the same number, and the same tables
-  again : (c : Command) → decided t b c (length p) ≡ 0 → Enough c → (decided t b′ c (length p) ≡ 0) × (applied t b′ c p ≡ applied t b c p)
+  again : (c : CommandOne) → decided t b c (length p) ≡ 0 → Enough c → (decided t b′ c (length p) ≡ 0) × (applied t b′ c p ≡ applied t b c p)
   again (recipient m) h r =
       let e = fits-again (t .recipients) (length p) 0 m (length (b .recipients)) (length (b′ .recipients)) (space (fits (t .recipients) (length p) (length (b .recipients))) h) (r recipients) in
       (ap (λ x. pick x 0 8) e ∙ h, rw e)
@@ -147,7 +149,7 @@ module _ (s : Session) (b b′ : Buffers) (line body out : List ℕ) (n : ℕ) (
       }
 
 -- what the client sends the plugin accepts, at the front of any text that begins with it, where each of its buffers is long enough for what the client's table takes
-pub agreement : (s s′ : Session) (b b′ : Buffers) (word : Word) (arguments body out text : List ℕ) (n : ℕ) → Alike s s′ → areBytes body ≡ true →
+pub agreement : (s s′ : Session) (b b′ : Buffers) (word : WordOne) (arguments body out text : List ℕ) (n : ℕ) → Alike s s′ → areBytes body ≡ true →
     sent s word arguments body b out .answer ≡ bytes n →
     take n text ≡ take n (sent s word arguments body b out .output) →
     ((k : Kind) → tableOf k (sent s word arguments body b out .session .tables) .used ≤ length (bufferOf k b′)) →

@@ -7,12 +7,13 @@ use mathlib.Core.List.{List, [], _∷_, _++_, map, map-append, append-nil, appen
 use lib.ListN.{length}
 use native.Mathlib.Omega.{arith}
 use Rattle.tables.specs.Tables.{Table, Row}
-use Rattle.session.specs.declared.commands.Machine.{Machine}
-use Rattle.session.specs.Commands.{Command, recipient, identity, key, header, done, other, bad}
-use Rattle.session.specs.PhaseOne.{Tables, Buffers, openedTables, applied}
-use Rattle.session.specs.Views.{Kind, recipients, identities, keys, headers, bufferOf, viewOf}
-use Rattle.session.proofs.Laws.Views.{Reached, opened-reached}
-use Rattle.conversation.specs.Session.{Session, openedSession}
+use Rattle.session.specs.declared.opening.Machine.{Machine}
+use Rattle.phase_one.specs.Commands.{CommandOne, recipient, identity, key, header, done, other, bad}
+use Rattle.session.specs.Tables.{Tables, openedTables}
+use Rattle.phase_one.specs.PhaseOne.{Buffers, applied}
+use Rattle.phase_one.specs.Views.{Kind, recipients, identities, keys, headers, bufferOf, viewOf}
+use Rattle.phase_one.proofs.Laws.Views.{Reached, opened-reached}
+use Rattle.session.specs.Session.{Session, openedSession}
 use Rattle.conversation.specs.Kinds.{buffersOf}
 use Rattle.conversation.specs.Kinds as kinds
 use Rattle.conversation.specs.PhaseTwo as two
@@ -28,7 +29,7 @@ abbrev lateOf : Tables → Table × Table × Table
 lateOf t = (t .errors, t .stanzas, t .returned)
 
 -- which phase one leaves as they were
-applied-late : (t : Tables) (b : Buffers) (c : Command) (p : List ℕ) → lateOf (applied t b c p) ≡ lateOf t
+applied-late : (t : Tables) (b : Buffers) (c : CommandOne) (p : List ℕ) → lateOf (applied t b c p) ≡ lateOf t
 applied-late t b (recipient m) p = refl
 applied-late t b (identity m) p = refl
 applied-late t b key p = refl

@@ -16,12 +16,13 @@ use Rattle.stanza.specs.Reading as reading
 use Rattle.stanza.specs.Reading.{Reading, readFirst}
 use Rattle.stanza.specs.Writing.{isWritable}
 use Rattle.responses.specs.Responses.{fitsWhole, ResponseRead, response, responseOf}
-use Rattle.responses.specs.declared.WordTwo.{WordTwo}
+use Rattle.session.specs.declared.words.WordTwo.{WordTwo}
 use Rattle.tables.specs.Tables.{Row, view}
-use Rattle.session.specs.Commands.{isBare}
-use Rattle.session.specs.PhaseOne.{Tables, firstOf}
-use Rattle.session.specs.Views as one-kind
-use Rattle.session.specs.Views.{recipients, identities, headers}
+use Rattle.phase_one.specs.Commands.{isBare}
+use Rattle.session.specs.Tables.{Tables}
+use Rattle.refusal.specs.Verdict.{firstOf}
+use Rattle.phase_one.specs.Views as one-kind
+use Rattle.phase_one.specs.Views.{recipients, identities, headers}
 use Rattle.session.specs.declared.phases.Phase.the-variants.{Two, Awaiting, Ended}
 use Rattle.conversation.specs.Calls.{Call, send-two, respond, sentNumber, respondedNumber, Outcome, outcome, writtenBy, stateOf, after, numbers, lineRead, bodyRead, AllZero, Accepted}
 use Rattle.conversation.specs.CommandsTwo.{Named, internal, identity, recipient, header, CommandTwo, ask, stanza, key, error, done, other, bad, wordOf}
@@ -32,7 +33,7 @@ use Rattle.conversation.specs.Responding as responding
 use Rattle.conversation.specs.Responding.{respondedAs, respondedText}
 use Rattle.conversation.specs.Sending.{shortness}
 use Rattle.conversation.specs.SendingTwo.{phaseSent, Sent, sentLine, sent}
-use Rattle.conversation.specs.Session.{Session}
+use Rattle.session.specs.Session.{Session}
 use Rattle.conversation.specs.Allowed.{Left, isRightTwo, RowAt, Present, Said, Exchange, lineOf, commandSent, saidIn, OneResponse, Responded, NoneInvalid, Unheld, Some, Reported, AllReported, RightExchange, AllowedSent, isDoneSent, responseCalls, exchangeCalls, sendingCalls}
 use Rattle.conversation.proofs.Laws.Accepted.{Written, accepted}
 use Rattle.conversation.proofs.Laws.AllowedTwo.{Standing, decided-exact, standing-with, Fitting, fitting-front, fitting-one, fitting-rest, done-word}

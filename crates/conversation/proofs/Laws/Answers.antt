@@ -15,14 +15,15 @@ use Rattle.stanza.specs.Index.{Reading, number, refused, readIndex}
 use Rattle.responses.specs.Responses.{fitting, fitsWhole, mayHaveBody}
 use Rattle.responses.specs.declared.Response.{Response}
 use Rattle.responses.specs.declared.Response.the-variants.{Fail}
-use Rattle.responses.specs.declared.WordTwo.{WordTwo}
-use Rattle.responses.specs.declared.WordTwo.the-variants.{Msg, Confirm, RequestPublic, RequestSecret, RecipientStanza, FileKey, Error, Other, Done}
-use Rattle.session.specs.Commands as one-command
-use Rattle.session.specs.Commands.{isBare}
-use Rattle.session.specs.PhaseOne as one
-use Rattle.session.specs.Phases.{phaseAfter, closes}
-use Rattle.session.specs.declared.commands.Machine.{Machine}
-use Rattle.session.specs.declared.commands.Machine.the-variants.{RecipientV1, IdentityV1}
+use Rattle.session.specs.declared.words.WordTwo.{WordTwo}
+use Rattle.session.specs.declared.words.WordTwo.the-variants.{Msg, Confirm, RequestPublic, RequestSecret, RecipientStanza, FileKey, Error, Other, Done}
+use Rattle.phase_one.specs.Commands as one-command
+use Rattle.phase_one.specs.Commands.{isBare}
+use Rattle.phase_one.specs.PhaseOne as one
+use Rattle.phase_one.specs.Turns.{phaseAfter}
+use Rattle.session.specs.Phases.{closes}
+use Rattle.session.specs.declared.opening.Machine.{Machine}
+use Rattle.session.specs.declared.opening.Machine.the-variants.{RecipientV1, IdentityV1}
 use Rattle.session.specs.declared.phases.Phase.{Phase}
 use Rattle.session.specs.declared.phases.Phase.the-variants.{One, Two, Awaiting, Ended, Closed}
 use Rattle.conversation.specs.Answers.{Event, asked, responded, askedBy, answeredBy, respondedBy, eventsOf, events, Paired}
@@ -32,7 +33,7 @@ use Rattle.conversation.specs.Kinds.{Buffers}
 use Rattle.conversation.specs.Phases.{lineIn, bodyIn, isDone, commandIn}
 use Rattle.conversation.specs.ReceivingTwo.{atOnce, phaseReceived}
 use Rattle.conversation.specs.SendingTwo.{phaseSent}
-use Rattle.conversation.specs.Session.{Session, closed, opened}
+use Rattle.session.specs.Session.{Session, closed, opened}
 use Rattle.conversation.proofs.Laws.CommandsTwo.{Proper, command-proper}
 use Rattle.conversation.proofs.Laws.Accepted.{Applied, accepted}
 use Rattle.conversation.proofs.Laws.Refusals.{refusal}
@@ -64,7 +65,7 @@ SoFar Ended es = Paired es
 SoFar Closed es = Unit
 
 -- an accepted command of phase one
-one-so-far : (c : one-command.Command) (es : List Event) → es ≡ [] → SoFar (phaseAfter c) (es ++ [])
+one-so-far : (c : one-command.CommandOne) (es : List Event) → es ≡ [] → SoFar (phaseAfter c) (es ++ [])
 one-so-far (one-command.recipient m) es e = append-nil es ∙ e
 one-so-far (one-command.identity m) es e = append-nil es ∙ e
 one-so-far one-command.key es e = append-nil es ∙ e

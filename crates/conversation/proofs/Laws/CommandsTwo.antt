@@ -14,11 +14,11 @@ use Rattle.stanza.specs.Index.{readIndex, Reading, number, refused}
 use Rattle.stanza.proofs.Laws.Index.{read-index}
 use Rattle.responses.specs.Responses.{fitting}
 use Rattle.responses.specs.declared.Response.the-variants.{Fail}
-use Rattle.responses.specs.declared.WordTwo.{WordTwo}
-use Rattle.responses.specs.declared.WordTwo.the-variants.{Msg, Confirm, RequestPublic, RequestSecret, RecipientStanza, FileKey, Error, Other, Done}
-use Rattle.session.specs.Commands.{recipientStanza, doneWord, isBare}
-use Rattle.session.specs.declared.commands.Machine.{Machine}
-use Rattle.session.specs.declared.commands.Machine.the-variants.{RecipientV1, IdentityV1}
+use Rattle.session.specs.declared.words.WordTwo.{WordTwo}
+use Rattle.session.specs.declared.words.WordTwo.the-variants.{Msg, Confirm, RequestPublic, RequestSecret, RecipientStanza, FileKey, Error, Other, Done}
+use Rattle.phase_one.specs.Commands.{recipientStanza, doneWord, isBare}
+use Rattle.session.specs.declared.opening.Machine.{Machine}
+use Rattle.session.specs.declared.opening.Machine.the-variants.{RecipientV1, IdentityV1}
 use Rattle.conversation.specs.CommandsTwo.{Named, internal, identity, recipient, CommandTwo, ask, stanza, key, error, done, other, bad, areLabels, msgWord, confirmWord, requestPublic, requestSecret, fileKeyWord, errorWord, internalWord, identityWord, recipientWord, stanzaWord, stanzaAt, keyAt, errorAt, headerAt, errorOf, rowTwo, workWord, wordTwo, commandTwo}
 
 -- d says whether the word is done

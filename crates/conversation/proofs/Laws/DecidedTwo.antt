@@ -11,12 +11,13 @@ use native.Mathlib.Omega.{arith}
 use borrow.Author.Tests.{ltb-true, ltb-false, leb-true, leb-false, lt-ltb, le-ltb, le-leb, lt-leb, eqb-true, eqb-false, eq-eqb}
 use Rattle.refusal.specs.Pick.{pick}
 use Rattle.refusal.proofs.Laws.Booleans.{and-true, true-and, cases}
-use Rattle.tables.specs.declared.tables.Entry.{Entry}
+use Rattle.tables.specs.declared.slots.Entry.{Entry}
 use Rattle.tables.specs.Tables.{Table, Row, fits, entered, rowOf, view, kept, appended}
 use Rattle.tables.proofs.Laws.Tables.{Kept, appended-view, view-count, entered-view}
-use Rattle.session.specs.PhaseOne.{Tables, firstOf}
+use Rattle.session.specs.Tables.{Tables}
+use Rattle.refusal.specs.Verdict.{firstOf}
 use Rattle.conversation.specs.CommandsTwo.{Named, internal, identity, recipient, header, CommandTwo, ask, stanza, key, error, done, other, bad}
-use Rattle.conversation.specs.PhaseTwo.{Kind, errors, stanzas, returned, Buffers, tableOf, bufferOf, viewOf, Label, labelOf, labels, howMany, isAny, passes, isFile, namesFile, belongs, stanzasFor, mostStanzas, hasKey, markOf, indexOf, isAbout, hasErrorFor, isMissing, isSecondKey, isTooMany, isAgainstKey, isClashing, isSpaceless, isHeldBack, when, faultOf, decided, applied, filledBy, rowsOf}
+use Rattle.conversation.specs.PhaseTwo.{Kind, errors, stanzas, returned, Buffers, tableOf, bufferOf, viewOf, Label, labelOf, labels, howMany, isAny, passes, isFile, namesFile, belongs, stanzasFor, mostStanzas, hasKey, markOf, indexOf, isAbout, hasErrorFor, isMissing, isSecondKey, isTooMany, isAgainstKey, isClashing, isSpaceless, isHeldBack, when, faultOf, ruled, decided, applied, filledBy, rowsOf}
 use Rattle.conversation.specs.Allowed.{isRightTwo, isKeyFor, isErrorFor, isKind, Said, Sum, keys-for, stanzas-for, errors-for, entries, bytes, weight, slotsTwo, Limits}
 use Rattle.conversation.proofs.Laws.Firsts.{first-iff}
 
@@ -48,31 +49,39 @@ decided-iff own t b c n = (to, from)
   where
     to : decided own t b c n ≡ 0 → Faultless own t b c n
     to h =
-        let a = first-iff (faultOf c) _ .0 h in
+        let r = first-iff (ruled own t c) (when (isSpaceless t b c n) 8) .0 h in
+        let a = first-iff (faultOf c) _ .0 (r .0) in
         let a6 = test-iff (isMissing t c) 6 _ (omega arith) .0 (a .1) in
         let a9 = test-iff (isSecondKey t c) 9 _ (omega arith) .0 (a6 .1) in
         let a10 = test-iff (isTooMany t c) 10 _ (omega arith) .0 (a9 .1) in
         let a11 = test-iff (isClashing t c) 11 _ (omega arith) .0 (a10 .1) in
-        let a19 = test-iff (own && isHeldBack t c) 19 _ (omega arith) .0 (a11 .1) in
-        record { right = a .0; there = a6 .0; first-key = a9 .0; few = a10 .0; apart = a11 .0; unheld = a19 .0; space = when-iff (isSpaceless t b c n) 8 (omega arith) .0 (a19 .1) }
+        record {
+          right = a .0;
+          there = a6 .0;
+          first-key = a9 .0;
+          few = a10 .0;
+          apart = a11 .0;
+          unheld = when-iff (own && isHeldBack t c) 19 (omega arith) .0 (a11 .1);
+          space = when-iff (isSpaceless t b c n) 8 (omega arith) .0 (r .1);
+        }
 
     from : Faultless own t b c n → decided own t b c n ≡ 0
     from f =
-        first-iff (faultOf c) _ .1 (
-          f .right,
-          test-iff (isMissing t c) 6 _ (omega arith) .1 (
-            f .there,
-            test-iff (isSecondKey t c) 9 _ (omega arith) .1 (
-              f .first-key,
-              test-iff (isTooMany t c) 10 _ (omega arith) .1 (
-                f .few,
-                test-iff (isClashing t c) 11 _ (omega arith) .1 (
-                  f .apart,
-                  test-iff (own && isHeldBack t c) 19 _ (omega arith) .1 (f .unheld, when-iff (isSpaceless t b c n) 8 (omega arith) .1 (f .space)),
+        first-iff (ruled own t c) (when (isSpaceless t b c n) 8) .1 (
+          first-iff (faultOf c) _ .1 (
+            f .right,
+            test-iff (isMissing t c) 6 _ (omega arith) .1 (
+              f .there,
+              test-iff (isSecondKey t c) 9 _ (omega arith) .1 (
+                f .first-key,
+                test-iff (isTooMany t c) 10 _ (omega arith) .1 (
+                  f .few,
+                  test-iff (isClashing t c) 11 _ (omega arith) .1 (f .apart, when-iff (own && isHeldBack t c) 19 (omega arith) .1 (f .unheld)),
                 ),
               ),
             ),
           ),
+          when-iff (isSpaceless t b c n) 8 (omega arith) .1 (f .space),
         )
 
 -- ---- labels: what is kept of an entry beside its payload is shown by its row

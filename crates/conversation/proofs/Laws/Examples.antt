@@ -15,11 +15,11 @@ use Rattle.stanza.specs.Arguments.{isGraphic, isWordByte, before, words}
 use Rattle.stanza.specs.Automaton.{next, verdict, scan}
 use Rattle.stanza.specs.Grammar.{stanzaText}
 use Rattle.stanza.specs.Reading.{found}
-use Rattle.session.specs.Commands.{add-recipient, add-identity, wrap-file-key, done-word, lineSent}
-use Rattle.session.specs.PhaseOne.{buffersOf}
-use Rattle.session.specs.Views.{Kind, recipients, identities, keys, headers, bufferOf}
-use Rattle.session.specs.declared.commands.Machine.the-variants.{RecipientV1}
-use Rattle.conversation.specs.Session.{Session, openedSession}
+use Rattle.phase_one.specs.Commands.{add-recipient, add-identity, wrap-file-key, done-word, lineSent}
+use Rattle.phase_one.specs.PhaseOne.{buffersOf}
+use Rattle.phase_one.specs.Views.{Kind, recipients, identities, keys, headers, bufferOf}
+use Rattle.session.specs.declared.opening.Machine.the-variants.{RecipientV1}
+use Rattle.session.specs.Session.{Session, openedSession}
 use Rattle.conversation.specs.Kinds as kinds
 use Rattle.conversation.specs.Kinds.{Buffers, first, viewOf}
 use Rattle.conversation.specs.PhaseTwo as two

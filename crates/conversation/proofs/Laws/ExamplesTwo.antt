@@ -25,15 +25,15 @@ use Rattle.stanza.specs.Index.{digits, readIndex}
 use Rattle.stanza.specs.Reading.{found}
 use Rattle.responses.specs.Responses.{responseLine}
 use Rattle.responses.specs.declared.Response.the-variants.{Ok, Unsupported}
-use Rattle.responses.specs.declared.WordTwo.the-variants.{Msg, RecipientStanza, FileKey, Error, Done}
+use Rattle.session.specs.declared.words.WordTwo.the-variants.{Msg, RecipientStanza, FileKey, Error, Done}
 use Rattle.tables.specs.Tables.{Row}
-use Rattle.session.specs.Commands as one-command
-use Rattle.session.specs.Commands.{afterSpace}
+use Rattle.phase_one.specs.Commands as one-command
+use Rattle.phase_one.specs.Commands.{afterSpace}
 use Rattle.session.specs.Opening.{recipientV1}
-use Rattle.session.specs.PhaseOne as one
-use Rattle.session.specs.PhaseOne.{Tables, openedTables}
-use Rattle.session.specs.Views as one-kind
-use Rattle.session.specs.declared.commands.Machine.the-variants.{RecipientV1, IdentityV1}
+use Rattle.phase_one.specs.PhaseOne as one
+use Rattle.session.specs.Tables.{Tables, openedTables}
+use Rattle.phase_one.specs.Views as one-kind
+use Rattle.session.specs.declared.opening.Machine.the-variants.{RecipientV1, IdentityV1}
 use Rattle.session.specs.declared.phases.Phase.the-variants.{Two}
 use Rattle.conversation.specs.Calls.{Call, send, receive-two, reply, outcome, writtenBy, State, stateOf, after, numbers, written}
 use Rattle.conversation.specs.CommandsTwo.{internalWord, identityWord, recipientWord, stanzaWord, CommandTwo, ask, stanza, key, error, done, other, bad, commandTwo, lineSent}
@@ -46,7 +46,7 @@ use Rattle.conversation.specs.ReceivingTwo as receiving-two
 use Rattle.conversation.specs.ReceivingTwo.{atOnce, textOf}
 use Rattle.conversation.specs.Replying as replying
 use Rattle.conversation.specs.Sending as sending
-use Rattle.conversation.specs.Session.{Session, moved}
+use Rattle.session.specs.Session.{Session, moved}
 use Rattle.conversation.proofs.Laws.Accepted.{accepted}
 use Rattle.conversation.proofs.Laws.Order.{order}
 use Rattle.conversation.proofs.Laws.Refusals.{refusal}

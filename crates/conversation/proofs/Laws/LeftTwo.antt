@@ -6,16 +6,16 @@ use mathlib.Core.Logic.{_↔_}
 use mathlib.Core.List.{List, [], _∷_, _++_, map, append-nil, append-assoc}
 use lib.ListN.{length}
 use Rattle.tables.specs.Tables.{Row}
-use Rattle.session.specs.PhaseOne as one
-use Rattle.session.specs.PhaseOne.{Tables}
-use Rattle.session.specs.Views as one-kind
-use Rattle.session.specs.declared.commands.Machine.{Machine}
+use Rattle.phase_one.specs.PhaseOne as one
+use Rattle.session.specs.Tables.{Tables}
+use Rattle.phase_one.specs.Views as one-kind
+use Rattle.session.specs.declared.opening.Machine.{Machine}
 use Rattle.session.specs.declared.phases.Phase.the-variants.{Two}
 use Rattle.conversation.specs.Calls.{Call, State, stateOf, after, written, Accepted}
 use Rattle.conversation.specs.Kinds.{Buffers, buffersOf}
 use Rattle.conversation.specs.PhaseTwo.{Kind, viewOf, rowsOf}
 use Rattle.conversation.specs.Phases.{All, Whole, isDone, commandIn, payloadIn, Block, Supply, behind, two-part, blockCalls, callsOf, writtenIn, responsesTo, LongEnough}
-use Rattle.conversation.specs.Session.{Session}
+use Rattle.session.specs.Session.{Session}
 use Rattle.conversation.specs.Allowed.{Left, Answered}
 use Rattle.conversation.proofs.Laws.AllowedTwo.{Standing, standing-behind, first-turn, behind-block, done-asks}
 use Rattle.conversation.proofs.Laws.Runs.{after-append, accepted-append, enough-append}

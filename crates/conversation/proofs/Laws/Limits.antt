@@ -11,12 +11,12 @@ use native.Mathlib.Omega.{arith}
 use borrow.Author.Tests.{ltb-true, ltb-false, leb-true, lt-ltb, le-ltb, le-leb}
 use Rattle.refusal.specs.Pick.{pick}
 use Rattle.refusal.proofs.Laws.Booleans.{and-true, true-and, cases}
-use Rattle.tables.specs.declared.tables.Entry.{Entry}
+use Rattle.tables.specs.declared.slots.Entry.{Entry}
 use Rattle.tables.specs.Tables.{Table, Row, empty, fits, entered, rowOf, view, placed, kept}
 use Rattle.tables.proofs.Laws.Tables.{Kept, Filled, Chained, view-count}
-use Rattle.session.specs.PhaseOne.{falls}
-use Rattle.session.proofs.Laws.PhaseOne.{falls-none, falls-is}
-use Rattle.session.specs.Views.{Kind, recipients, identities, keys, headers}
+use Rattle.phase_one.specs.PhaseOne.{falls}
+use Rattle.phase_one.proofs.Laws.PhaseOne.{falls-none, falls-is}
+use Rattle.phase_one.specs.Views.{Kind, recipients, identities, keys, headers}
 use Rattle.conversation.specs.Allowed.{slotsOf, bytesOf, Rising}
 
 -- ---- the limits of a list of rows

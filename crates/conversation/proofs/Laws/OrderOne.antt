@@ -7,11 +7,12 @@ use mathlib.Core.List.{List, [], _∷_, _++_, map, map-append, append-assoc, Per
 use lib.ListN.{length}
 use Rattle.refusal.specs.Pick.{pick}
 use Rattle.tables.specs.Tables.{view}
-use Rattle.session.specs.declared.commands.Machine.{Machine}
-use Rattle.session.specs.Commands.{Word, add-recipient, add-identity, wrap-file-key, recipient-stanza, done-word, other-word, wordIn, rowCommand}
-use Rattle.session.specs.PhaseOne.{Buffers as OneBuffers, buffersOf, openedTables}
-use Rattle.session.specs.Views.{Kind, headers, bufferOf}
-use Rattle.conversation.specs.Session.{Session, openedSession}
+use Rattle.session.specs.declared.opening.Machine.{Machine}
+use Rattle.phase_one.specs.Commands.{WordOne, add-recipient, add-identity, wrap-file-key, recipient-stanza, done-word, other-word, wordIn, rowCommand}
+use Rattle.phase_one.specs.PhaseOne.{Buffers as OneBuffers, buffersOf}
+use Rattle.session.specs.Tables.{openedTables}
+use Rattle.phase_one.specs.Views.{Kind, headers, bufferOf}
+use Rattle.session.specs.Session.{Session, openedSession}
 use Rattle.conversation.specs.Kinds.{Buffers, second, viewOf, ofFile}
 use Rattle.conversation.specs.PhaseTwo as two
 use Rattle.conversation.specs.Calls.{receive, outcome, written, State, stateOf, after, Accepted}
@@ -50,7 +51,7 @@ module _ (machine : Machine) (name : List ℕ) (k : Kind) where
 
 -- ---- a command that is not known is right: it is ignored
 
-other-right : (g l : List ℕ) (n : ℕ) (w : Word) → isNamed w ≡ false → isRight (rowCommand w g l n) ≡ true
+other-right : (g l : List ℕ) (n : ℕ) (w : WordOne) → isNamed w ≡ false → isRight (rowCommand w g l n) ≡ true
 other-right g l n add-recipient h = absurd (true≢false h)
 other-right g l n add-identity h = absurd (true≢false h)
 other-right g l n wrap-file-key h = absurd (true≢false h)

@@ -13,11 +13,11 @@ use Rattle.refusal.specs.Pick.{pick}
 use Rattle.refusal.proofs.Laws.Booleans.{cases}
 use Rattle.tables.specs.Tables.{Table, Row, view, opened}
 use Rattle.tables.proofs.Laws.Tables.{Kept, opened-kept, view-count}
-use Rattle.session.specs.PhaseOne.{Tables, openedTables}
-use Rattle.session.specs.Views as one-kind
-use Rattle.session.specs.Views.{recipients, identities}
-use Rattle.session.proofs.Laws.Views.{Reached}
-use Rattle.session.specs.declared.commands.Machine.{Machine}
+use Rattle.session.specs.Tables.{Tables, openedTables}
+use Rattle.phase_one.specs.Views as one-kind
+use Rattle.phase_one.specs.Views.{recipients, identities}
+use Rattle.phase_one.proofs.Laws.Views.{Reached}
+use Rattle.session.specs.declared.opening.Machine.{Machine}
 use Rattle.session.specs.declared.phases.Phase.the-variants.{Two}
 use Rattle.conversation.specs.Calls.{State, stateOf, after, Accepted}
 use Rattle.conversation.specs.CommandsTwo.{Named, internal, identity, recipient, header, CommandTwo, ask, stanza, key, error, done, other, bad}
@@ -25,7 +25,7 @@ use Rattle.conversation.specs.Kinds as kinds
 use Rattle.conversation.specs.Kinds.{Buffers, ofFile}
 use Rattle.conversation.specs.PhaseTwo.{Kind, errors, stanzas, returned, tableOf, bufferOf, viewOf, labels, howMany, isFile, isAbout, mostStanzas, rowsOf, indexOf, markOf}
 use Rattle.conversation.specs.Phases.{All, keep, Whole, isDone, commandIn, payloadIn, isNamedTwo, isError, isStanzaFor, Part, one-part, two-part, Block, Phase, blocksOf, IsPhase, Supply, callsOf, writtenIn, responsesTo, LongEnough, Starts, JustDone, SameLengths, SameStart, isKept, Strand, of-errors, of-file, isIn, Rearranged, SameTables, SameOutcome}
-use Rattle.conversation.specs.Session.{Session, moved}
+use Rattle.session.specs.Session.{Session, moved}
 use Rattle.conversation.specs.Allowed.{Left, isRightTwo, Present, isKeyFor, isErrorFor, isKind, Said, Sum, keys-for, stanzas-for, errors-for, entries, bytes, weight, total, slotsTwo, Limits, saidBy, Answered, RightBlock, AllowedTwo}
 use Rattle.conversation.proofs.Laws.AllowedTwo.{limits-same, Standing, Fitting, accepted-from}
 use Rattle.conversation.proofs.Laws.DecidedTwo.{rowLabels, labels-view}

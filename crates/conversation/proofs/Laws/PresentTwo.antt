@@ -11,10 +11,10 @@ use borrow.Author.Tests.{ltb-true, ltb-false, lt-ltb, le-ltb, eqb-true, eqb-fals
 use Rattle.refusal.specs.Pick.{pick}
 use Rattle.refusal.proofs.Laws.Booleans.{and-true, true-and, cases}
 use Rattle.tables.specs.Tables.{Row}
-use Rattle.session.specs.PhaseOne as one
-use Rattle.session.specs.PhaseOne.{Tables}
-use Rattle.session.specs.Views as one-kind
-use Rattle.session.specs.Views.{recipients, identities, keys, headers}
+use Rattle.phase_one.specs.PhaseOne as one
+use Rattle.session.specs.Tables.{Tables}
+use Rattle.phase_one.specs.Views as one-kind
+use Rattle.phase_one.specs.Views.{recipients, identities, keys, headers}
 use Rattle.conversation.specs.CommandsTwo.{Named, internal, identity, recipient, header, CommandTwo, ask, stanza, key, error, done, other, bad}
 use Rattle.conversation.specs.PhaseTwo.{Label, labels, howMany, isAny, passes, isFile, mostStanzas, isMissing, Buffers, applied}
 use Rattle.conversation.specs.Allowed.{Left, RowAt, Present}

@@ -13,18 +13,20 @@ use Rattle.stanza.specs.Reading.{readFirst}
 use Rattle.bech32.specs.Text.{isName}
 use Rattle.tables.specs.Tables.{Table, fits, appended, entered}
 use Rattle.tables.proofs.Laws.Tables.{Filled}
-use Rattle.session.specs.Commands.{Command, recipient, identity, key, header, done, other, bad, Word, lineSent}
-use Rattle.session.specs.Opening.{Named, named, nameless, machineNamed, refusedSettings, settingsOf, settings}
-use Rattle.session.specs.PhaseOne as one
-use Rattle.session.specs.PhaseOne.{Tables, openedTables, commandIn, payloadIn}
-use Rattle.session.specs.Phases.{closes, phaseAfter, phaseOpened}
-use Rattle.session.specs.Views as one-kind
-use Rattle.session.specs.Views.{recipients, identities, keys, headers}
+use Rattle.phase_one.specs.Commands.{CommandOne, recipient, identity, key, header, done, other, bad, WordOne, lineSent}
+use Rattle.session.specs.Opening.{MachineFound, named, nameless, machineNamed, refusedSettings, settingsOf, settings}
+use Rattle.phase_one.specs.PhaseOne as one
+use Rattle.session.specs.Tables.{Tables, openedTables}
+use Rattle.phase_one.specs.PhaseOne.{commandIn, payloadIn}
+use Rattle.session.specs.Phases.{closes, phaseOpened}
+use Rattle.phase_one.specs.Turns.{phaseAfter}
+use Rattle.phase_one.specs.Views as one-kind
+use Rattle.phase_one.specs.Views.{recipients, identities, keys, headers}
 use Rattle.session.specs.declared.phases.Phase.{Phase}
 use Rattle.session.specs.declared.phases.Phase.the-variants.{One, Two, Closed}
-use Rattle.session.specs.declared.commands.Machine.{Machine}
-use Rattle.session.proofs.Laws.Views.{Reached, opened-reached, applied-reached, payload-stored}
-use Rattle.conversation.specs.Session.{Session, moved, closed, openedSession, opened}
+use Rattle.session.specs.declared.opening.Machine.{Machine}
+use Rattle.phase_one.proofs.Laws.Views.{Reached, opened-reached, applied-reached, payload-stored}
+use Rattle.session.specs.Session.{Session, moved, closed, openedSession, opened}
 use Rattle.conversation.specs.Kinds.{Kind, first, second, Buffers, tableOf}
 use Rattle.conversation.specs.CommandsTwo as two-command
 use Rattle.conversation.specs.CommandsTwo.{CommandTwo}
@@ -91,7 +93,7 @@ pub record OpenedBy (machine name : List ℕ) (screen : Bool) : Type 0 where
 pub opening-accepted : (machine name : List ℕ) (screen : Bool) → opened machine name screen .number ≡ 0 → OpenedBy machine name screen
 opening-accepted machine name screen e = any (machineNamed machine) refl
   where
-    any : (m : Named) → machineNamed machine ≡ m → OpenedBy machine name screen
+    any : (m : MachineFound) → machineNamed machine ≡ m → OpenedBy machine name screen
     any nameless q = let z : _≡_ {A = ℕ} 18 0 = ap (λ x. settingsOf x name .number) (sym q) ∙ e in absurd (omega arith)
     any (named m) q =
         cases (isName name)
@@ -116,7 +118,7 @@ entered-width t n index mark capacity = either (fits t n capacity)
     either false = refl
 
 module _ (t : Tables) (b : one.Buffers) (p : List ℕ) where
-  widths : (c : Command) (k : one-kind.Kind) → one-kind.tableOf k (one.applied t b c p) .width ≡ one-kind.tableOf k t .width
+  widths : (c : CommandOne) (k : one-kind.Kind) → one-kind.tableOf k (one.applied t b c p) .width ≡ one-kind.tableOf k t .width
   widths (recipient m) recipients = entered-width (t .recipients) (length p) 0 m (length (b .recipients))
   widths (recipient m) identities = refl
   widths (recipient m) keys = refl
@@ -137,15 +139,15 @@ module _ (t : Tables) (b : one.Buffers) (p : List ℕ) where
   widths other k = refl
   widths (bad n) k = refl
 
-  applied-wide : (c : Command) → Wide t → Wide (one.applied t b c p)
+  applied-wide : (c : CommandOne) → Wide t → Wide (one.applied t b c p)
   applied-wide c w (first k) = widths c k ∙ w (first k)
   applied-wide c w (second k) = ap (λ x. x .width) (one-leaves t p b c k) ∙ w (second k)
 
-  applied-later-tables : (c : Command) → ReachedTwo t → ReachedTwo (one.applied t b c p)
+  applied-later-tables : (c : CommandOne) → ReachedTwo t → ReachedTwo (one.applied t b c p)
   unfolding ReachedTwo
   applied-later-tables c r k = subst (KeptAs k) (sym (one-leaves t p b c k)) (r k)
 
-  applied-later : (c : Command) → LaterOpened t → LaterOpened (one.applied t b c p)
+  applied-later : (c : CommandOne) → LaterOpened t → LaterOpened (one.applied t b c p)
   applied-later c l = (one-leaves t p b c errors ∙ l .0, one-leaves t p b c stanzas ∙ l .1, one-leaves t p b c returned ∙ l .2)
 
 -- .. of phase two
@@ -287,7 +289,7 @@ just-applied s₀ s b b′ line body r a d reached =
       reached = reached;
     }
 
-just-from : (s₀ s : Session) (b : Buffers) (word : Word) (arguments body out : List ℕ) → ReachedSession s₀ →
+just-from : (s₀ s : Session) (b : Buffers) (word : WordOne) (arguments body out : List ℕ) → ReachedSession s₀ →
     commandIn (s .machine) (s .name) (lineSent word arguments) body ≡ done → outcome s₀ b (send word arguments body out) .number ≡ 0 → s ≡ outcome s₀ b (send word arguments body out) .session → JustReached s
 just-from s₀ s b word arguments body out r d z e =
     let o = outcome s₀ b (send word arguments body out) in

@@ -10,15 +10,16 @@ use Rattle.stanza.specs.Reading.{Reading, stanza, refused, readFirst}
 use Rattle.stanza.specs.Writing.{isWritable}
 use Rattle.responses.specs.Responses.{ResponseRead, response, nothing, responseLine, fitsWhole}
 use Rattle.responses.specs.declared.Response.{Response}
-use Rattle.responses.specs.declared.WordTwo.{WordTwo}
-use Rattle.session.specs.Commands as one-command
-use Rattle.session.specs.Commands.{Word}
-use Rattle.session.specs.PhaseOne as one
-use Rattle.session.specs.PhaseOne.{firstOf}
-use Rattle.session.specs.Phases.{turnOne, closes}
+use Rattle.session.specs.declared.words.WordTwo.{WordTwo}
+use Rattle.phase_one.specs.Commands as one-command
+use Rattle.phase_one.specs.Commands.{WordOne}
+use Rattle.phase_one.specs.PhaseOne as one
+use Rattle.refusal.specs.Verdict.{firstOf}
+use Rattle.phase_one.specs.Turns.{turnOne}
+use Rattle.session.specs.Phases.{closes}
 use Rattle.session.specs.declared.phases.Phase.{Phase}
 use Rattle.session.specs.declared.phases.Phase.the-variants.{One, Two, Awaiting, Ended, Closed}
-use Rattle.conversation.specs.Session.{Session, closed}
+use Rattle.session.specs.Session.{Session, closed}
 use Rattle.conversation.specs.Kinds.{Buffers, buffersOf}
 use Rattle.conversation.specs.CommandsTwo as two-command
 use Rattle.conversation.specs.PhaseTwo as two
@@ -76,7 +77,7 @@ module _ (s : Session) where
       unfolding sending.sentStanza
       sent-stanza-left line body = either LeftSent (eqb (one.numberOne (s .machine) (s .name) (s .tables) b (shortness (stanzaText line body) out) line body) 0) _ _ (λ h. absurd (h refl)) (λ h. refl)
 
-      sent-left : (word : Word) (arguments body : List ℕ) → LeftSent (sending.sent s word arguments body b out)
+      sent-left : (word : WordOne) (arguments body : List ℕ) → LeftSent (sending.sent s word arguments body b out)
       unfolding sending.sent
       sent-left word arguments body =
           either LeftSent (eqb (turnOne (s .phase)) 0) _ _

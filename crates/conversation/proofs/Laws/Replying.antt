@@ -12,9 +12,9 @@ use Rattle.stanza.specs.Grammar.{stanzaText}
 use Rattle.stanza.specs.Writing.{isWritable, written, bufferAfter}
 use Rattle.responses.specs.Responses.{fitsWhole, responseLine}
 use Rattle.responses.specs.declared.Response.{Response}
-use Rattle.responses.specs.declared.WordTwo.{WordTwo}
-use Rattle.session.specs.PhaseOne.{firstOf}
-use Rattle.conversation.specs.Session.{Session}
+use Rattle.session.specs.declared.words.WordTwo.{WordTwo}
+use Rattle.refusal.specs.Verdict.{firstOf}
+use Rattle.session.specs.Session.{Session}
 use Rattle.conversation.specs.TurnsTwo.{answered}
 use Rattle.conversation.specs.Replying.{Replied, refusedReply, repliedTo}
 

@@ -10,13 +10,14 @@ use Rattle.refusal.specs.Output.{bytes, refused, overflows, answered, filled}
 use Rattle.refusal.specs.Pick.{pick}
 use Rattle.responses.specs.Responses.{fitsWhole, response, nothing}
 use Rattle.responses.specs.declared.Response.{Response}
-use Rattle.responses.specs.declared.WordTwo.{WordTwo}
-use Rattle.session.specs.PhaseOne.{Tables, firstOf}
+use Rattle.session.specs.declared.words.WordTwo.{WordTwo}
+use Rattle.session.specs.Tables.{Tables}
+use Rattle.refusal.specs.Verdict.{firstOf}
 use Rattle.session.specs.Phases.{closes}
-use Rattle.session.specs.declared.commands.Machine.{Machine}
+use Rattle.session.specs.declared.opening.Machine.{Machine}
 use Rattle.session.specs.declared.phases.Phase.{Phase}
 use Rattle.session.specs.declared.phases.Phase.the-variants.{Two, Awaiting, Closed}
-use Rattle.conversation.specs.Session.{Session}
+use Rattle.session.specs.Session.{Session}
 use Rattle.conversation.specs.TurnsTwo.{answered as replied}
 use Rattle.conversation.specs.Responding.{Answering, took-response, declined-response, Responded, refusedResponse, respondedAs}
 use Rattle.refusal.proofs.Laws.Output.{whole}

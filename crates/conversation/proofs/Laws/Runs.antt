@@ -6,7 +6,7 @@ use mathlib.Core.List.{List, [], _∷_, _++_}
 use Rattle.conversation.specs.Calls.{Call, outcome, writtenBy, State, after, numbers, written, AllZero, Accepted}
 use Rattle.conversation.specs.Kinds.{Buffers}
 use Rattle.conversation.specs.Phases.{LongEnough}
-use Rattle.conversation.specs.Session.{Session}
+use Rattle.session.specs.Session.{Session}
 
 pub after-append : (s : Session) (b : Buffers) (xs ys : List Call) → after s b (xs ++ ys) ≡ after (after s b xs .session) (after s b xs .buffers) ys
 unfolding after

@@ -17,9 +17,10 @@ use Rattle.stanza.specs.Grammar.{stanzaText}
 use Rattle.stanza.specs.Writing.{isWritable}
 use Rattle.responses.specs.Responses.{fitsWhole, responseLine}
 use Rattle.responses.specs.declared.Response.{Response}
-use Rattle.responses.specs.declared.WordTwo.{WordTwo}
-use Rattle.session.specs.PhaseOne as one
-use Rattle.session.specs.PhaseOne.{Tables, firstOf}
+use Rattle.session.specs.declared.words.WordTwo.{WordTwo}
+use Rattle.phase_one.specs.PhaseOne as one
+use Rattle.session.specs.Tables.{Tables}
+use Rattle.refusal.specs.Verdict.{firstOf}
 use Rattle.session.specs.declared.phases.Phase.{Phase}
 use Rattle.session.specs.declared.phases.Phase.the-variants.{One, Two, Awaiting, Ended, Closed}
 use Rattle.conversation.specs.Calls.{Call, receive-two, reply, takingTwoNumber, sentNumber, Outcome, receivedTwoOutcome, repliedOutcome, outcome, writtenBy, State, stateOf, after, numbers, written, lineRead, bodyRead, AllZero, Accepted}
@@ -31,7 +32,7 @@ use Rattle.conversation.specs.Phases.{Whole, lineIn, bodyIn, commandIn, 
 use Rattle.conversation.specs.ReceivingTwo.{AtOnce, atOnce, textOf, phaseReceived, took, Received, refusedReceipt, receivedStanza, receivedAs, received}
 use Rattle.conversation.specs.Replying.{Replied, refusedReply, numberReplied, repliedTo}
 use Rattle.conversation.specs.Sending.{shortness}
-use Rattle.conversation.specs.Session.{Session, moved}
+use Rattle.session.specs.Session.{Session, moved}
 use Rattle.conversation.specs.Allowed.{OneReply, AnsweredAsk, Answered}
 use Rattle.conversation.proofs.Laws.Firsts.{first-iff}
 

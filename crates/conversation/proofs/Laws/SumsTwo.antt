@@ -13,7 +13,7 @@ use Rattle.refusal.specs.Pick.{pick}
 use Rattle.refusal.proofs.Laws.Booleans.{and-true, true-and, cases}
 use Rattle.tables.specs.Tables.{Table, fits, entered}
 use Rattle.tables.proofs.Laws.Tables.{Kept}
-use Rattle.session.specs.PhaseOne.{Tables}
+use Rattle.session.specs.Tables.{Tables}
 use Rattle.conversation.specs.CommandsTwo.{Named, internal, identity, recipient, header, CommandTwo, ask, stanza, key, error, done, other, bad}
 use Rattle.conversation.specs.PhaseTwo.{Kind, errors, stanzas, returned, Buffers, tableOf, bufferOf, Label, labels, howMany, isAny, passes, isFile, mostStanzas, hasKey, markOf, indexOf, isAbout, hasErrorFor, isMissing, isSecondKey, isTooMany, isAgainstKey, isClashing, isSpaceless, decided, applied}
 use Rattle.conversation.specs.Allowed.{isKeyFor, isErrorFor, isKind, Said, Sum, keys-for, stanzas-for, errors-for, entries, bytes, weight, slotsTwo, Limits}

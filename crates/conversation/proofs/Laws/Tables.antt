@@ -10,19 +10,20 @@ use borrow.Author.Tests.{eqb-true, eqb-false, eq-eqb, ne-eqb}
 use Rattle.refusal.specs.Pick.{pick}
 use Rattle.refusal.proofs.Laws.Booleans.{cases}
 use Rattle.stanza.specs.Reading.{readFirst}
-use Rattle.responses.specs.declared.WordTwo.the-variants.{Other}
+use Rattle.session.specs.declared.words.WordTwo.the-variants.{Other}
 use Rattle.tables.specs.Tables.{Row, view}
 use Rattle.tables.proofs.Laws.Tables.{view-count}
-use Rattle.session.specs.Commands.{Command, recipient, identity, key, header, done, other, bad}
-use Rattle.session.specs.PhaseOne as one
-use Rattle.session.specs.PhaseOne.{Tables, openedTables, commandIn, payloadIn}
-use Rattle.session.specs.Phases.{phaseAfter}
-use Rattle.session.specs.Views as one-kind
-use Rattle.session.specs.Views.{recipients, identities, keys, headers}
+use Rattle.phase_one.specs.Commands.{CommandOne, recipient, identity, key, header, done, other, bad}
+use Rattle.phase_one.specs.PhaseOne as one
+use Rattle.session.specs.Tables.{Tables, openedTables}
+use Rattle.phase_one.specs.PhaseOne.{commandIn, payloadIn}
+use Rattle.phase_one.specs.Turns.{phaseAfter}
+use Rattle.phase_one.specs.Views as one-kind
+use Rattle.phase_one.specs.Views.{recipients, identities, keys, headers}
 use Rattle.session.specs.declared.phases.Phase.{Phase}
 use Rattle.session.specs.declared.phases.Phase.the-variants.{Awaiting}
-use Rattle.session.proofs.Laws.Views.{Reached}
-use Rattle.conversation.specs.Session.{Session, moved, opened}
+use Rattle.phase_one.proofs.Laws.Views.{Reached}
+use Rattle.session.specs.Session.{Session, moved, opened}
 use Rattle.conversation.specs.Kinds.{Kind, first, second, Buffers, buffersOf, tableOf, viewOf, ofFile}
 use Rattle.conversation.specs.CommandsTwo as two-command
 use Rattle.conversation.specs.CommandsTwo.{CommandTwo}
@@ -181,7 +182,7 @@ other-file s b c k f row r z q h =
 -- ---- what a command leaves
 
 -- a command makes no entry of a kind: the kind's table and its buffer stay
-applied-elsewhere : (t : Tables) (b : one.Buffers) (c : Command) (k : one-kind.Kind) (p : List ℕ) → one-kind.rowsOf c k p ≡ [] →
+applied-elsewhere : (t : Tables) (b : one.Buffers) (c : CommandOne) (k : one-kind.Kind) (p : List ℕ) → one-kind.rowsOf c k p ≡ [] →
     (one-kind.tableOf k (one.applied t b c p) ≡ one-kind.tableOf k t) × (one-kind.bufferOf k (one.filledBy t b c p) ≡ one-kind.bufferOf k b)
 applied-elsewhere t b (recipient m) recipients p h = (cc, cc)
 applied-elsewhere t b (recipient m) identities p h = (refl, refl)

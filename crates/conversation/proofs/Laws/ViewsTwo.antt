@@ -12,18 +12,19 @@ use Rattle.refusal.specs.Same.{same}
 use Rattle.refusal.proofs.Laws.Booleans.{and-true}
 use Rattle.stanza.specs.Arguments.{countOf, argumentOf}
 use Rattle.stanza.specs.Index.{Reading, number, refused, readIndex}
-use Rattle.responses.specs.declared.WordTwo.{WordTwo}
-use Rattle.responses.specs.declared.WordTwo.the-variants.{Msg, Confirm, RequestPublic, RequestSecret, RecipientStanza, FileKey, Error, Other, Done}
+use Rattle.session.specs.declared.words.WordTwo.{WordTwo}
+use Rattle.session.specs.declared.words.WordTwo.the-variants.{Msg, Confirm, RequestPublic, RequestSecret, RecipientStanza, FileKey, Error, Other, Done}
 use Rattle.tables.specs.Tables.{Table, fits, entered, kept, view}
 use Rattle.tables.proofs.Laws.Tables.{Kept, Filled, opened-kept, opened-filled, entered-kept, entered-filled, entered-view}
-use Rattle.session.specs.Commands.{isBare}
-use Rattle.session.specs.PhaseOne as one
-use Rattle.session.specs.PhaseOne.{Tables, openedTables, firstOf}
-use Rattle.session.specs.Commands as one-command
-use Rattle.session.specs.Views as one-kind
-use Rattle.session.specs.declared.commands.Machine.{Machine}
-use Rattle.session.specs.declared.commands.Machine.the-variants.{RecipientV1, IdentityV1}
-use Rattle.session.proofs.Laws.Views.{first-zero}
+use Rattle.phase_one.specs.Commands.{isBare}
+use Rattle.phase_one.specs.PhaseOne as one
+use Rattle.session.specs.Tables.{Tables, openedTables}
+use Rattle.refusal.specs.Verdict.{firstOf}
+use Rattle.phase_one.specs.Commands as one-command
+use Rattle.phase_one.specs.Views as one-kind
+use Rattle.session.specs.declared.opening.Machine.{Machine}
+use Rattle.session.specs.declared.opening.Machine.the-variants.{RecipientV1, IdentityV1}
+use Rattle.phase_one.proofs.Laws.Views.{first-zero}
 use Rattle.conversation.specs.CommandsTwo.{Named, identity, recipient, CommandTwo, ask, stanza, key, error, done, other, bad, internalWord, identityWord, recipientWord, stanzaWord, areLabels, stanzaAt, keyAt, errorAt, headerAt, errorOf, rowTwo, commandTwo, wordTwo, payloadOf}
 use Rattle.conversation.specs.PhaseTwo.{Kind, errors, stanzas, returned, Buffers, tableOf, viewOf, isMissing, isSecondKey, isTooMany, isClashing, isSpaceless, isHeldBack, faultOf, when, decided, applied, filledBy, rowsOf}
 use Rattle.conversation.proofs.Laws.DecidedTwo.{decided-iff}
@@ -122,7 +123,7 @@ each-first t u e one-kind.keys = e .2
 each-first t u e one-kind.headers = e .3
 
 module _ (t : Tables) (p : List ℕ) where
-  pub one-leaves : (b : one.Buffers) (c : one-command.Command) (k : Kind) → tableOf k (one.applied t b c p) ≡ tableOf k t
+  pub one-leaves : (b : one.Buffers) (c : one-command.CommandOne) (k : Kind) → tableOf k (one.applied t b c p) ≡ tableOf k t
   one-leaves b (one-command.recipient m) k = each-second t (one.applied t b (one-command.recipient m) p) (refl, refl, refl) k
   one-leaves b (one-command.identity m) k = each-second t (one.applied t b (one-command.identity m) p) (refl, refl, refl) k
   one-leaves b one-command.key k = each-second t (one.applied t b one-command.key p) (refl, refl, refl) k

@@ -18,18 +18,18 @@ use Rattle.stanza.proofs.Laws.RoundTrip.{read-written, read-arguments, read-bod
 use Rattle.responses.specs.Responses.{responseLine, response, responseOf}
 use Rattle.responses.specs.declared.Response.{Response}
 use Rattle.responses.specs.declared.Response.the-variants.{Ok, Yes, No, Fail, Unsupported}
-use Rattle.responses.specs.declared.WordTwo.{WordTwo}
+use Rattle.session.specs.declared.words.WordTwo.{WordTwo}
 use Rattle.responses.proofs.Laws.Responses.{line-read, read-line}
-use Rattle.session.specs.Commands as one-command
-use Rattle.session.specs.Commands.{Word}
-use Rattle.session.specs.PhaseOne as one
-use Rattle.session.specs.declared.commands.Machine.{Machine}
+use Rattle.phase_one.specs.Commands as one-command
+use Rattle.phase_one.specs.Commands.{WordOne}
+use Rattle.phase_one.specs.PhaseOne as one
+use Rattle.session.specs.declared.opening.Machine.{Machine}
 use Rattle.conversation.specs.Calls.{send, receive-two, reply, send-two, Outcome, outcome, writtenBy, lineRead, bodyRead}
 use Rattle.conversation.specs.CommandsTwo.{commandTwo, payloadOf, lineSent}
 use Rattle.conversation.specs.Kinds.{Buffers}
 use Rattle.conversation.specs.Phases.{lineIn, bodyIn, commandOf, commandIn, payloadIn}
 use Rattle.conversation.specs.ReceivingTwo.{writes, atOnce, textOf}
-use Rattle.conversation.specs.Session.{Session}
+use Rattle.session.specs.Session.{Session}
 use Rattle.conversation.proofs.Laws.Accepted.{Written, accepted}
 
 -- ---- a text that reads back
@@ -102,7 +102,7 @@ bodiless Unsupported = refl
 
 module _ (s : Session) (b : Buffers) where
   -- a command that the client end sends in phase one is parsed by the plugin end as that command
-  pub phase-one-written : (word : Word) (arguments body out : List ℕ) → areBytes body ≡ true → outcome s b (send word arguments body out) .number ≡ 0 →
+  pub phase-one-written : (word : WordOne) (arguments body out : List ℕ) → areBytes body ≡ true → outcome s b (send word arguments body out) .number ≡ 0 →
       OneReadsBack (one-command.lineSent word arguments) body (writtenBy s b (send word arguments body out))
   phase-one-written word arguments body out a h =
       let w = accepted s b (send word arguments body out) h in one-back _ _ _ (reads-back _ body _ a (w .writable) (front _ out _ (w .written)))

@@ -11,10 +11,10 @@ use Rattle.refusal.specs.Same.{same}
 use Rattle.refusal.proofs.Laws.Lists.{part-rest}
 use Rattle.symbols.specs.Charset.{isLower}
 use Rattle.bech32.specs.Text.{isName, isNameByte}
-use Rattle.session.specs.Commands.{Word}
-use Rattle.session.specs.PhaseOne.{Buffers, buffersOf}
+use Rattle.phase_one.specs.Commands.{WordOne}
+use Rattle.phase_one.specs.PhaseOne.{Buffers, buffersOf}
 use Rattle.session.specs.Opening.{recipientV1}
-use Rattle.conversation.specs.Session.{Session, opened}
+use Rattle.session.specs.Session.{Session, opened}
 use Rattle.conversation.specs.Receiving.{Taking, took, declined, Received, received}
 use Rattle.judging.specs.Judging.{Judged, Standing, going, stopped, Turn, turnOf, behindCommand, behindRefusal, turnBy, turned, behind, judgedFrom, judgeName, start, judgedText}
 use Rattle.judging.specs.Said.{buffersIn}
@@ -49,11 +49,11 @@ module _ (last : Bool) (s after : Session) (b : Buffers) (r i k h : List ℕ) (w
   turn-refused n d q f = ap (λ x. turnOf x (buffersIn r i k) at) f ∙ sym (behind-stays (behindRefusal last n s) (buffersIn r i k) at) ∙ by-answer (declined n) q
 
   -- behind a command
-  pub turn-command : (w : Word) (n : ℕ) (d : Standing) → a ≡ took w n → d ≡ behindCommand w after → turnOf d (buffersIn r i k) (at + n) ≡ behind at (turned last s b (drop at window))
+  pub turn-command : (w : WordOne) (n : ℕ) (d : Standing) → a ≡ took w n → d ≡ behindCommand w after → turnOf d (buffersIn r i k) (at + n) ≡ behind at (turned last s b (drop at window))
   turn-command w n d q f = ap (λ x. turnOf x (buffersIn r i k) (at + n)) f ∙ by-answer (took w n) q
 
   -- what was taken lies within the window
-  pub turn-within : (w : Word) (n : ℕ) → a ≡ took w n → at ≤ length window → at + n ≤ length window
+  pub turn-within : (w : WordOne) (n : ℕ) → a ≡ took w n → at ≤ length window → at + n ≤ length window
   turn-within w n q f =
       let l = received-takes s b (take (length window - at) (drop at window)) w n (ap (λ x. x .answer) (sym e) ∙ q) .1 in
       omega (arith, ap length (part-rest at window), length-drop at window)

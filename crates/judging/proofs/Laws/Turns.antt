@@ -9,9 +9,9 @@ use native.Mathlib.Nat.{zero-add, add-zero, add-assoc}
 use native.Mathlib.Omega.{arith}
 use borrow.Author.Tests.{eq-eqb, ne-eqb, eqb-false}
 use Rattle.refusal.proofs.Laws.Booleans.{cases}
-use Rattle.session.specs.PhaseOne.{Buffers}
-use Rattle.session.specs.Commands.{Word}
-use Rattle.conversation.specs.Session.{Session}
+use Rattle.phase_one.specs.PhaseOne.{Buffers}
+use Rattle.phase_one.specs.Commands.{WordOne}
+use Rattle.session.specs.Session.{Session}
 use Rattle.conversation.specs.Receiving.{Taking, took, declined, received}
 use Rattle.judging.specs.Judging.{Judged, Standing, going, stopped, Turn, turnOf, turnBy, turned, behind, judgedWith, judgedFrom}
 use Rattle.judging.proofs.Laws.Reading.{received-takes}
@@ -20,7 +20,7 @@ use Rattle.judging.proofs.Laws.Reading.{received-takes}
 pub turned-within : (last : Bool) (s : Session) (b : Buffers) (text : List ℕ) → turned last s b text .taken ≤ length text
 turned-within last s b text = any (received s text b .answer) (received-takes s b text)
   where
-    any : (a : Taking) → ((w : Word) (k : ℕ) → a ≡ took w k → (0 < k) × (k ≤ length text)) →
+    any : (a : Taking) → ((w : WordOne) (k : ℕ) → a ≡ took w k → (0 < k) × (k ≤ length text)) →
         turnBy last s (record { answer = a; session = received s text b .session; buffers = received s text b .buffers }) .taken ≤ length text
     any (took w k) h = h w k refl .1
     any (declined n) h = omega arith

@@ -11,8 +11,8 @@ use borrow.Author.Tests.{eqb-true, eqb-false, not-true}
 use Rattle.refusal.proofs.Laws.Booleans.{and-true, and-false-right, cases}
 use Rattle.stanza.specs.Reading.{refused, readFirst}
 use Rattle.stanza.proofs.Laws.Exact.{refused-2}
-use Rattle.session.specs.PhaseOne.{Buffers}
-use Rattle.conversation.specs.Session.{Session}
+use Rattle.phase_one.specs.PhaseOne.{Buffers}
+use Rattle.session.specs.Session.{Session}
 use Rattle.conversation.specs.Receiving.{Taking, took, declined, received}
 use Rattle.conversation.specs.Calls.{receive, takingNumber}
 use Rattle.conversation.proofs.Laws.Refusals.{refusal}

@@ -15,8 +15,8 @@ use Rattle.refusal.proofs.Laws.Booleans.{cases, and-true}
 use Rattle.bech32.specs.Calls.{padded, givenName}
 use Rattle.bech32.specs.Text.{isName, isNameByte}
 use Rattle.session.specs.Opening.{Settings, settingsNamed, refusedSettings}
-use Rattle.session.specs.declared.commands.Machine.{Machine}
-use Rattle.session.specs.declared.commands.Machine.the-variants.{RecipientV1}
+use Rattle.session.specs.declared.opening.Machine.{Machine}
+use Rattle.session.specs.declared.opening.Machine.the-variants.{RecipientV1}
 
 name-some : (t : List ℕ) → isName t ≡ true → 1 ≤ length t
 unfolding isName

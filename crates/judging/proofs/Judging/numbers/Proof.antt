@@ -1,23 +1,31 @@
--- `numbers` meets its contract, by where judging stands.
-use mathlib.Core.Path.{refl}
 use borrow.Author.Needs.{needs}
 use Rattle.judging.proofs.Judging.numbers.Statement.{statement}
 use Rattle.judging.proofs.Judging.numbers.Tie as tie
+use Rattle.judging.proofs.Judging.numbers.Reads as reads
+use Rattle.judging.proofs.Judging.numbers.Lts as lts
+use Rattle.judging.proofs.count.Reads as count-reads
+use mathlib.Core.Path.{refl}
+use denote.Ref.{now}
 
+-- src/lib.rt:174:31
 enum-known-progress : tie.Need-enum-known-progress
 enum-known-progress c = search needs
 
+-- src/lib.rt:175:33
 enum-told : tie.Need-enum-told
 enum-told c = search needs
 
+-- src/lib.rt:175:33
 count-requires : tie.Need-count-requires
 count-requires c κs = search needs
 
+-- src/lib.rt:169:5
 returns : tie.Need-returns
-returns c = rw (c .before .progress .given .1)
+returns c = λ xs. rw (c .before .progress .given .1)
 
+-- src/lib.rt:169:5
 returns-2 : tie.Need-returns-2
-returns-2 c = rw (c .before .enum-told .given .1) (c .count .ensures)
+returns-2 c = λ xs. rw (c .before .enum-told .given .1) (c .count .ensures xs)
 
 pub numbers-spec : {M : Type 1} → statement M
 numbers-spec = tie.close (tie.spec enum-known-progress enum-told count-requires returns returns-2)

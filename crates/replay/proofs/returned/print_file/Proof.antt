@@ -1,36 +1,48 @@
--- `print_file` is safe and ends: k is at most the number of stanzas.
-use Prim.Native.Nat.{_-_, _≤_}
-use borrow.Author.Needs.{needs}
 use Rattle.replay.proofs.returned.print_file.Statement.{statement}
 use Rattle.replay.proofs.returned.print_file.Tie as tie
+use Rattle.replay.proofs.returned.print_file.Reads as reads
+use Rattle.replay.proofs.returned.print_file.Lts as lts
+use Rattle.look_up.proofs.count_stanzas.Reads as count-stanzas-reads
+use Rattle.look_up.proofs.stanza_of.Reads as stanza-of-reads
+use Rattle.replay.proofs.returned.print_stanza.Reads as print-stanza-reads
+use Prim.Native.Nat.{_-_, _≤_}
+use borrow.Author.Needs.{needs}
 
 abbrev Inv-loop : tie.InvT-loop
-Inv-loop tables file stanzas out₀ at count next₀ k₀ out next k = k ≤ count
+Inv-loop tables file slots stanzas out₀ at count next₀ k₀ out next k = k ≤ count
 
 abbrev μ-loop : tie.MeasureT-loop
-μ-loop tables file stanzas out₀ at count next₀ k₀ out next k = count - k
+μ-loop tables file slots stanzas out₀ at count next₀ k₀ out next k = count - k
 
+-- src/returned.rt:97:9
 count-stanzas-requires : tie.Need-count-stanzas-requires Inv-loop μ-loop
 count-stanzas-requires c κs = search needs
 
+-- src/returned.rt:100:5
 loop-holds : tie.Need-loop-holds Inv-loop μ-loop
 loop-holds c = search needs
 
+-- src/returned.rt:104:13
 stanza-of-requires : tie.Need-stanza-of-requires Inv-loop μ-loop
 stanza-of-requires c κs = search needs
 
+-- src/returned.rt:101:9
 print-stanza-requires : tie.Need-print-stanza-requires Inv-loop μ-loop
 print-stanza-requires c κs = search needs
 
+-- src/returned.rt:108:9
 add-k : tie.Need-add-k Inv-loop μ-loop
 add-k c = search needs
 
+-- src/returned.rt:100:5
 loop-less : tie.Need-loop-less Inv-loop μ-loop
 loop-less c = search needs
 
+-- src/returned.rt:100:5
 loop-again : tie.Need-loop-again Inv-loop μ-loop
 loop-again c = search needs
 
+-- src/returned.rt:96:1
 returns : tie.Need-returns Inv-loop μ-loop
 returns c = search needs
 

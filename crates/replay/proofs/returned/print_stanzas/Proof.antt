@@ -1,42 +1,42 @@
--- `print_stanzas` is safe and ends: the file is at most the number of file keys.
-use Prim.Native.Nat.{_-_, _≤_}
-use borrow.Author.Needs.{needs}
 use Rattle.replay.proofs.returned.print_stanzas.Statement.{statement}
 use Rattle.replay.proofs.returned.print_stanzas.Tie as tie
+use Rattle.replay.proofs.returned.print_stanzas.Reads as reads
+use Rattle.replay.proofs.returned.print_stanzas.Lts as lts
+use Rattle.replay.proofs.returned.print_file.Reads as print-file-reads
+use Prim.Native.Nat.{_-_, _≤_}
+use borrow.Author.Needs.{needs}
 
 abbrev Inv-loop : tie.InvT-loop
-Inv-loop tables stanzas out₀ at count next₀ file₀ out next file = file ≤ count
+Inv-loop tables slots stanzas out₀ at count next₀ file₀ out next file = file ≤ count
 
 abbrev μ-loop : tie.MeasureT-loop
-μ-loop tables stanzas out₀ at count next₀ file₀ out next file = count - file
+μ-loop tables slots stanzas out₀ at count next₀ file₀ out next file = count - file
 
+-- src/returned.rt:88:5
 loop-holds : tie.Need-loop-holds Inv-loop μ-loop
 loop-holds c = search needs
 
+-- src/returned.rt:89:9
 print-file-requires : tie.Need-print-file-requires Inv-loop μ-loop
 print-file-requires c κs = search needs
 
+-- src/returned.rt:90:9
 add-file : tie.Need-add-file Inv-loop μ-loop
 add-file c = search needs
 
+-- src/returned.rt:88:5
 loop-less : tie.Need-loop-less Inv-loop μ-loop
 loop-less c = search needs
 
+-- src/returned.rt:88:5
 loop-again : tie.Need-loop-again Inv-loop μ-loop
 loop-again c = search needs
 
+-- src/returned.rt:84:1
 returns : tie.Need-returns Inv-loop μ-loop
 returns c = search needs
 
 pub print-stanzas-spec : {M : Type 1} → statement M
 print-stanzas-spec =
     tie.close
-    (tie.spec
-    Inv-loop
-    μ-loop
-    loop-holds
-    print-file-requires
-    add-file
-    loop-less
-    loop-again
-    returns)
+    (tie.spec Inv-loop μ-loop loop-holds print-file-requires add-file loop-less loop-again returns)

@@ -1,0 +1,100 @@
+-- The user's three demands (document 00), stated over the definitions that the public contracts cite. `outcome` is what a call of either end does to a session and
+-- its buffers: `client::Session` (send, receive, reply) and `plugin::Session` (receive, send, receive_response) are proved equal to it, for every session value.
+use Prim.Native.Nat.{ℕ}
+use mathlib.Core.Path.{_≡_}
+use mathlib.Core.Bool.{Bool, true, false}
+use mathlib.Core.Logic.{_↔_}
+use mathlib.Core.List.{List, [], _∷_, _++_}
+use lib.Pow.{areBytes}
+use Rattle.stanza.specs.Reading.{readFirst, stanza}
+use Rattle.responses.specs.declared.Response.{Response}
+use Rattle.session.specs.declared.words.WordTwo.{WordTwo}
+use Rattle.phase_one.specs.Commands as one
+use Rattle.phase_one.specs.Commands.{WordOne}
+use Rattle.session.specs.declared.opening.Machine.{Machine}
+use Rattle.session.specs.declared.phases.Phase.the-variants.{Ended}
+use Rattle.conversation.specs.Allowed.{Allowed, AllowedTwo, Exchange, isDoneSent, sendingCalls, AllowedSent}
+use Rattle.conversation.specs.Answers.{events, Paired}
+use Rattle.conversation.specs.Calls.{Call, send, receive-two, reply, send-two, outcome, writtenBy, State, stateOf, after, acceptedRows, Accepted}
+use Rattle.conversation.specs.CommandsTwo.{lineSent}
+use Rattle.conversation.specs.Kinds.{Kind, Buffers, viewOf}
+use Rattle.conversation.specs.Phases.{All, Part, one-part, two-part, Phase, blocksOf, IsPhase, Supply, callsOf, LongEnough, Starts, JustDone, SameStart, Rearranged, SameOutcome, commandIn}
+use Rattle.conversation.specs.ReceivingTwo.{writes, atOnce}
+use Rattle.session.specs.Session.{Session, openedSession, opened}
+use Rattle.conversation.proofs.Laws.AllowedOne as one-accepted
+use Rattle.conversation.proofs.Laws.AllowedOne.{textsOf}
+use Rattle.conversation.proofs.Laws.AllowedSent as sent-accepted
+use Rattle.conversation.proofs.Laws.Answers as answering
+use Rattle.conversation.proofs.Laws.Order as ordering
+use Rattle.conversation.proofs.Laws.OrderTwo as two-accepted
+use Rattle.conversation.proofs.Laws.OrderTwo.{leftOf, capacityOf}
+use Rattle.conversation.proofs.Laws.Reached.{JustReached, just-done}
+use Rattle.conversation.proofs.Laws.Refusals as refusals
+use Rattle.conversation.proofs.Laws.Refusals.{Refused}
+use Rattle.conversation.proofs.Laws.Tables as tables
+use Rattle.conversation.proofs.Laws.WrittenRead as written-read
+use Rattle.conversation.proofs.Laws.WrittenRead.{OneReadsBack, TwoReadsBack, ResponseReadsBack, ReceivedAgain}
+
+-- ---- Demand 1: "Any bytes and any calls are survived .. a refused call changes no table and no lent room, and at most closes the session."
+
+-- Any bytes and any calls: `outcome` is defined for every session, all buffers and every call, and no public function has a `requires`. A refused call leaves the
+-- tables, the buffers and the output buffer, and the session as document 01's column says.
+pub demand-1 : (s : Session) (b : Buffers) (c : Call) → (outcome s b c .number ≡ 0 → ⊥) → Refused s b c
+demand-1 = refusals.refusal
+
+-- ---- Demand 2: "Stanza text, Bech32 .., tables, phases and responses are exactly those ..". Stanza text and Bech32: `stanza` and `bech32`, their theorems in README
+
+-- tables: of any list of calls from an opening, refused ones included, each kind's table is exactly the list's accepted commands of that kind, in order
+pub demand-2-tables : (k : Kind) (machine name : List ℕ) (screen : Bool) (b : Buffers) (cs : List Call) →
+    let s = opened machine name screen .session in viewOf k (after s b cs .session .tables) (after s b cs .buffers) ≡ acceptedRows k s b cs
+demand-2-tables = tables.tables-opened
+
+-- "The transcripts allowed are the ones accepted": phase one, received by a session just opened
+pub demand-2-phase-one : (machine : Machine) (name : List ℕ) (screen : Bool) (b : Buffers) (outs : Supply) (p : Phase) → IsPhase one-part p →
+    Accepted (openedSession machine name screen) b (callsOf one-part outs (blocksOf p)) ↔ Allowed machine name (b .first) (textsOf p)
+demand-2-phase-one = one-accepted.accepted-iff
+
+-- phase two at the client end, commands with replies, received by a session that has just sent done
+pub demand-2-client : (s : Session) (b : Buffers) → JustDone s → (p : Phase) → IsPhase two-part p → (outs : Supply) → LongEnough s b (callsOf two-part outs (blocksOf p)) →
+    Accepted s b (callsOf two-part outs (blocksOf p)) ↔ AllowedTwo (s .machine) (s .screen) (leftOf (stateOf s b)) (capacityOf b) (blocksOf p)
+demand-2-client s b j p h outs l = two-accepted.accepted-two-iff s b (just-done s j) p h outs l
+
+-- phase two at the plugin end, sendings with the responses received, behind phase one
+pub demand-2-plugin : (s : Session) (b : Buffers) → JustReached s → (outs : Supply) (xs : List Exchange) (y : Exchange) → All (λ x. isDoneSent x ≡ false) xs → isDoneSent y ≡ true →
+    LongEnough s b (sendingCalls outs (xs ++ (y ∷ []))) →
+    Accepted s b (sendingCalls outs (xs ++ (y ∷ []))) ↔ AllowedSent (s .machine) (leftOf (stateOf s b)) (capacityOf b) (xs ++ (y ∷ []))
+demand-2-plugin = sent-accepted.accepted-sent-iff
+
+-- "What is written reads back": a command of phase one, a command of phase two, a response at once, a reply
+pub demand-2-sent-one : (s : Session) (b : Buffers) (word : WordOne) (arguments body out : List ℕ) → areBytes body ≡ true → outcome s b (send word arguments body out) .number ≡ 0 →
+    OneReadsBack (one.lineSent word arguments) body (writtenBy s b (send word arguments body out))
+demand-2-sent-one = written-read.phase-one-written
+
+pub demand-2-sent-two : (s : Session) (b : Buffers) (word : WordTwo) (arguments body out : List ℕ) → areBytes body ≡ true → outcome s b (send-two word arguments body out) .number ≡ 0 →
+    TwoReadsBack (lineSent word arguments) body (writtenBy s b (send-two word arguments body out))
+demand-2-sent-two = written-read.command-written
+
+pub demand-2-at-once : (s : Session) (b : Buffers) (text out : List ℕ) (r : Response) → outcome s b (receive-two text out) .number ≡ 0 →
+    atOnce (s .screen) (commandIn (s .machine) text) ≡ writes r → ResponseReadsBack r [] (writtenBy s b (receive-two text out))
+demand-2-at-once = written-read.at-once-written
+
+pub demand-2-reply : (s : Session) (b : Buffers) (r : Response) (body out : List ℕ) → areBytes body ≡ true → outcome s b (reply r body out) .number ≡ 0 →
+    ResponseReadsBack r body (writtenBy s b (reply r body out))
+demand-2-reply = written-read.response-written
+
+-- "what is read would be written so again"
+pub demand-2-again : (t : List ℕ) (e n k : ℕ) → readFirst t ≡ stanza e n k → ReceivedAgain t k
+demand-2-again = written-read.received-again
+
+-- "Each phase-two command but done is answered exactly once if it is accepted and its phase ends": commands and responses pair one to one and in order
+pub demand-2-answers : (machine name : List ℕ) (screen : Bool) (b : Buffers) (cs : List Call) →
+    let s = opened machine name screen .session in after s b cs .session .phase ≡ Ended → Paired (events s b cs)
+demand-2-answers = answering.answers-opened
+
+-- ---- Demand 3: "Order between strangers means nothing." One theorem about two lists of calls, for both phases and both machines
+
+pub demand-3 : (part : Part) (x y : State) → Starts part (x .session) → Starts part (y .session) → SameStart part x y → (p q : Phase) → IsPhase part p → IsPhase part q →
+    Rearranged part (x .session .machine) (x .session .name) p q → (outs outs′ : Supply) →
+    LongEnough (x .session) (x .buffers) (callsOf part outs (blocksOf p)) → LongEnough (y .session) (y .buffers) (callsOf part outs′ (blocksOf q)) →
+    SameOutcome part x y p q outs outs′
+demand-3 = ordering.order
