@@ -70,12 +70,14 @@ fn receive_stanza(
 ) -> Received
     ensures { λ r. ⌜ receivedSaid r (now (slots .exit)) (now («header_slots» .entry)) (now (errors .exit)) (now (stanzas .exit)) (now (returned .exit)) (now (out .exit)) ≡ receivedStanza (sessionOf session (now (slots .entry)) (now («header_slots» .entry))) (buffersOf (now (errors .entry)) (now (stanzas .entry)) (now (returned .entry))) (now (out .entry)) (argumentsIn (now (text .entry)) s) (bodyIn (now (text .entry)) s) (s .taken) ⌝ }
 {
+    let machine = session.machine;
+    let before = session.phase;
+    let screen = session.screen;
+    let tables = session.tables;
     let line = stanza::arguments_of(text, s);
     let source = stanza::lines_of(text, s);
-    let tables = session.tables;
-    let screen = session.screen;
     let n = tables::body_size(Coding::Lines, source);
-    let command = phase_two_commands::parse_two(session.machine, line, n);
+    let command = phase_two_commands::parse_two(machine, line, n);
     let ruled = phase_two_decision::rule_two(false, tables, command, slots, header_slots);
     let at_once = phase_two::answer_at_once(screen, command);
     let size = phase_two::at_once_size(at_once);
@@ -97,7 +99,7 @@ fn receive_stanza(
     let after = step.tables;
     write_answer(verdict, at_once, out);
     let answer = answer_to(verdict, command, s.taken, size);
-    let phase = phase_two::phase_received_two(session.phase, screen, verdict, command);
+    let phase = phase_two::phase_received_two(before, screen, verdict, command);
     Received {
         answer: answer,
         session: session.moved(phase, after),

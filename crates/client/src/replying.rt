@@ -52,7 +52,8 @@ fn reply_to(
 pub fn reply(session: Session, response: Response, body: &[u8], out: &mut [u8]) -> Replied
     ensures { λ r. ⌜ ((xs hs : List (List ℕ)) → repliedSaid r xs hs (now (out .exit)) ≡ replied (sessionOf session xs hs) response (now (body .entry)) (now (out .entry))) ⌝ }
 {
-    let due = phase_two::answer_due(session.phase);
+    let phase = session.phase;
+    let due = phase_two::answer_due(phase);
     match due {
         Due::Refused(r) => Replied {
             answer: Written::Refused(r),

@@ -48,13 +48,15 @@ fn send_in(
             session: session,
         },
         Composed::Line(n, size) => {
+            let machine = session.machine;
+            let before = session.phase;
             let line = front(store, n);
             let name = session.name;
             let bytes = name.bytes;
             let length = name.length;
             let late = session::check_output(size, out.len());
             let step = step_one(
-                session.machine,
+                machine,
                 front(&bytes, length),
                 session.tables,
                 late,
@@ -72,7 +74,7 @@ fn send_in(
             let command = step.command;
             let after = step.tables;
             let answer = session::write_judged(verdict, line, body, out);
-            let phase = phase_one::phase_sent(session.phase, verdict, command);
+            let phase = phase_one::phase_sent(before, verdict, command);
             Sent {
                 answer: answer,
                 session: session.moved(phase, after),
@@ -148,7 +150,8 @@ pub fn send(
 ) -> Sent
     ensures { λ r. ⌜ sentSaid r (now (slots .exit)) (now («header_slots» .exit)) (now (recipients .exit)) (now (identities .exit)) (now (keys .exit)) (now (headers .exit)) (now (out .exit)) ≡ sent (sessionOf session (now (slots .entry)) (now («header_slots» .entry))) (wordSaid word) (now (arguments .entry)) (now (body .entry)) (buffersOf (now (recipients .entry)) (now (identities .entry)) (now (keys .entry)) (now (headers .entry))) (now (out .entry)) ⌝ }
 {
-    let turn = phase_one::turn_one(session.phase);
+    let phase = session.phase;
+    let turn = phase_one::turn_one(phase);
     match turn {
         Verdict::Refused(r) => Sent {
             answer: Written::Refused(r),

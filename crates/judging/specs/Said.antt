@@ -2,8 +2,7 @@
 use Prim.Native.Nat.{ℕ}
 use mathlib.Core.List.{List, []}
 use Rattle.phase_one.specs.PhaseOne.{Buffers, buffersOf}
-use Rattle.session.specs.Session.{Session}
-use Rattle.plugin.specs.Session.{sessionOf}
+use Rattle.session.specs.Session.{Session, sessionOf}
 use Rattle.judging.specs.Judging.{Judged, Standing, going, stopped, Turn, turnOf}
 use Rattle.judging.specs.declared.Judged.{Judged as CodeJudged}
 use Rattle.judging.specs.declared.Progress.{Progress}
@@ -19,14 +18,14 @@ abbrev pub standingIn : Progress → Session → Standing
 standingIn the.GoesOn s = going s
 standingIn (the.Stopped x) s = stopped (judgedSaid x)
 
--- the same of the code's value, with the slots of all kinds
-abbrev pub standingOf : Judging → List (List ℕ) → Standing
-standingOf j xs = standingIn (j .progress) (sessionOf (j .session) xs)
+-- the same of the code's value, with the slots of six kinds and those of the header stanzas
+abbrev pub standingOf : Judging → List (List ℕ) → List (List ℕ) → Standing
+standingOf j xs hs = standingIn (j .progress) (sessionOf (j .session) xs hs)
 
 -- the buffers of recipients, identities and file keys; none for header stanzas, which recipient-v1 does not have
 abbrev pub buffersIn : List ℕ → List ℕ → List ℕ → Buffers
 buffersIn r i k = buffersOf r i k []
 
 -- where judging stands, with the buffers and how many bytes were taken
-abbrev pub turnSaid : Judging → List (List ℕ) → List ℕ → List ℕ → List ℕ → Turn
-turnSaid j xs r i k = turnOf (standingOf j xs) (buffersIn r i k) (j .taken)
+abbrev pub turnSaid : Judging → List (List ℕ) → List (List ℕ) → List ℕ → List ℕ → List ℕ → Turn
+turnSaid j xs hs r i k = turnOf (standingOf j xs hs) (buffersIn r i k) (j .taken)

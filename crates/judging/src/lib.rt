@@ -2,20 +2,19 @@
 ghost use mathlib.Core.Path.{_≡_};
 ghost use Prim.Native.Nat.{ℕ, _≤_};
 ghost use mathlib.Core.List.{List};
-ghost use Rattle.tables.specs.Slots.{openedSlots};
 ghost use lib.ListN.{length, drop};
 ghost use Rattle.refusal.specs.Number.{numberOf};
 ghost use Rattle.phase_one.specs.Commands.{wordSaid};
-ghost use Rattle.session.specs.Tables.{tablesIn};
-ghost use Rattle.plugin.specs.Session.{sessionOf};
+ghost use Rattle.session.specs.Tables.{tablesIn, openedSlots, openedHeaderSlots};
+ghost use Rattle.session.specs.Session.{sessionOf};
 ghost use Rattle.judging.specs.Judging.{counted, going, isDone, behindCommand, behindRefusal, turned, behind, judgedFrom, start, judgedText, numbersOf};
 ghost use Rattle.judging.specs.Windows.{Cut};
 ghost use Rattle.judging.specs.Said.{judgedSaid, buffersIn, standingIn, standingOf, turnSaid};
-use plugin::Session;
+use phase_one::WordOne;
 use plugin::Taking;
 use refusal::Refusal;
+use session::Session;
 use session::Tables;
-use session::Word;
 
 // What the judging program writes: how many entries each kind has, and the answer, 0 behind done, else the number of the refusal.
 pub struct Judged {
@@ -41,7 +40,7 @@ pub struct Judging {
 
 // The counts of tables, and an answer.
 fn count(tables: Tables, answer: u8) -> Judged
-    ensures { λ r. ⌜ ((xs : List (List ℕ)) → judgedSaid r ≡ counted (tablesIn tables xs) answer) ⌝ }
+    ensures { λ r. ⌜ ((xs hs : List (List ℕ)) → judgedSaid r ≡ counted (tablesIn tables xs hs) answer) ⌝ }
 {
     Judged {
         recipients: tables.recipients.count,
@@ -53,22 +52,22 @@ fn count(tables: Tables, answer: u8) -> Judged
 }
 
 // Whether a command is done.
-fn is_done(word: Word) -> bool
+fn is_done(word: WordOne) -> bool
     ensures { λ r. ⌜ r ≡ isDone (wordSaid word) ⌝ }
 {
     match word {
-        Word::Done => true,
-        Word::AddRecipient => false,
-        Word::AddIdentity => false,
-        Word::WrapFileKey => false,
-        Word::RecipientStanza => false,
-        Word::Other => false,
+        WordOne::Done => true,
+        WordOne::AddRecipient => false,
+        WordOne::AddIdentity => false,
+        WordOne::WrapFileKey => false,
+        WordOne::RecipientStanza => false,
+        WordOne::Other => false,
     }
 }
 
 // Where judging stands behind a command: done stops it.
-fn behind_command(word: Word, session: Session) -> Progress
-    ensures { λ r. ⌜ ((xs : List (List ℕ)) → standingIn r (sessionOf session xs) ≡ behindCommand (wordSaid word) (sessionOf session xs)) ⌝ }
+fn behind_command(word: WordOne, session: Session) -> Progress
+    ensures { λ r. ⌜ ((xs hs : List (List ℕ)) → standingIn r (sessionOf session xs hs) ≡ behindCommand (wordSaid word) (sessionOf session xs hs)) ⌝ }
 {
     if is_done(word) {
         return Progress::Stopped(count(session.tables, 0));
@@ -78,7 +77,7 @@ fn behind_command(word: Word, session: Session) -> Progress
 
 // Where judging stands behind a refusal: it stops, but an unfinished stanza waits for more where the window is not the last.
 fn behind_refusal(r: Refusal, last: bool, session: Session) -> Progress
-    ensures { λ p. ⌜ ((xs : List (List ℕ)) → standingIn p (sessionOf session xs) ≡ behindRefusal last (numberOf r) (sessionOf session xs)) ⌝ }
+    ensures { λ p. ⌜ ((xs hs : List (List ℕ)) → standingIn p (sessionOf session xs hs) ≡ behindRefusal last (numberOf r) (sessionOf session xs hs)) ⌝ }
 {
     let number = refusal::number(r);
     if number == 2 && !last {
@@ -93,18 +92,21 @@ fn advance(
     window: &[u8],
     at: usize,
     last: bool,
-    slots: &mut [[usize; 4]; 1344],
+    slots: &mut [[usize; 4]; Session::OTHER_SLOTS],
+    header_slots: &mut [[usize; 4]; Session::HEADER_STANZAS],
     recipients: &mut [u8],
     identities: &mut [u8],
     keys: &mut [u8],
 ) -> Judging
     requires { ⌜ at ≤ length (now window) ⌝ }
-    ensures { λ r. ⌜ turnSaid r (now (slots .exit)) (now (recipients .exit)) (now (identities .exit)) (now (keys .exit)) ≡ behind at (turned last (sessionOf session (now (slots .entry))) (buffersIn (now (recipients .entry)) (now (identities .entry)) (now (keys .entry))) (drop at (now (window .entry)))) ⌝ }
+    ensures { λ r. ⌜ turnSaid r (now (slots .exit)) (now («header_slots» .exit)) (now (recipients .exit)) (now (identities .exit)) (now (keys .exit)) ≡ behind at (turned last (sessionOf session (now (slots .entry)) (now («header_slots» .entry))) (buffersIn (now (recipients .entry)) (now (identities .entry)) (now (keys .entry))) (drop at (now (window .entry)))) ⌝ }
 {
     let mut headers = [0u8; 0];
-    let received = session.receive(
+    let received = plugin::receive(
+        session,
         &window[at..],
         slots,
+        header_slots,
         recipients,
         identities,
         keys,
@@ -132,9 +134,9 @@ fn advance(
 impl Judging {
     // Nothing judged yet: a session of recipient-v1 just opened. The plugin's name does not show in the numbers.
     pub fn open() -> Judging
-        ensures { λ r. ⌜ (standingOf r openedSlots ≡ going start) × (r .taken ≡ 0) ⌝ }
+        ensures { λ r. ⌜ (standingOf r openedSlots openedHeaderSlots ≡ going start) × (r .taken ≡ 0) ⌝ }
     {
-        let opening = Session::open(b"recipient-v1", b"judge");
+        let opening = Session::open_plugin(b"recipient-v1", b"judge");
         let session = opening.session;
         Judging {
             session: session,
@@ -149,13 +151,14 @@ impl Judging {
         self,
         window: &[u8],
         last: bool,
-        slots: &mut [[usize; 4]; 1344],
+        slots: &mut [[usize; 4]; Session::OTHER_SLOTS],
+    header_slots: &mut [[usize; 4]; Session::HEADER_STANZAS],
         recipients: &mut [u8],
         identities: &mut [u8],
         keys: &mut [u8],
     ) -> Judging
-        ensures exact { λ r. ⌜ turnSaid r (now (slots .exit)) (now (recipients .exit)) (now (identities .exit)) (now (keys .exit)) ≡ judgedFrom last (standingOf self (now (slots .entry))) (buffersIn (now (recipients .entry)) (now (identities .entry)) (now (keys .entry))) (now (window .entry)) ⌝ }
-        ensures any_cut { λ r. ⌜ Cut last (standingOf self (now (slots .entry))) (buffersIn (now (recipients .entry)) (now (identities .entry)) (now (keys .entry))) (now (window .entry)) (turnSaid r (now (slots .exit)) (now (recipients .exit)) (now (identities .exit)) (now (keys .exit))) ⌝ }
+        ensures exact { λ r. ⌜ turnSaid r (now (slots .exit)) (now («header_slots» .exit)) (now (recipients .exit)) (now (identities .exit)) (now (keys .exit)) ≡ judgedFrom last (standingOf self (now (slots .entry)) (now («header_slots» .entry))) (buffersIn (now (recipients .entry)) (now (identities .entry)) (now (keys .entry))) (now (window .entry)) ⌝ }
+        ensures any_cut { λ r. ⌜ Cut last (standingOf self (now (slots .entry)) (now («header_slots» .entry))) (buffersIn (now (recipients .entry)) (now (identities .entry)) (now (keys .entry))) (now (window .entry)) (turnSaid r (now (slots .exit)) (now («header_slots» .exit)) (now (recipients .exit)) (now (identities .exit)) (now (keys .exit))) ⌝ }
     {
         let mut j = self;
         j.taken = 0;
@@ -171,6 +174,7 @@ impl Judging {
                 at,
                 last,
                 slots,
+                header_slots,
                 recipients,
                 identities,
                 keys,
@@ -183,7 +187,7 @@ impl Judging {
 
     // The five numbers. Where judging goes on the input has ended before done: 2.
     pub fn numbers(self) -> Judged
-        ensures { λ r. ⌜ ((xs : List (List ℕ)) → judgedSaid r ≡ numbersOf (standingOf self xs)) ⌝ }
+        ensures { λ r. ⌜ ((xs hs : List (List ℕ)) → judgedSaid r ≡ numbersOf (standingOf self xs hs)) ⌝ }
     {
         let progress = self.progress;
         match progress {
@@ -199,7 +203,8 @@ pub fn judge(text: &[u8], recipients: &mut [u8], identities: &mut [u8], keys: &m
     ensures buffers { λ _. ⌜ buffersIn (now (recipients .exit)) (now (identities .exit)) (now (keys .exit)) ≡ judgedText (buffersIn (now (recipients .entry)) (now (identities .entry)) (now (keys .entry))) (now (text .entry)) .buffers ⌝ }
 {
     let begun = Judging::open();
-    let mut slots = tables::open_slots();
-    let judging = begun.judge_window(text, true, &mut slots, recipients, identities, keys);
+    let mut slots = Session::open_slots();
+    let mut header_slots = Session::open_header_slots();
+    let judging = begun.judge_window(text, true, &mut slots, &mut header_slots, recipients, identities, keys);
     judging.numbers()
 }

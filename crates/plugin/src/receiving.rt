@@ -55,11 +55,13 @@ fn receive_stanza(
 ) -> Received
     ensures { λ r. ⌜ receivedSaid r (now (slots .exit)) (now («header_slots» .exit)) (now (recipients .exit)) (now (identities .exit)) (now (keys .exit)) (now (headers .exit)) ≡ receivedStanza (sessionOf session (now (slots .entry)) (now («header_slots» .entry))) (buffersOf (now (recipients .entry)) (now (identities .entry)) (now (keys .entry)) (now (headers .entry))) (argumentsIn (now (text .entry)) s) (bodyIn (now (text .entry)) s) (s .taken) ⌝ }
 {
+    let machine = session.machine;
+    let before = session.phase;
     let name = session.name;
     let bytes = name.bytes;
     let length = name.length;
     let step = step_one(
-        session.machine,
+        machine,
         front(&bytes, length),
         session.tables,
         Verdict::Accepted,
@@ -77,7 +79,7 @@ fn receive_stanza(
     let command = step.command;
     let after = step.tables;
     let answer = answer_to(verdict, command, s.taken);
-    let phase = phase_one::phase_received(session.phase, verdict, command);
+    let phase = phase_one::phase_received(before, verdict, command);
     Received {
         answer: answer,
         session: session.moved(phase, after),

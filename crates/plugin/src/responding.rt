@@ -72,11 +72,12 @@ fn receive_fitting(
 fn receive_awaited(session: Session, word: WordTwo, text: &[u8], out: &mut [u8]) -> Responded
     ensures { λ r. ⌜ ((xs hs : List (List ℕ)) → respondedSaid r xs hs (now (out .exit)) ≡ respondedText (readFirst (now (text .entry))) word (sessionOf session xs hs) (now (text .entry)) (now (out .entry))) ⌝ }
 {
+    let phase = session.phase;
     let first = stanza::read(text);
     match first {
         First::Refused(r) => Responded {
             answer: Answering::Refused(r),
-            session: session.moved(session::phase_refused(session.phase, r), session.tables),
+            session: session.moved(session::phase_refused(phase, r), session.tables),
         },
         First::Stanza(s) => {
             let reading = responses::read_line(stanza::arguments_of(text, s));
@@ -95,7 +96,8 @@ fn receive_awaited(session: Session, word: WordTwo, text: &[u8], out: &mut [u8])
 pub fn receive_response(session: Session, text: &[u8], out: &mut [u8]) -> Responded
     ensures { λ r. ⌜ ((xs hs : List (List ℕ)) → respondedSaid r xs hs (now (out .exit)) ≡ responded (sessionOf session xs hs) (now (text .entry)) (now (out .entry))) ⌝ }
 {
-    let due = phase_two::answer_due(session.phase);
+    let phase = session.phase;
+    let due = phase_two::answer_due(phase);
     match due {
         Due::Refused(r) => Responded {
             answer: Answering::Refused(r),

@@ -47,9 +47,11 @@ fn send_in(
             session: session,
         },
         Composed::Line(n, size) => {
-            let line = front(store, n);
+            let machine = session.machine;
+            let before = session.phase;
             let tables = session.tables;
-            let command = phase_two_commands::parse_two(session.machine, line, body.len());
+            let line = front(store, n);
+            let command = phase_two_commands::parse_two(machine, line, body.len());
             let ruled = phase_two_decision::rule_two(true, tables, command, slots, header_slots);
             let late = session::check_output(size, out.len());
             let step = step_two(
@@ -68,7 +70,7 @@ fn send_in(
             let verdict = step.verdict;
             let after = step.tables;
             let answer = session::write_judged(verdict, line, body, out);
-            let phase = phase_two::phase_sent_two(session.phase, verdict, command);
+            let phase = phase_two::phase_sent_two(before, verdict, command);
             Sent {
                 answer: answer,
                 session: session.moved(phase, after),
@@ -140,7 +142,8 @@ pub fn send(
 ) -> Sent
     ensures { λ r. ⌜ sentSaid r (now (slots .exit)) (now («header_slots» .entry)) (now (errors .exit)) (now (stanzas .exit)) (now (returned .exit)) (now (out .exit)) ≡ sent (sessionOf session (now (slots .entry)) (now («header_slots» .entry))) word (now (arguments .entry)) (now (body .entry)) (buffersOf (now (errors .entry)) (now (stanzas .entry)) (now (returned .entry))) (now (out .entry)) ⌝ }
 {
-    let turn = phase_two::turn_two(session.phase);
+    let phase = session.phase;
+    let turn = phase_two::turn_two(phase);
     match turn {
         Verdict::Refused(r) => Sent {
             answer: Written::Refused(r),

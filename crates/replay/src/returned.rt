@@ -1,5 +1,7 @@
 // What `show` prints of phase two, by the library's look-ups: the errors, and the stanzas and keys that were returned, file by file.
+use crate::host::HeaderSlots;
 use crate::host::Lengths;
+use crate::host::Slots;
 use crate::parts::Buffer;
 use crate::parts::front;
 use crate::print::Output;
@@ -8,9 +10,10 @@ use crate::print::print_decimal;
 use crate::print::print_last;
 use crate::print::print_number;
 use look_up::ErrorNamed;
+use session::Kind;
+use session::Session;
 use session::Tables;
 use tables::Found;
-use tables::Holding;
 
 // No file has this number: a file's has 32 bits.
 const NO_FILE: usize = usize::MAX;
@@ -19,23 +22,25 @@ const NO_FILE: usize = usize::MAX;
 pub fn print_returned(
     tables: Tables,
     lengths: Lengths,
-    slots: &[[usize; 4]; 1344],
+    slots: &Slots,
+    header_slots: &HeaderSlots,
     errors: &Buffer,
     stanzas: &Buffer,
     returned: &Buffer,
     out: &mut Output,
     at: usize,
 ) -> usize {
-    let a = print_errors(tables, slots, front(errors, lengths.errors), out, at);
+    let a = print_errors(tables, slots, header_slots, front(errors, lengths.errors), out, at);
     let b = print_stanzas(tables, slots, front(stanzas, lengths.stanzas), out, a);
-    let c = print_keys(tables, slots, front(returned, lengths.returned), out, b);
+    let c = print_keys(tables, slots, header_slots, front(returned, lengths.returned), out, b);
     print_bytes(b"end\n", out, c)
 }
 
 // The errors.
 fn print_errors(
     tables: Tables,
-    slots: &[[usize; 4]; 1344],
+    slots: &Slots,
+    header_slots: &HeaderSlots,
     errors: &[u8],
     out: &mut Output,
     at: usize,
@@ -44,7 +49,7 @@ fn print_errors(
     let mut next = at;
     let mut n: usize = 0;
     while n < count {
-        let named = look_up::error_named(tables, n, slots);
+        let named = look_up::error_named(tables, n, slots, header_slots);
         next = print_error(
             n,
             named,
@@ -89,7 +94,7 @@ fn print_index(bytes: &[u8], index: usize, out: &mut Output, at: usize) -> usize
 // The stanzas of each file; the files are those of the file keys.
 fn print_stanzas(
     tables: Tables,
-    slots: &[[usize; 4]; 1344],
+    slots: &Slots,
     stanzas: &[u8],
     out: &mut Output,
     at: usize,
@@ -108,7 +113,7 @@ fn print_stanzas(
 fn print_file(
     tables: Tables,
     file: usize,
-    slots: &[[usize; 4]; 1344],
+    slots: &Slots,
     stanzas: &[u8],
     out: &mut Output,
     at: usize,
@@ -140,7 +145,8 @@ fn print_stanza(file: usize, k: usize, payload: &[u8], out: &mut Output, at: usi
 // The key of each file; the files are those that header stanzas name, whose numbers never fall.
 fn print_keys(
     tables: Tables,
-    slots: &[[usize; 4]; 1344],
+    slots: &Slots,
+    header_slots: &HeaderSlots,
     returned: &[u8],
     out: &mut Output,
     at: usize,
@@ -148,8 +154,8 @@ fn print_keys(
     let mut next = at;
     let mut last = NO_FILE;
     let mut n: usize = 0;
-    while n < 256 {
-        let found = tables.headers.find(Holding::Headers, n, slots);
+    while n < Session::HEADER_STANZAS {
+        let found = look_up::find(tables, Kind::Headers, n, slots, header_slots);
         let Found::Entry(e) = found else {
             return next;
         };
@@ -166,7 +172,7 @@ fn print_key(
     tables: Tables,
     file: usize,
     due: bool,
-    slots: &[[usize; 4]; 1344],
+    slots: &Slots,
     returned: &[u8],
     out: &mut Output,
     at: usize,

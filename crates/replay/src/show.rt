@@ -3,8 +3,10 @@ use crate::answers::Answer;
 use crate::answers::NAMES;
 use crate::answers::number_two;
 use crate::answers::print_text;
+use crate::host::HeaderSlots;
 use crate::host::Host;
 use crate::host::Lengths;
+use crate::host::Slots;
 use crate::parts::Buffer;
 use crate::parts::front;
 use crate::parts::least;
@@ -16,12 +18,12 @@ use crate::print::print_word;
 use crate::returned::print_returned;
 use bech32::TextKind;
 use look_up::Awaited;
+use session::Kind;
 use session::Phase;
+use session::Session;
 use session::Tables;
 use tables::Entry;
 use tables::Found;
-use tables::Holding;
-use tables::Table;
 
 // The phases, the kinds and the marks by their numbers.
 const PHASES: [u8; 20] = *b"one two ended closed";
@@ -40,7 +42,7 @@ pub fn look_up<'a>(
     kind: TextKind,
     n: usize,
     host: Host,
-    slots: &[[usize; 4]; 1344],
+    slots: &Slots,
     recipients: &'a Buffer,
     identities: &'a Buffer,
     out: &mut Output,
@@ -50,13 +52,14 @@ pub fn look_up<'a>(
     let session = host.session;
     let r = front(recipients, lengths.recipients);
     let i = front(identities, lengths.identities);
-    Answer::Printed(print_text(session.tables.entry(kind, n, slots, r, i), out, at))
+    Answer::Printed(print_text(look_up::entry(session.tables, kind, n, slots, r, i), out, at))
 }
 
 // show
 pub fn show(
     host: Host,
-    slots: &[[usize; 4]; 1344],
+    slots: &Slots,
+    header_slots: &HeaderSlots,
     recipients: &Buffer,
     identities: &Buffer,
     keys: &Buffer,
@@ -76,6 +79,7 @@ pub fn show(
         tables,
         lengths,
         slots,
+        header_slots,
         recipients,
         identities,
         keys,
@@ -83,7 +87,7 @@ pub fn show(
         out,
         a,
     );
-    Answer::Printed(print_returned(tables, lengths, slots, errors, stanzas, returned, out, b))
+    Answer::Printed(print_returned(tables, lengths, slots, header_slots, errors, stanzas, returned, out, b))
 }
 
 // The lines of the phase, and of the command that awaits an answer.
@@ -119,7 +123,8 @@ fn phase_number(phase: Phase) -> usize {
 fn print_given(
     tables: Tables,
     lengths: Lengths,
-    slots: &[[usize; 4]; 1344],
+    slots: &Slots,
+    header_slots: &HeaderSlots,
     recipients: &Buffer,
     identities: &Buffer,
     keys: &Buffer,
@@ -127,87 +132,37 @@ fn print_given(
     out: &mut Output,
     at: usize,
 ) -> usize {
-    let a = print_table(
-        0,
-        tables.recipients,
-        Holding::Recipients,
-        slots,
-        front(recipients, lengths.recipients),
-        out,
-        at,
-    );
-    let b = print_table(
-        1,
-        tables.identities,
-        Holding::Identities,
-        slots,
-        front(identities, lengths.identities),
-        out,
-        a,
-    );
-    let c = print_table(
-        FILE_KEY,
-        tables.keys,
-        Holding::Keys,
-        slots,
-        front(keys, lengths.keys),
-        out,
-        b,
-    );
-    print_headers(
-        tables.headers,
-        slots,
-        front(headers, lengths.headers),
-        out,
-        c,
-    )
+    let r = front(recipients, lengths.recipients);
+    let i = front(identities, lengths.identities);
+    let k = front(keys, lengths.keys);
+    let h = front(headers, lengths.headers);
+    let a = print_table(0, Kind::Recipients, tables, slots, header_slots, r, out, at);
+    let b = print_table(1, Kind::Identities, tables, slots, header_slots, i, out, a);
+    let c = print_table(FILE_KEY, Kind::Keys, tables, slots, header_slots, k, out, b);
+    print_table(HEADER, Kind::Headers, tables, slots, header_slots, h, out, c)
 }
 
-// The entries of a table of 64 slots.
+// The entries of a kind, of which none has more than there may be header stanzas.
 fn print_table(
-    kind: usize,
-    table: Table,
-    holding: Holding,
-    slots: &[[usize; 4]; 1344],
+    number: usize,
+    kind: Kind,
+    tables: Tables,
+    slots: &Slots,
+    header_slots: &HeaderSlots,
     buffer: &[u8],
     out: &mut Output,
     at: usize,
 ) -> usize {
     let mut next = at;
     let mut n: usize = 0;
-    while n < 64 {
-        let found = table.find(holding, n, slots);
+    while n < Session::HEADER_STANZAS {
+        let found = look_up::find(tables, kind, n, slots, header_slots);
         match found {
             Found::Nothing => {
                 return next;
             }
             Found::Entry(e) => {
-                next = print_slot(kind, n, e, tables::payload(found, buffer), out, next);
-            }
-        }
-        n += 1;
-    }
-    next
-}
-
-// The header stanzas.
-fn print_headers(
-    table: Table,
-    slots: &[[usize; 4]; 1344],
-    buffer: &[u8],
-    out: &mut Output,
-    at: usize,
-) -> usize {
-    let mut next = at;
-    let mut n: usize = 0;
-    while n < 256 {
-        let found = table.find(Holding::Headers, n, slots);
-        match found {
-            Found::Nothing => {
-                return next;
-            }
-            Found::Entry(e) => {
-                next = print_slot(HEADER, n, e, tables::payload(found, buffer), out, next);
+                next = print_slot(number, n, e, tables::payload(found, buffer), out, next);
             }
         }
         n += 1;
