@@ -37,7 +37,7 @@ use Rattle.conversation.specs.Kinds.{Buffers, buffersOf}
 use Rattle.conversation.specs.CommandsTwo as two-command
 use Rattle.conversation.specs.CommandsTwo.{CommandTwo, commandTwo, payloadOf}
 use Rattle.conversation.specs.PhaseTwo as two
-use Rattle.conversation.specs.TurnsTwo.{turnTwo, answered}
+use Rattle.conversation.specs.TurnsTwo.{turnTwo, dueIn, answered}
 use Rattle.conversation.specs.Receiving as receiving
 use Rattle.conversation.specs.Sending as sending
 use Rattle.conversation.specs.Sending.{shortness}
@@ -363,7 +363,7 @@ module _ (s : Session) (b : Buffers) where
       })
       (λ f. eqb-false z 0 f)
 
-  replied-in : (p : Phase) (r : Response) (body out : List ℕ) → s .phase ≡ p → numberOfReply (replying.repliedIn p s r body out) ≡ 0 → Replied r body out (replying.repliedIn p s r body out)
+  replied-in : (p : Phase) (r : Response) (body out : List ℕ) → s .phase ≡ p → numberOfReply (replying.repliedBy (dueIn p) s r body out) ≡ 0 → Replied r body out (replying.repliedBy (dueIn p) s r body out)
   replied-in One r body out o h = absurd (omega arith)
   replied-in Two r body out o h = absurd (omega arith)
   replied-in (Awaiting w) r body out o h = reply-to w r body out o h
@@ -406,8 +406,8 @@ module _ (s : Session) (b : Buffers) where
       respond-as w (responseOf (lineRead (stanza e n k) text)) (lineRead (stanza e n k) text) (bodyRead (stanza e n k) text) out k o (written-read text e n k q .writable) refl h
   respond-text w text out (refused n) o q h = absurd (text-number text n q h)
 
-  responded-in : (p : Phase) (text out : List ℕ) → s .phase ≡ p → numberOfResponse (responding.respondedIn p s text out) ≡ 0 →
-      Responded (lineRead (readFirst text) text) (bodyRead (readFirst text) text) out (responding.respondedIn p s text out)
+  responded-in : (p : Phase) (text out : List ℕ) → s .phase ≡ p → numberOfResponse (responding.respondedBy (dueIn p) s text out) ≡ 0 →
+      Responded (lineRead (readFirst text) text) (bodyRead (readFirst text) text) out (responding.respondedBy (dueIn p) s text out)
   responded-in One text out o h = absurd (omega arith)
   responded-in Two text out o h = absurd (omega arith)
   responded-in (Awaiting w) text out o h = respond-text w text out (readFirst text) o refl h

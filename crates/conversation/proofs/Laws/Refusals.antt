@@ -23,7 +23,7 @@ use Rattle.session.specs.Session.{Session, closed}
 use Rattle.conversation.specs.Kinds.{Buffers, buffersOf}
 use Rattle.conversation.specs.CommandsTwo as two-command
 use Rattle.conversation.specs.PhaseTwo as two
-use Rattle.conversation.specs.TurnsTwo.{turnTwo}
+use Rattle.conversation.specs.TurnsTwo.{turnTwo, dueIn}
 use Rattle.conversation.specs.Receiving as receiving
 use Rattle.conversation.specs.Sending as sending
 use Rattle.conversation.specs.Sending.{shortness}
@@ -123,7 +123,7 @@ module _ (s : Session) where
     unfolding replying.repliedTo
     reply-to-left w r body = either LeftReplied (eqb (firstOf (replying.numberReplied w r body) (shortness (stanzaText (responseLine r) body) out)) 0) _ _ (λ h. absurd (h refl)) (λ h. refl)
 
-    replied-left : (p : Phase) (r : Response) (body : List ℕ) → LeftReplied (replying.repliedIn p s r body out)
+    replied-left : (p : Phase) (r : Response) (body : List ℕ) → LeftReplied (replying.repliedBy (dueIn p) s r body out)
     replied-left One r body = λ h. refl
     replied-left Two r body = λ h. refl
     replied-left (Awaiting w) r body = reply-to-left w r body
@@ -143,7 +143,7 @@ module _ (s : Session) where
     response-text-left (stanza e n k) w text = response-left w _ _ k
     response-text-left (refused n) w text = λ h. refl
 
-    responded-left : (p : Phase) (text : List ℕ) → LeftResponded (responding.respondedIn p s text out)
+    responded-left : (p : Phase) (text : List ℕ) → LeftResponded (responding.respondedBy (dueIn p) s text out)
     responded-left One text = λ h. refl
     responded-left Two text = λ h. refl
     responded-left (Awaiting w) text = response-text-left (readFirst text) w text

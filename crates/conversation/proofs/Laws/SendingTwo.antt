@@ -62,7 +62,8 @@ module _ (m : Machine) (g : List ℕ) (x : Bool) (q : Phase) (t : Tables) (b : B
   pub sent-from : (c : CommandTwo) (r late n : ℕ) (a : Answer) (p : Phase) (t′ : Tables) (b′ : Buffers) (o′ : List ℕ) →
       c ≡ rowTwo (wordTwo m (argumentOf l 0)) m l (length y) → r ≡ ruled true t c → late ≡ shortness (stanzaText l y) out →
       n ≡ firstOf (firstOf r (when (isSpaceless t b c (length (payloadOf c l y))) 8)) late → a ≡ pick (eqb n 0) (written l y out) (refused n) → p ≡ pick (eqb n 0) (phaseSent c) q →
-      t′ ≡ pick (eqb n 0) (applied t b c (payloadOf c l y)) t → b′ ≡ pick (eqb n 0) (filledBy t b c (payloadOf c l y)) b → o′ ≡ pick (eqb n 0) (bufferAfter l y out) out →
+      t′ ≡ pick (eqb (firstOf (firstOf r (when (isSpaceless t b c (length (payloadOf c l y))) 8)) late) 0) (applied t b c (payloadOf c l y)) t →
+      b′ ≡ pick (eqb (firstOf (firstOf r (when (isSpaceless t b c (length (payloadOf c l y))) 8)) late) 0) (filledBy t b c (payloadOf c l y)) b → o′ ≡ pick (eqb n 0) (bufferAfter l y out) out →
       sending a (sessionIn m g x p t′) b′ o′ ≡ sentLine (sessionIn m g x q t) b l y out
   unfolding decided
   sent-from c r late n a p t′ b′ o′ ec er el en ea ep et eb eo =
