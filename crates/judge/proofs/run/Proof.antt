@@ -14,60 +14,48 @@ use borrow.Author.Needs.{needs}
 use denote.Ref.{now}
 
 abbrev Inv-loop : tie.InvT-loop
-Inv-loop window₀ slots₀ recipients₀ identities₀ keys₀ s₀ turns₀ window slots recipients identities keys s turns =
+Inv-loop window₀ slots₀ header₀ recipients₀ identities₀ keys₀ s₀ turns₀ window slots header recipients identities keys s turns =
     (s .more ≡ true → s .left < 8192) × (length window ≡ length window₀) × (length recipients ≡ length recipients₀) × (length identities ≡ length identities₀) × (length keys ≡ length keys₀)
 
 abbrev μ-loop : tie.MeasureT-loop
-μ-loop window₀ slots₀ recipients₀ identities₀ keys₀ s₀ turns₀ window slots recipients identities keys s turns =
+μ-loop window₀ slots₀ header₀ recipients₀ identities₀ keys₀ s₀ turns₀ window slots header recipients identities keys s turns =
     turns
 
--- src/main.rt:57:18
 open-requires : tie.Need-open-requires Inv-loop μ-loop
 open-requires c κs = tt
 
--- src/main.rt:62:5
 loop-holds : tie.Need-loop-holds Inv-loop μ-loop
 loop-holds c = (λ m. omega arith, refl, refl, refl, refl)
 
--- src/main.rt:63:9
 run-turn-requires : tie.Need-run-turn-requires Inv-loop μ-loop
 run-turn-requires c κs =
-    let l = c .before .before .before .before .before .before .before .loop in
-    omega (arith, l .inv .0 (c .before .before .before .before .before .if1 .taken), l .inv .1, c .before .before .before .before .before .before .before .before .before .before .before .before .before .pre)
+    let l = c .before .before .before .before .before .before .before .before .loop in
+    omega (arith, l .inv .0 (c .before .before .before .before .before .before .if1 .taken), l .inv .1, c .before .before .before .before .before .before .before .before .before .before .before .before .before .before .pre)
 
--- src/main.rt:64:9
 sub-turns : tie.Need-sub-turns Inv-loop μ-loop
 sub-turns c = search needs
 
--- src/main.rt:62:5
 loop-less : tie.Need-loop-less Inv-loop μ-loop
 loop-less c = search needs
 
--- src/main.rt:62:5
 loop-again : tie.Need-loop-again Inv-loop μ-loop
 loop-again c = (c .before .before .before .before .before .before .before .before .run-turn .ensures, search needs, search needs, search needs, search needs)
 
--- src/main.rt:66:5
 numbers-requires : tie.Need-numbers-requires Inv-loop μ-loop
 numbers-requires c κs = tt
 
--- src/main.rt:47:1
 same-length : tie.Need-same-length Inv-loop μ-loop
 same-length c = search needs
 
--- src/main.rt:47:1
 same-length-2 : tie.Need-same-length-2 Inv-loop μ-loop
 same-length-2 c = search needs
 
--- src/main.rt:47:1
 same-length-3 : tie.Need-same-length-3 Inv-loop μ-loop
 same-length-3 c = search needs
 
--- src/main.rt:47:1
 same-length-4 : tie.Need-same-length-4 Inv-loop μ-loop
 same-length-4 c = search needs
 
--- src/main.rt:47:1
 returns : tie.Need-returns Inv-loop μ-loop
 returns c = search needs
 

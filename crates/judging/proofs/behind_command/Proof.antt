@@ -9,21 +9,17 @@ use mathlib.Core.Path.{sym, ap, _∙_}
 use Rattle.judging.specs.Judging.{stopped}
 use denote.Ref.{now}
 
--- src/lib.rt:73:8
 is-done-requires : tie.Need-is-done-requires
 is-done-requires c κs = search needs
 
--- src/lib.rt:74:34
 count-requires : tie.Need-count-requires
 count-requires c κs = search needs
 
--- src/lib.rt:74:9
 returns : tie.Need-returns
-returns c = λ xs. ap stopped (c .count .ensures xs) ∙ rw (sym (c .before .before .is-done .ensures) ∙ c .before .if1 .taken)
+returns c = λ xs hs. ap stopped (c .count .ensures xs hs) ∙ rw (sym (c .before .before .is-done .ensures) ∙ c .before .if1 .taken)
 
--- src/lib.rt:70:1
 returns-2 : tie.Need-returns-2
-returns-2 c = λ xs. rw (sym (c .before .is-done .ensures) ∙ c .if1 .left)
+returns-2 c = λ xs hs. rw (sym (c .before .is-done .ensures) ∙ c .if1 .left)
 
 pub behind-command-spec : {M : Type 1} → statement M
 behind-command-spec = tie.close (tie.spec is-done-requires count-requires returns returns-2)

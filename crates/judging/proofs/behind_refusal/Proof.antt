@@ -16,25 +16,21 @@ use Rattle.session.specs.Tables.{tablesIn}
 use Rattle.judging.specs.Judging.{counted, stopped}
 use denote.Ref.{now}
 
--- src/lib.rt:83:9
 number-requires : tie.Need-number-requires
 number-requires c κs = search needs
 
--- src/lib.rt:85:9
 returns : tie.Need-returns
-returns c = λ xs. rw (eq-eqb (numberOf (c .before .before .before .args .r)) 2 (sym (c .before .before .number .ensures) ∙ c .before .if1 .taken), c .if2 .taken)
+returns c = λ xs hs. rw (eq-eqb (numberOf (c .before .before .before .args .r)) 2 (sym (c .before .before .number .ensures) ∙ c .before .if1 .taken), c .if2 .taken)
 
--- src/lib.rt:87:23
 count-requires : tie.Need-count-requires
 count-requires c κs = search needs
 
--- src/lib.rt:80:1
 returns-2 : tie.Need-returns-2
-returns-2 c = λ xs.
+returns-2 c = λ xs hs.
     let a = c .before .before .before .args in
     let n = c .before .before .number .ensures in
     let w : (eqb (numberOf (a .r)) 2 && not (a .last)) ≡ false = ⊎-elim (λ e. rw (e .1 .left, and-false-right)) (λ e. rw (ne-eqb (numberOf (a .r)) 2 (λ z. e .left (n ∙ z)))) (c .before .if1 .came) in
-    ap stopped (c .count .ensures xs ∙ ap (counted (tablesIn (a .session .tables) xs)) n) ∙ rw w
+    ap stopped (c .count .ensures xs hs ∙ ap (counted (tablesIn (a .session .tables) xs hs)) n) ∙ rw w
 
 pub behind-refusal-spec : {M : Type 1} → statement M
 behind-refusal-spec = tie.close (tie.spec number-requires returns count-requires returns-2)

@@ -8,7 +8,7 @@ use mathlib.Core.Path.{_≡_, refl, sym, ap, _∙_, subst}
 use lib.ListN.{length, drop}
 use denote.Ref.{now}
 use native.Mathlib.Omega.{arith}
-use Rattle.plugin.specs.Session.{sessionOf}
+use Rattle.session.specs.Session.{sessionOf}
 use Rattle.judging.specs.Judging.{behind, judgedFrom}
 use Rattle.judging.specs.Windows.{Cut}
 use Rattle.judging.specs.Said.{judgedSaid, standingIn, standingOf, buffersIn, turnSaid}
@@ -18,95 +18,82 @@ use Rattle.judging.proofs.Laws.Windows.{judged-cut}
 use borrow.Author.Needs.{needs}
 
 abbrev Inv-loop : tie.InvT-loop
-Inv-loop window last slots₀ recipients₀ identities₀ keys₀ j₀ slots recipients identities keys j =
-    (j .taken ≤ length window) × (judgedFrom last (standingOf j₀ slots₀) (buffersIn recipients₀ identities₀ keys₀) window ≡ behind (j .taken) (judgedFrom last (standingOf j slots) (buffersIn recipients identities keys) (drop (j .taken) window))) × (length recipients ≡ length recipients₀) × (length identities ≡ length identities₀) × (length keys ≡ length keys₀)
+Inv-loop window last slots₀ header₀ recipients₀ identities₀ keys₀ j₀ slots header recipients identities keys j =
+    (j .taken ≤ length window) × (judgedFrom last (standingOf j₀ slots₀ header₀) (buffersIn recipients₀ identities₀ keys₀) window ≡ behind (j .taken) (judgedFrom last (standingOf j slots header) (buffersIn recipients identities keys) (drop (j .taken) window))) × (length recipients ≡ length recipients₀) × (length identities ≡ length identities₀) × (length keys ≡ length keys₀)
 
 abbrev μ-loop : tie.MeasureT-loop
-μ-loop window last slots₀ recipients₀ identities₀ keys₀ j₀ slots recipients identities keys j =
+μ-loop window last slots₀ header₀ recipients₀ identities₀ keys₀ j₀ slots header recipients identities keys j =
     length window - j .taken
 
--- src/lib.rt:155:9
 loop-holds : tie.Need-loop-holds Inv-loop μ-loop
 loop-holds c =
     let a = c .before .before .before .before .args in
-    (omega arith, sym (behind-zero (judgedFrom (a .last) (standingOf (a .self) (now (a .slots))) (buffersIn (now (a .recipients)) (now (a .identities)) (now (a .keys))) (now (a .window)))), refl, refl, refl)
+    (omega arith, sym (behind-zero (judgedFrom (a .last) (standingOf (a .self) (now (a .slots)) (now (a .header-slots))) (buffersIn (now (a .recipients)) (now (a .identities)) (now (a .keys))) (now (a .window)))), refl, refl, refl)
 
--- src/lib.rt:158:17
 enum-told : tie.Need-enum-told Inv-loop μ-loop
 enum-told c = search needs
 
--- src/lib.rt:158:17
 same-length : tie.Need-same-length Inv-loop μ-loop
 same-length c = search needs
 
--- src/lib.rt:158:17
 same-length-2 : tie.Need-same-length-2 Inv-loop μ-loop
 same-length-2 c = search needs
 
--- src/lib.rt:158:17
 same-length-3 : tie.Need-same-length-3 Inv-loop μ-loop
 same-length-3 c = search needs
 
--- src/lib.rt:158:17
 returns : tie.Need-returns Inv-loop μ-loop
 returns c =
     let a = c .before .before .before .before .before .before .before .args in
     let l = c .before .before .loop in
     let b = buffersIn (now (a .recipients)) (now (a .identities)) (now (a .keys)) in
-    let e = l .inv .1 ∙ step-stopped (a .last) (standingOf (l .j) (l .slots)) (judgedSaid (c .enum-told .given .0 .0)) (buffersIn (l .recipients) (l .identities) (l .keys)) (l .j .taken) (drop (l .j .taken) (now (a .window))) (ap (λ p. standingIn p (sessionOf (l .j .session) (l .slots))) (c .enum-told .given .1)) in
-    (sym e, subst (Cut (a .last) (standingOf (a .self) (now (a .slots))) b (now (a .window))) e (judged-cut (a .last) (standingOf (a .self) (now (a .slots))) b (now (a .window))))
+    let e = l .inv .1 ∙ step-stopped (a .last) (standingOf (l .j) (l .slots) (l .header-slots)) (judgedSaid (c .enum-told .given .0 .0)) (buffersIn (l .recipients) (l .identities) (l .keys)) (l .j .taken) (drop (l .j .taken) (now (a .window))) (ap (λ p. standingIn p (sessionOf (l .j .session) (l .slots) (l .header-slots))) (c .enum-told .given .1)) in
+    (sym e, subst (Cut (a .last) (standingOf (a .self) (now (a .slots)) (now (a .header-slots))) b (now (a .window))) e (judged-cut (a .last) (standingOf (a .self) (now (a .slots)) (now (a .header-slots))) b (now (a .window))))
 
 enum-told-2 : tie.Need-enum-told-2 Inv-loop μ-loop
 enum-told-2 c = search needs
 
--- src/lib.rt:161:13
 advance-requires : tie.Need-advance-requires Inv-loop μ-loop
-advance-requires c κs = c .before .before .before .before .before .before .loop .inv .0
+advance-requires c κs = c .before .before .before .before .before .before .before .loop .inv .0
 
--- src/lib.rt:163:17
 same-length-4 : tie.Need-same-length-4 Inv-loop μ-loop
-same-length-4 c = c .before .before .before .before .before .before .before .before .advance .kept .1 .1 .1 .1 .1 .0 ∙ c .before .before .before .before .before .before .before .before .before .before .before .before .before .before .before .loop .inv .2
+same-length-4 c = c .before .before .before .before .before .before .before .before .advance .kept .1 .1 .1 .1 .1 .1 .0 ∙ c .before .before .before .before .before .before .before .before .before .before .before .before .before .before .before .before .loop .inv .2
 
--- src/lib.rt:163:17
 same-length-5 : tie.Need-same-length-5 Inv-loop μ-loop
-same-length-5 c = c .before .before .before .before .before .before .before .before .advance .kept .1 .1 .1 .1 .1 .1 .0 ∙ c .before .before .before .before .before .before .before .before .before .before .before .before .before .before .before .loop .inv .3
+same-length-5 c = c .before .before .before .before .before .before .before .before .advance .kept .1 .1 .1 .1 .1 .1 .1 .0 ∙ c .before .before .before .before .before .before .before .before .before .before .before .before .before .before .before .before .loop .inv .3
 
--- src/lib.rt:163:17
 same-length-6 : tie.Need-same-length-6 Inv-loop μ-loop
-same-length-6 c = c .before .before .before .before .before .before .before .before .advance .kept .1 .1 .1 .1 .1 .1 .1 .0 ∙ c .before .before .before .before .before .before .before .before .before .before .before .before .before .before .before .loop .inv .4
+same-length-6 c = c .before .before .before .before .before .before .before .before .advance .kept .1 .1 .1 .1 .1 .1 .1 .1 .0 ∙ c .before .before .before .before .before .before .before .before .before .before .before .before .before .before .before .before .loop .inv .4
 
--- src/lib.rt:163:17
 returns-2 : tie.Need-returns-2 Inv-loop μ-loop
 returns-2 c =
-    let a = c .before .before .before .before .before .before .before .before .before .before .before .before .before .before .before .before .before .before .before .before .args in
-    let l = c .before .before .before .before .before .before .before .before .before .before .before .before .before .before .before .loop in
+    let a = c .before .before .before .before .before .before .before .before .before .before .before .before .before .before .before .before .before .before .before .before .before .args in
+    let l = c .before .before .before .before .before .before .before .before .before .before .before .before .before .before .before .before .loop in
     let n = c .before .before .before .before .before .before .before .before .advance in
-    let u = turnSaid (n .result) (n .last .1 .1 .1 .1 .0) (n .last .1 .1 .1 .1 .1 .0) (n .last .1 .1 .1 .1 .1 .1 .0) (n .last .1 .1 .1 .1 .1 .1 .1 .0) in
-    let g = ap (λ p. standingIn p (sessionOf (l .j .session) (l .slots))) (c .before .before .before .before .before .before .before .before .before .before .before .before .before .enum-told2 .given .1) in
+    let u = turnSaid (n .result) (n .last .1 .1 .1 .1 .0) (n .last .1 .1 .1 .1 .1 .0) (n .last .1 .1 .1 .1 .1 .1 .0) (n .last .1 .1 .1 .1 .1 .1 .1 .0) (n .last .1 .1 .1 .1 .1 .1 .1 .1 .0) in
+    let g = ap (λ p. standingIn p (sessionOf (l .j .session) (l .slots) (l .header-slots))) (c .before .before .before .before .before .before .before .before .before .before .before .before .before .before .enum-told2 .given .1) in
     let b = buffersIn (now (a .recipients)) (now (a .identities)) (now (a .keys)) in
-    let e = l .inv .1 ∙ step-end (a .last) (now (a .window)) (l .j .taken) (sessionOf (l .j .session) (l .slots)) (buffersIn (l .recipients) (l .identities) (l .keys)) (l .inv .0) (standingOf (l .j) (l .slots)) g u (n .ensures) (c .if1 .taken) in
-    (sym e, subst (Cut (a .last) (standingOf (a .self) (now (a .slots))) b (now (a .window))) e (judged-cut (a .last) (standingOf (a .self) (now (a .slots))) b (now (a .window))))
+    let e = l .inv .1 ∙ step-end (a .last) (now (a .window)) (l .j .taken) (sessionOf (l .j .session) (l .slots) (l .header-slots)) (buffersIn (l .recipients) (l .identities) (l .keys)) (l .inv .0) (standingOf (l .j) (l .slots) (l .header-slots)) g u (n .ensures) (c .if1 .taken) in
+    (sym e, subst (Cut (a .last) (standingOf (a .self) (now (a .slots)) (now (a .header-slots))) b (now (a .window))) e (judged-cut (a .last) (standingOf (a .self) (now (a .slots)) (now (a .header-slots))) b (now (a .window))))
 
--- src/lib.rt:155:9
 loop-less : tie.Need-loop-less Inv-loop μ-loop
 loop-less c =
-    let a = c .before .before .before .before .before .before .before .before .before .before .before .before .before .before .before .before .before .before .before .before .args in
-    let l = c .before .before .before .before .before .before .before .before .before .before .before .before .before .before .before .loop in
+    let a = c .before .before .before .before .before .before .before .before .before .before .before .before .before .before .before .before .before .before .before .before .before .args in
+    let l = c .before .before .before .before .before .before .before .before .before .before .before .before .before .before .before .before .loop in
     let n = c .before .before .before .before .before .before .before .before .advance in
-    let u = turnSaid (n .result) (n .last .1 .1 .1 .1 .0) (n .last .1 .1 .1 .1 .1 .0) (n .last .1 .1 .1 .1 .1 .1 .0) (n .last .1 .1 .1 .1 .1 .1 .1 .0) in
-    let g = ap (λ p. standingIn p (sessionOf (l .j .session) (l .slots))) (c .before .before .before .before .before .before .before .before .before .before .before .before .before .enum-told2 .given .1) in
-    let w = step-within (a .last) (now (a .window)) (l .j .taken) (sessionOf (l .j .session) (l .slots)) (buffersIn (l .recipients) (l .identities) (l .keys)) (l .inv .0) (standingOf (l .j) (l .slots)) g u (n .ensures) in
+    let u = turnSaid (n .result) (n .last .1 .1 .1 .1 .0) (n .last .1 .1 .1 .1 .1 .0) (n .last .1 .1 .1 .1 .1 .1 .0) (n .last .1 .1 .1 .1 .1 .1 .1 .0) (n .last .1 .1 .1 .1 .1 .1 .1 .1 .0) in
+    let g = ap (λ p. standingIn p (sessionOf (l .j .session) (l .slots) (l .header-slots))) (c .before .before .before .before .before .before .before .before .before .before .before .before .before .before .enum-told2 .given .1) in
+    let w = step-within (a .last) (now (a .window)) (l .j .taken) (sessionOf (l .j .session) (l .slots) (l .header-slots)) (buffersIn (l .recipients) (l .identities) (l .keys)) (l .inv .0) (standingOf (l .j) (l .slots) (l .header-slots)) g u (n .ensures) in
     omega (arith, w .0, w .1, c .if1 .left)
 
--- src/lib.rt:155:9
 loop-again : tie.Need-loop-again Inv-loop μ-loop
 loop-again c =
-    let a = c .before .before .before .before .before .before .before .before .before .before .before .before .before .before .before .before .before .before .before .before .args in
-    let l = c .before .before .before .before .before .before .before .before .before .before .before .before .before .before .before .loop in
+    let a = c .before .before .before .before .before .before .before .before .before .before .before .before .before .before .before .before .before .before .before .before .before .args in
+    let l = c .before .before .before .before .before .before .before .before .before .before .before .before .before .before .before .before .loop in
     let n = c .before .before .before .before .before .before .before .before .advance in
-    let u = turnSaid (n .result) (n .last .1 .1 .1 .1 .0) (n .last .1 .1 .1 .1 .1 .0) (n .last .1 .1 .1 .1 .1 .1 .0) (n .last .1 .1 .1 .1 .1 .1 .1 .0) in
-    let g = ap (λ p. standingIn p (sessionOf (l .j .session) (l .slots))) (c .before .before .before .before .before .before .before .before .before .before .before .before .before .enum-told2 .given .1) in
-    (step-within (a .last) (now (a .window)) (l .j .taken) (sessionOf (l .j .session) (l .slots)) (buffersIn (l .recipients) (l .identities) (l .keys)) (l .inv .0) (standingOf (l .j) (l .slots)) g u (n .ensures) .1, l .inv .1 ∙ step-on (a .last) (now (a .window)) (l .j .taken) (sessionOf (l .j .session) (l .slots)) (buffersIn (l .recipients) (l .identities) (l .keys)) (l .inv .0) (standingOf (l .j) (l .slots)) g u (n .ensures) (c .if1 .left), n .kept .1 .1 .1 .1 .1 .0 ∙ l .inv .2, n .kept .1 .1 .1 .1 .1 .1 .0 ∙ l .inv .3, n .kept .1 .1 .1 .1 .1 .1 .1 .0 ∙ l .inv .4)
+    let u = turnSaid (n .result) (n .last .1 .1 .1 .1 .0) (n .last .1 .1 .1 .1 .1 .0) (n .last .1 .1 .1 .1 .1 .1 .0) (n .last .1 .1 .1 .1 .1 .1 .1 .0) (n .last .1 .1 .1 .1 .1 .1 .1 .1 .0) in
+    let g = ap (λ p. standingIn p (sessionOf (l .j .session) (l .slots) (l .header-slots))) (c .before .before .before .before .before .before .before .before .before .before .before .before .before .before .enum-told2 .given .1) in
+    (step-within (a .last) (now (a .window)) (l .j .taken) (sessionOf (l .j .session) (l .slots) (l .header-slots)) (buffersIn (l .recipients) (l .identities) (l .keys)) (l .inv .0) (standingOf (l .j) (l .slots) (l .header-slots)) g u (n .ensures) .1, l .inv .1 ∙ step-on (a .last) (now (a .window)) (l .j .taken) (sessionOf (l .j .session) (l .slots) (l .header-slots)) (buffersIn (l .recipients) (l .identities) (l .keys)) (l .inv .0) (standingOf (l .j) (l .slots) (l .header-slots)) g u (n .ensures) (c .if1 .left), n .kept .1 .1 .1 .1 .1 .1 .0 ∙ l .inv .2, n .kept .1 .1 .1 .1 .1 .1 .1 .0 ∙ l .inv .3, n .kept .1 .1 .1 .1 .1 .1 .1 .1 .0 ∙ l .inv .4)
 
 pub judge-window-spec : {M : Type 1} → statement M
 judge-window-spec =

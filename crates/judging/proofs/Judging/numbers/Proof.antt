@@ -7,25 +7,20 @@ use Rattle.judging.proofs.count.Reads as count-reads
 use mathlib.Core.Path.{refl}
 use denote.Ref.{now}
 
--- src/lib.rt:174:31
 enum-known-progress : tie.Need-enum-known-progress
 enum-known-progress c = search needs
 
--- src/lib.rt:175:33
 enum-told : tie.Need-enum-told
 enum-told c = search needs
 
--- src/lib.rt:175:33
 count-requires : tie.Need-count-requires
 count-requires c κs = search needs
 
--- src/lib.rt:169:5
 returns : tie.Need-returns
-returns c = λ xs. rw (c .before .progress .given .1)
+returns c = λ xs hs. rw (c .before .progress .given .1)
 
--- src/lib.rt:169:5
 returns-2 : tie.Need-returns-2
-returns-2 c = λ xs. rw (c .before .enum-told .given .1) (c .count .ensures xs)
+returns-2 c = λ xs hs. rw (c .before .enum-told .given .1) (c .count .ensures xs hs)
 
 pub numbers-spec : {M : Type 1} → statement M
 numbers-spec = tie.close (tie.spec enum-known-progress enum-told count-requires returns returns-2)
