@@ -1,13 +1,10 @@
-use borrow.Author.Needs.{needs}
-use Rattle.client.proofs.receiving.answer_to.Statement.{statement}
-use Rattle.client.proofs.receiving.answer_to.Tie as tie
-use Rattle.client.proofs.receiving.answer_to.Reads as reads
-use Rattle.client.proofs.receiving.answer_to.Lts as lts
-use Rattle.phase_two_commands.proofs.word_two_of.Reads as word-two-of-reads
+-- An accepted command is answered by its word, a refusal by its number, which is never 0.
 use mathlib.Core.Path.{ap}
+use borrow.Author.Needs.{needs}
 use Rattle.refusal.proofs.Laws.Number.{number-not-zero}
 use Rattle.conversation.specs.ReceivingTwo.{took}
-use denote.Ref.{now}
+use Rattle.client.proofs.receiving.answer_to.Statement.{statement}
+use Rattle.client.proofs.receiving.answer_to.Tie as tie
 
 enum-told : tie.Need-enum-told
 enum-told c = search needs

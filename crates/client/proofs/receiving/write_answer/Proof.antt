@@ -1,11 +1,8 @@
+-- An accepted command has its answer written; a refusal, whose number is never 0, writes nothing.
 use borrow.Author.Needs.{needs}
+use Rattle.refusal.proofs.Laws.Number.{number-not-zero}
 use Rattle.client.proofs.receiving.write_answer.Statement.{statement}
 use Rattle.client.proofs.receiving.write_answer.Tie as tie
-use Rattle.client.proofs.receiving.write_answer.Reads as reads
-use Rattle.client.proofs.receiving.write_answer.Lts as lts
-use Rattle.phase_two.proofs.write_at_once.Reads as write-at-once-reads
-use Rattle.refusal.proofs.Laws.Number.{number-not-zero}
-use denote.Ref.{now}
 
 enum-told : tie.Need-enum-told
 enum-told c = search needs
