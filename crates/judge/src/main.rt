@@ -115,7 +115,15 @@ fn judge_chunk(
     ensures rest { λ r. ⌜ take (r .left) (now (window .exit)) ≡ drop (r .judging .taken) (take end (now (window .entry))) ⌝ }
     ensures short { λ r. ⌜ (r .left ≤ end) × (r .more ≡ true → r .left < 8192) ⌝ }
 {
-    let j = judging.judge_window(&window[..end], last, slots, header_slots, recipients, identities, keys);
+    let j = judging.judge_window(
+        &window[..end],
+        last,
+        slots,
+        header_slots,
+        recipients,
+        identities,
+        keys,
+    );
     let left = keep_rest(window, j.taken, end);
     let progress = j.progress;
     match progress {

@@ -152,7 +152,7 @@ impl Judging {
         window: &[u8],
         last: bool,
         slots: &mut [[usize; 4]; Session::OTHER_SLOTS],
-    header_slots: &mut [[usize; 4]; Session::HEADER_STANZAS],
+        header_slots: &mut [[usize; 4]; Session::HEADER_STANZAS],
         recipients: &mut [u8],
         identities: &mut [u8],
         keys: &mut [u8],
@@ -205,6 +205,14 @@ pub fn judge(text: &[u8], recipients: &mut [u8], identities: &mut [u8], keys: &m
     let begun = Judging::open();
     let mut slots = Session::open_slots();
     let mut header_slots = Session::open_header_slots();
-    let judging = begun.judge_window(text, true, &mut slots, &mut header_slots, recipients, identities, keys);
+    let judging = begun.judge_window(
+        text,
+        true,
+        &mut slots,
+        &mut header_slots,
+        recipients,
+        identities,
+        keys,
+    );
     judging.numbers()
 }

@@ -11,10 +11,10 @@ use crate::words::Words;
 use crate::words::joined_words;
 use crate::words::word;
 use client::Sent;
+use phase_one::WordOne;
 use plugin::Received;
 use plugin::Taking;
 use script::CommandChoice;
-use phase_one::WordOne;
 
 // send COMMAND ARGS BODY OUT, where OUT is n
 pub fn send_one(

@@ -30,9 +30,23 @@ pub fn print_returned(
     out: &mut Output,
     at: usize,
 ) -> usize {
-    let a = print_errors(tables, slots, header_slots, front(errors, lengths.errors), out, at);
+    let a = print_errors(
+        tables,
+        slots,
+        header_slots,
+        front(errors, lengths.errors),
+        out,
+        at,
+    );
     let b = print_stanzas(tables, slots, front(stanzas, lengths.stanzas), out, a);
-    let c = print_keys(tables, slots, header_slots, front(returned, lengths.returned), out, b);
+    let c = print_keys(
+        tables,
+        slots,
+        header_slots,
+        front(returned, lengths.returned),
+        out,
+        b,
+    );
     print_bytes(b"end\n", out, c)
 }
 

@@ -52,7 +52,11 @@ pub fn look_up<'a>(
     let session = host.session;
     let r = front(recipients, lengths.recipients);
     let i = front(identities, lengths.identities);
-    Answer::Printed(print_text(look_up::entry(session.tables, kind, n, slots, r, i), out, at))
+    Answer::Printed(print_text(
+        look_up::entry(session.tables, kind, n, slots, r, i),
+        out,
+        at,
+    ))
 }
 
 // show
@@ -87,7 +91,17 @@ pub fn show(
         out,
         a,
     );
-    Answer::Printed(print_returned(tables, lengths, slots, header_slots, errors, stanzas, returned, out, b))
+    Answer::Printed(print_returned(
+        tables,
+        lengths,
+        slots,
+        header_slots,
+        errors,
+        stanzas,
+        returned,
+        out,
+        b,
+    ))
 }
 
 // The lines of the phase, and of the command that awaits an answer.
@@ -139,7 +153,16 @@ fn print_given(
     let a = print_table(0, Kind::Recipients, tables, slots, header_slots, r, out, at);
     let b = print_table(1, Kind::Identities, tables, slots, header_slots, i, out, a);
     let c = print_table(FILE_KEY, Kind::Keys, tables, slots, header_slots, k, out, b);
-    print_table(HEADER, Kind::Headers, tables, slots, header_slots, h, out, c)
+    print_table(
+        HEADER,
+        Kind::Headers,
+        tables,
+        slots,
+        header_slots,
+        h,
+        out,
+        c,
+    )
 }
 
 // The entries of a kind, of which none has more than there may be header stanzas.

@@ -50,7 +50,10 @@ pub fn make_call(
         Request::PhaseOne(t) => talk_one(t, text, w, buffer, host, slots, header_slots, r, i, k, h),
         Request::PhaseTwo(t) => talk_two(t, text, w, buffer, host, slots, header_slots, e, s, f),
         Request::Entry(kind, n) => answered(look_up(kind, n, host, slots, r, i, out, at), host),
-        Request::Show => answered(show(host, slots, header_slots, r, i, k, h, e, s, f, out, at), host),
+        Request::Show => answered(
+            show(host, slots, header_slots, r, i, k, h, e, s, f, out, at),
+            host,
+        ),
         Request::Missing => answered(Answer::Missing, host),
         Request::Bad => answered(Answer::Bad, host),
     }

@@ -14,62 +14,49 @@ use native.Mathlib.Omega.{arith}
 use borrow.Author.Needs.{needs}
 
 abbrev Inv-loop : tie.InvT-loop
-Inv-loop chunk₀ line₀ text₀ buffer₀ out₀ slots₀ recipients₀ identities₀ keys₀ headers₀ errors₀ stanzas₀ returned₀ s₀ host₀ turns₀ chunk line text buffer out slots recipients identities keys headers errors stanzas returned s host turns =
+Inv-loop chunk₀ line₀ text₀ buffer₀ out₀ slots₀ header₀ recipients₀ identities₀ keys₀ headers₀ errors₀ stanzas₀ returned₀ s₀ host₀ turns₀ chunk line text buffer out slots header recipients identities keys headers errors stanzas returned s host turns =
     Unit {0}
 
 abbrev μ-loop : tie.MeasureT-loop
-μ-loop chunk₀ line₀ text₀ buffer₀ out₀ slots₀ recipients₀ identities₀ keys₀ headers₀ errors₀ stanzas₀ returned₀ s₀ host₀ turns₀ chunk line text buffer out slots recipients identities keys headers errors stanzas returned s host turns =
+μ-loop chunk₀ line₀ text₀ buffer₀ out₀ slots₀ header₀ recipients₀ identities₀ keys₀ headers₀ errors₀ stanzas₀ returned₀ s₀ host₀ turns₀ chunk line text buffer out slots header recipients identities keys headers errors stanzas returned s host turns =
     turns
 
--- src/main.rt:79:9
 start-requires : tie.Need-start-requires Inv-loop μ-loop
 start-requires c κs = search needs
 
--- src/main.rt:80:9
 no-session-requires : tie.Need-no-session-requires Inv-loop μ-loop
 no-session-requires c κs = search needs
 
--- src/main.rt:82:5
 loop-holds : tie.Need-loop-holds Inv-loop μ-loop
 loop-holds c = search needs
 
--- src/main.rt:83:9
 advance-requires : tie.Need-advance-requires Inv-loop μ-loop
 advance-requires c κs = search needs
 
--- src/main.rt:84:27
 front-requires : tie.Need-front-requires Inv-loop μ-loop
 front-requires c κs = search needs
 
--- src/main.rt:84:13
 read-line-requires : tie.Need-read-line-requires Inv-loop μ-loop
 read-line-requires c κs = search needs
 
--- src/main.rt:85:13
 make-call-requires : tie.Need-make-call-requires Inv-loop μ-loop
 make-call-requires c κs = search needs
 
--- src/main.rt:102:9
 print-answer-requires : tie.Need-print-answer-requires Inv-loop μ-loop
 print-answer-requires c κs = search needs
 
--- src/main.rt:104:9
 sub-turns : tie.Need-sub-turns Inv-loop μ-loop
-sub-turns c = omega (arith, c .before .before .before .before .before .before .before .before .before .before .before .before .before .before .before .before .before .before .before .before .before .before .before .before .before .before .before .before .loop-test .taken)
+sub-turns c = omega (arith, c .before .before .before .before .before .before .before .before .before .before .before .before .before .before .before .before .before .before .before .before .before .before .before .before .before .before .before .before .before .loop-test .taken)
 
--- src/main.rt:82:5
 loop-less : tie.Need-loop-less Inv-loop μ-loop
-loop-less c = omega (arith, c .before .before .before .before .before .before .before .before .before .before .before .before .before .before .before .before .before .before .before .before .before .before .before .before .before .before .before .before .loop-test .taken)
+loop-less c = omega (arith, c .before .before .before .before .before .before .before .before .before .before .before .before .before .before .before .before .before .before .before .before .before .before .before .before .before .before .before .before .before .loop-test .taken)
 
--- src/main.rt:82:5
 loop-again : tie.Need-loop-again Inv-loop μ-loop
 loop-again c = search needs
 
--- src/main.rt:106:5
 flush-requires : tie.Need-flush-requires Inv-loop μ-loop
 flush-requires c κs = search needs
 
--- src/main.rt:64:1
 returns : tie.Need-returns Inv-loop μ-loop
 returns c = search needs
 

@@ -6,7 +6,6 @@ use Rattle.plugin.proofs.responding.unfit.Reads as reads
 use Rattle.plugin.proofs.responding.unfit.Lts as lts
 use Rattle.session.proofs.sessions.Session.moved.Reads as moved-reads
 
-
 moved-requires : tie.Need-moved-requires
 moved-requires c κs = search needs
 

@@ -10,44 +10,35 @@ use Prim.Native.Nat.{_-_, _≤_}
 use borrow.Author.Needs.{needs}
 
 abbrev Inv-loop : tie.InvT-loop
-Inv-loop tables slots errors out₀ at count next₀ n₀ out next n = n ≤ count
+Inv-loop tables slots header errors out₀ at count next₀ n₀ out next n = n ≤ count
 
 abbrev μ-loop : tie.MeasureT-loop
-μ-loop tables slots errors out₀ at count next₀ n₀ out next n = count - n
+μ-loop tables slots header errors out₀ at count next₀ n₀ out next n = count - n
 
--- src/returned.rt:37:9
 count-errors-requires : tie.Need-count-errors-requires Inv-loop μ-loop
 count-errors-requires c κs = search needs
 
--- src/returned.rt:40:5
 loop-holds : tie.Need-loop-holds Inv-loop μ-loop
 loop-holds c = search needs
 
--- src/returned.rt:41:13
 error-named-requires : tie.Need-error-named-requires Inv-loop μ-loop
 error-named-requires c κs = search needs
 
--- src/returned.rt:45:13
 error-message-requires : tie.Need-error-message-requires Inv-loop μ-loop
 error-message-requires c κs = search needs
 
--- src/returned.rt:42:9
 print-error-requires : tie.Need-print-error-requires Inv-loop μ-loop
 print-error-requires c κs = search needs
 
--- src/returned.rt:49:9
 add-n : tie.Need-add-n Inv-loop μ-loop
 add-n c = search needs
 
--- src/returned.rt:40:5
 loop-less : tie.Need-loop-less Inv-loop μ-loop
 loop-less c = search needs
 
--- src/returned.rt:40:5
 loop-again : tie.Need-loop-again Inv-loop μ-loop
 loop-again c = search needs
 
--- src/returned.rt:36:1
 returns : tie.Need-returns Inv-loop μ-loop
 returns c = search needs
 

@@ -14,35 +14,27 @@ Inv-loop tables file slots stanzas out₀ at count next₀ k₀ out next k = k �
 abbrev μ-loop : tie.MeasureT-loop
 μ-loop tables file slots stanzas out₀ at count next₀ k₀ out next k = count - k
 
--- src/returned.rt:97:9
 count-stanzas-requires : tie.Need-count-stanzas-requires Inv-loop μ-loop
 count-stanzas-requires c κs = search needs
 
--- src/returned.rt:100:5
 loop-holds : tie.Need-loop-holds Inv-loop μ-loop
 loop-holds c = search needs
 
--- src/returned.rt:104:13
 stanza-of-requires : tie.Need-stanza-of-requires Inv-loop μ-loop
 stanza-of-requires c κs = search needs
 
--- src/returned.rt:101:9
 print-stanza-requires : tie.Need-print-stanza-requires Inv-loop μ-loop
 print-stanza-requires c κs = search needs
 
--- src/returned.rt:108:9
 add-k : tie.Need-add-k Inv-loop μ-loop
 add-k c = search needs
 
--- src/returned.rt:100:5
 loop-less : tie.Need-loop-less Inv-loop μ-loop
 loop-less c = search needs
 
--- src/returned.rt:100:5
 loop-again : tie.Need-loop-again Inv-loop μ-loop
 loop-again c = search needs
 
--- src/returned.rt:96:1
 returns : tie.Need-returns Inv-loop μ-loop
 returns c = search needs
 

@@ -12,27 +12,21 @@ Inv-loop tables slots stanzas out₀ at count next₀ file₀ out next file = fi
 abbrev μ-loop : tie.MeasureT-loop
 μ-loop tables slots stanzas out₀ at count next₀ file₀ out next file = count - file
 
--- src/returned.rt:88:5
 loop-holds : tie.Need-loop-holds Inv-loop μ-loop
 loop-holds c = search needs
 
--- src/returned.rt:89:9
 print-file-requires : tie.Need-print-file-requires Inv-loop μ-loop
 print-file-requires c κs = search needs
 
--- src/returned.rt:90:9
 add-file : tie.Need-add-file Inv-loop μ-loop
 add-file c = search needs
 
--- src/returned.rt:88:5
 loop-less : tie.Need-loop-less Inv-loop μ-loop
 loop-less c = search needs
 
--- src/returned.rt:88:5
 loop-again : tie.Need-loop-again Inv-loop μ-loop
 loop-again c = search needs
 
--- src/returned.rt:84:1
 returns : tie.Need-returns Inv-loop μ-loop
 returns c = search needs
 
