@@ -20,7 +20,7 @@ use Rattle.phase_one.specs.PhaseOne as one
 use Rattle.session.specs.Phases.{closes}
 use Rattle.phase_one.specs.Views as one-kind
 use Rattle.conversation.specs.CommandsTwo as two-command
-use Rattle.conversation.specs.Kinds.{Kind, first, second, Buffers, buffersOf}
+use Rattle.conversation.specs.Kinds.{AnyKind, first, second, Buffers, buffersOf}
 use Rattle.conversation.specs.PhaseTwo as two
 use Rattle.conversation.specs.Receiving as receiving
 use Rattle.conversation.specs.Sending as sending
@@ -93,15 +93,15 @@ respondedSize (responding.took-response r k n) = n
 respondedSize (responding.declined-response n) = 0
 
 -- what each definition gives, as an outcome
-abbrev pub receivedOutcome : two.Buffers → receiving.Received → Outcome
+abbrev pub receivedOutcome : two.BuffersTwo → receiving.Received → Outcome
 receivedOutcome c r = record { number = takingNumber (r .answer); session = r .session; buffers = buffersOf (r .buffers) c; output = []; size = 0 }
 
 -- .. of a sending in phase one
-abbrev pub sentOutcome : two.Buffers → sending.Sent → Outcome
+abbrev pub sentOutcome : two.BuffersTwo → sending.Sent → Outcome
 sentOutcome c r = record { number = sentNumber (r .answer); session = r .session; buffers = buffersOf (r .buffers) c; output = r .output; size = sentSize (r .answer) }
 
 -- .. of a receiving in phase two
-abbrev pub receivedTwoOutcome : one.Buffers → receiving-two.Received → Outcome
+abbrev pub receivedTwoOutcome : one.BuffersOne → receiving-two.Received → Outcome
 receivedTwoOutcome b r = record { number = takingTwoNumber (r .answer); session = r .session; buffers = buffersOf b (r .buffers); output = r .output; size = takingTwoSize (r .answer) }
 
 -- .. of a reply
@@ -109,7 +109,7 @@ abbrev pub repliedOutcome : Buffers → replying.Replied → Outcome
 repliedOutcome b r = record { number = sentNumber (r .answer); session = r .session; buffers = b; output = r .output; size = sentSize (r .answer) }
 
 -- .. of a sending in phase two
-abbrev pub sentTwoOutcome : one.Buffers → sending-two.Sent → Outcome
+abbrev pub sentTwoOutcome : one.BuffersOne → sending-two.Sent → Outcome
 sentTwoOutcome b r = record { number = sentNumber (r .answer); session = r .session; buffers = buffersOf b (r .buffers); output = r .output; size = sentSize (r .answer) }
 
 -- .. of a response
@@ -202,23 +202,23 @@ broughtBy (send-two word arguments body out) = in-two (two-command.lineSent word
 broughtBy (respond text out) = no-command
 
 -- the rows that a command of phase one makes in a kind's table
-abbrev pub rowsOne : Session → List ℕ → List ℕ → Kind → List Row
+abbrev pub rowsOne : Session → List ℕ → List ℕ → AnyKind → List Row
 rowsOne s line body (first k) = one-kind.rowsOf (one.commandIn (s .machine) (s .name) line body) k (one.payloadIn (s .machine) (s .name) line body)
 rowsOne s line body (second k) = []
 
 -- .. one of phase two
-abbrev pub rowsTwo : Session → List ℕ → List ℕ → Kind → List Row
+abbrev pub rowsTwo : Session → List ℕ → List ℕ → AnyKind → List Row
 rowsTwo s line body (first k) = []
 rowsTwo s line body (second k) = let c = two-command.commandTwo (s .machine) line body in two.rowsOf c k (two-command.payloadOf c line body)
 
 -- .. a call's
-abbrev pub rowsBrought : Session → Brought → Kind → List Row
+abbrev pub rowsBrought : Session → Brought → AnyKind → List Row
 rowsBrought s (in-one line body) k = rowsOne s line body k
 rowsBrought s (in-two line body) k = rowsTwo s line body k
 rowsBrought s no-command k = []
 
 -- the rows of a kind's table that a list's accepted commands of that kind make, in order
-unfoldable pub acceptedRows : Kind → Session → Buffers → List Call → List Row
+unfoldable pub acceptedRows : AnyKind → Session → Buffers → List Call → List Row
 acceptedRows k s b [] = []
 acceptedRows k s b (c ∷ cs) =
     let o = outcome s b c in

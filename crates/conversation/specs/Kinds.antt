@@ -12,26 +12,26 @@ use Rattle.phase_one.specs.Views as one-kind
 use Rattle.conversation.specs.PhaseTwo as two
 
 -- the kinds of phase one, and those of phase two
-pub data Kind : Type 0 where
-  first : one-kind.Kind → Kind
-  second : two.Kind → Kind
+pub data AnyKind : Type 0 where
+  first : one-kind.KindOne → AnyKind
+  second : two.KindTwo → AnyKind
 
 -- the seven buffers
 pub record Buffers : Type 0 where
-  pub first : one.Buffers
-  pub second : two.Buffers
+  pub first : one.BuffersOne
+  pub second : two.BuffersTwo
 
 -- the two parts together
-abbrev pub buffersOf : one.Buffers → two.Buffers → Buffers
+abbrev pub buffersOf : one.BuffersOne → two.BuffersTwo → Buffers
 buffersOf b c = record { first = b; second = c }
 
 -- a kind's table
-abbrev pub tableOf : Kind → Tables → Table
+abbrev pub tableOf : AnyKind → Tables → Table
 tableOf (first k) t = one-kind.tableOf k t
 tableOf (second k) t = two.tableOf k t
 
 -- what a kind's table shows
-abbrev pub viewOf : Kind → Tables → Buffers → List Row
+abbrev pub viewOf : AnyKind → Tables → Buffers → List Row
 viewOf (first k) t b = one-kind.viewOf k t (b .first)
 viewOf (second k) t b = two.viewOf k t (b .second)
 

@@ -22,7 +22,7 @@ use Rattle.session.specs.declared.opening.Machine.{Machine}
 use Rattle.conversation.specs.Calls.{Call, receive, send, receive-two, reply, send-two, respond, isClient, outcome, outputIn, writtenBy, State, after, written, lineRead, bodyRead, Accepted}
 use Rattle.conversation.specs.CommandsTwo as two-command
 use Rattle.conversation.specs.CommandsTwo.{CommandTwo}
-use Rattle.conversation.specs.Kinds.{Kind, first, second, Buffers, viewOf, ofFile}
+use Rattle.conversation.specs.Kinds.{AnyKind, first, second, Buffers, viewOf, ofFile}
 use Rattle.conversation.specs.PhaseTwo as two
 use Rattle.conversation.specs.ReceivingTwo.{atOnce, textOf}
 use Rattle.session.specs.Session.{Session, openedSession, opened}
@@ -79,11 +79,11 @@ abbrev pub commandOf : Machine → List ℕ → List ℕ → one-command.Command
 commandOf machine name t = one.commandIn machine name (lineIn t) (bodyIn t)
 
 -- the rows that it makes in a kind's table
-abbrev pub rowsFrom : Machine → List ℕ → one-kind.Kind → List ℕ → List Row
+abbrev pub rowsFrom : Machine → List ℕ → one-kind.KindOne → List ℕ → List Row
 rowsFrom machine name k t = one-kind.rowsOf (commandOf machine name t) k (one.payloadIn machine name (lineIn t) (bodyIn t))
 
 -- it is a command of a kind: 4 and 5 do not refuse it, and it makes an entry there
-abbrev pub isOf : Machine → List ℕ → one-kind.Kind → List ℕ → Bool
+abbrev pub isOf : Machine → List ℕ → one-kind.KindOne → List ℕ → Bool
 isOf machine name k t = eqb (length (rowsFrom machine name k t)) 1
 
 -- ---- in phase two
@@ -262,15 +262,15 @@ Starts two-part s = JustDone s
 
 -- buffers of equal lengths, for the kinds of the phase
 abbrev pub SameLengths : Part → Buffers → Buffers → Type 0
-SameLengths one-part b c = (k : one-kind.Kind) → length (one-kind.bufferOf k (b .first)) ≡ length (one-kind.bufferOf k (c .first))
-SameLengths two-part b c = (k : two.Kind) → length (two.bufferOf k (b .second)) ≡ length (two.bufferOf k (c .second))
+SameLengths one-part b c = (k : one-kind.KindOne) → length (one-kind.bufferOf k (b .first)) ≡ length (one-kind.bufferOf k (c .first))
+SameLengths two-part b c = (k : two.KindTwo) → length (two.bufferOf k (b .second)) ≡ length (two.bufferOf k (c .second))
 
 -- two sessions with their buffers from which two rearrangements are received: settings, views and lengths are equal
 pub record SameStart (part : Part) (x y : State) : Type 0 where
   pub machine : x .session .machine ≡ y .session .machine
   pub name : x .session .name ≡ y .session .name
   pub screen : x .session .screen ≡ y .session .screen
-  pub views : (k : one-kind.Kind) → viewOf (first k) (x .session .tables) (x .buffers) ≡ viewOf (first k) (y .session .tables) (y .buffers)
+  pub views : (k : one-kind.KindOne) → viewOf (first k) (x .session .tables) (x .buffers) ≡ viewOf (first k) (y .session .tables) (y .buffers)
   pub lengths : SameLengths part (x .buffers) (y .buffers)
 
 -- ---- two phases
@@ -282,7 +282,7 @@ isKept two-part machine x = isNamedTwo (commandIn machine (x .text)) || not (eqb
 
 -- what keeps its order: in phase one each kind, in phase two the errors, and of each file its stanzas
 pub data Strand : Type 0 where
-  of-kind : one-kind.Kind → Strand
+  of-kind : one-kind.KindOne → Strand
   of-errors : Strand
   of-file : ℕ → Strand
 
@@ -303,7 +303,7 @@ pub record Rearranged (part : Part) (machine : Machine) (name : List ℕ) (p q :
 
 -- equal tables, all seven; returned stanzas and keys file by file
 pub record SameTables (x y : State) : Type 0 where
-  pub views : (k : one-kind.Kind) → viewOf (first k) (x .session .tables) (x .buffers) ≡ viewOf (first k) (y .session .tables) (y .buffers)
+  pub views : (k : one-kind.KindOne) → viewOf (first k) (x .session .tables) (x .buffers) ≡ viewOf (first k) (y .session .tables) (y .buffers)
   pub errors : viewOf (second two.errors) (x .session .tables) (x .buffers) ≡ viewOf (second two.errors) (y .session .tables) (y .buffers)
   pub stanzas : (f : ℕ) → ofFile f (viewOf (second two.stanzas) (x .session .tables) (x .buffers)) ≡ ofFile f (viewOf (second two.stanzas) (y .session .tables) (y .buffers))
   pub returned : (f : ℕ) → ofFile f (viewOf (second two.returned) (x .session .tables) (x .buffers)) ≡ ofFile f (viewOf (second two.returned) (y .session .tables) (y .buffers))

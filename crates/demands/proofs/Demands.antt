@@ -17,7 +17,7 @@ use Rattle.conversation.specs.Allowed.{Allowed, AllowedTwo, Exchange, isDoneSen
 use Rattle.conversation.specs.Answers.{events, Paired}
 use Rattle.conversation.specs.Calls.{Call, send, receive-two, reply, send-two, outcome, writtenBy, State, stateOf, after, acceptedRows, Accepted}
 use Rattle.conversation.specs.CommandsTwo.{lineSent}
-use Rattle.conversation.specs.Kinds.{Kind, Buffers, viewOf}
+use Rattle.conversation.specs.Kinds.{AnyKind, Buffers, viewOf}
 use Rattle.conversation.specs.Phases.{All, Part, one-part, two-part, Phase, blocksOf, IsPhase, Supply, callsOf, LongEnough, Starts, JustDone, SameStart, Rearranged, SameOutcome, commandIn}
 use Rattle.conversation.specs.ReceivingTwo.{writes, atOnce}
 use Rattle.session.specs.Session.{Session, openedSession, opened}
@@ -45,7 +45,7 @@ demand-1 = refusals.refusal
 -- ---- Demand 2: "Stanza text, Bech32 .., tables, phases and responses are exactly those ..". Stanza text and Bech32: `stanza` and `bech32`, their theorems in README
 
 -- tables: of any list of calls from an opening, refused ones included, each kind's table is exactly the list's accepted commands of that kind, in order
-pub demand-2-tables : (k : Kind) (machine name : List ℕ) (screen : Bool) (b : Buffers) (cs : List Call) →
+pub demand-2-tables : (k : AnyKind) (machine name : List ℕ) (screen : Bool) (b : Buffers) (cs : List Call) →
     let s = opened machine name screen .session in viewOf k (after s b cs .session .tables) (after s b cs .buffers) ≡ acceptedRows k s b cs
 demand-2-tables = tables.tables-opened
 

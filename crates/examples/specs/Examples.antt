@@ -34,7 +34,7 @@ pub data Row : Type 0 where
   reads : List ℕ → Reading → Row
   writes : List ℕ → List ℕ → ℕ → Row
   makes : ℕ → ℕ → List ℕ → Row
-  counts : List ℕ → index.Reading → Row
+  counts : List ℕ → index.ReadIndex → Row
   files : List ℕ → List ℕ → Row
   answers : List ℕ → WordTwo → Response → Row
 

@@ -1,7 +1,7 @@
 -- What the code's values stand for.
 use Prim.Native.Nat.{ℕ}
 use mathlib.Core.List.{List, []}
-use Rattle.phase_one.specs.PhaseOne.{Buffers, buffersOf}
+use Rattle.phase_one.specs.PhaseOne.{BuffersOne, buffersOf}
 use Rattle.session.specs.Session.{Session, sessionOf}
 use Rattle.judging.specs.Judging.{Judged, Standing, going, stopped, Turn, turnOf}
 use Rattle.judging.specs.declared.Judged.{Judged as CodeJudged}
@@ -23,7 +23,7 @@ abbrev pub standingOf : Judging → List (List ℕ) → List (List ℕ) → Stan
 standingOf j xs hs = standingIn (j .progress) (sessionOf (j .session) xs hs)
 
 -- the buffers of recipients, identities and file keys; none for header stanzas, which recipient-v1 does not have
-abbrev pub buffersIn : List ℕ → List ℕ → List ℕ → Buffers
+abbrev pub buffersIn : List ℕ → List ℕ → List ℕ → BuffersOne
 buffersIn r i k = buffersOf r i k []
 
 -- where judging stands, with the buffers and how many bytes were taken

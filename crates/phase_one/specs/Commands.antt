@@ -8,7 +8,7 @@ use Rattle.refusal.specs.Number.{numberOf}
 use Rattle.refusal.specs.Pick.{pick}
 use Rattle.refusal.specs.Same.{same}
 use Rattle.stanza.specs.Arguments.{countOf, argumentOf, lineWith}
-use Rattle.stanza.specs.Index.{readIndex, Reading, number, refused}
+use Rattle.stanza.specs.Index.{readIndex, ReadIndex, number, refused}
 use Rattle.bech32.specs.Text.{parse}
 use Rattle.bech32.specs.Calls.{formOf, markOf}
 use Rattle.bech32.specs.declared.TextKind.{TextKind}
@@ -110,7 +110,7 @@ abbrev pub headerMark : List ℕ → List ℕ → ℕ → ℕ
 headerMark plugin line body = findingMark (checked plugin (restOf line) body)
 
 -- a header stanza by what its index was read as
-abbrev pub indexed : Reading → ℕ → CommandOne
+abbrev pub indexed : ReadIndex → ℕ → CommandOne
 indexed (number i) m = header i m
 indexed (refused n) m = bad n
 

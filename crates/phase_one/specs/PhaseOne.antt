@@ -26,22 +26,22 @@ decidedBy t other n recipients identities keys headers = 0
 decidedBy t (bad k) n recipients identities keys headers = k
 
 -- the four buffers of phase one
-pub record Buffers : Type 0 where
+pub record BuffersOne : Type 0 where
   pub recipients : List ℕ
   pub identities : List ℕ
   pub keys : List ℕ
   pub headers : List ℕ
 
 -- the four together
-abbrev pub buffersOf : List ℕ → List ℕ → List ℕ → List ℕ → Buffers
+abbrev pub buffersOf : List ℕ → List ℕ → List ℕ → List ℕ → BuffersOne
 buffersOf r i k h = record { recipients = r; identities = i; keys = k; headers = h }
 
 -- the decision, by the buffers themselves
-abbrev pub decided : Tables → Buffers → CommandOne → ℕ → ℕ
+abbrev pub decided : Tables → BuffersOne → CommandOne → ℕ → ℕ
 decided t b c n = decidedBy t c n (length (b .recipients)) (length (b .identities)) (length (b .keys)) (length (b .headers))
 
 -- what an accepted command does: one entry more in its kind's table, with its index and its mark; no other table changes
-abbrev pub applied : Tables → Buffers → CommandOne → List ℕ → Tables
+abbrev pub applied : Tables → BuffersOne → CommandOne → List ℕ → Tables
 applied t b (recipient m) p = record {
   recipients = entered (t .recipients) (length p) 0 m (length (b .recipients));
   identities = t .identities;
@@ -83,7 +83,7 @@ applied t b other p = t
 applied t b (bad n) p = t
 
 -- and its payload in its kind's buffer; no other buffer changes
-abbrev pub filledBy : Tables → Buffers → CommandOne → List ℕ → Buffers
+abbrev pub filledBy : Tables → BuffersOne → CommandOne → List ℕ → BuffersOne
 filledBy t b (recipient m) p = buffersOf (kept (t .recipients) p (b .recipients)) (b .identities) (b .keys) (b .headers)
 filledBy t b (identity m) p = buffersOf (b .recipients) (kept (t .identities) p (b .identities)) (b .keys) (b .headers)
 filledBy t b key p = buffersOf (b .recipients) (b .identities) (kept (t .keys) p (b .keys)) (b .headers)
@@ -104,15 +104,15 @@ abbrev pub payloadIn : Machine → List ℕ → List ℕ → List ℕ → List �
 payloadIn machine plugin line body = payloadOf (commandIn machine plugin line body) line body
 
 -- its number
-abbrev pub numberOne : Machine → List ℕ → Tables → Buffers → ℕ → List ℕ → List ℕ → ℕ
+abbrev pub numberOne : Machine → List ℕ → Tables → BuffersOne → ℕ → List ℕ → List ℕ → ℕ
 numberOne machine plugin t b late line body = firstOf (decided t b (commandIn machine plugin line body) (length (payloadIn machine plugin line body))) late
 
 -- the tables afterwards
-abbrev pub tablesOne : Machine → List ℕ → Tables → Buffers → ℕ → List ℕ → List ℕ → Tables
+abbrev pub tablesOne : Machine → List ℕ → Tables → BuffersOne → ℕ → List ℕ → List ℕ → Tables
 tablesOne machine plugin t b late line body =
     pick (eqb (numberOne machine plugin t b late line body) 0) (applied t b (commandIn machine plugin line body) (payloadIn machine plugin line body)) t
 
 -- the buffers afterwards
-abbrev pub buffersOne : Machine → List ℕ → Tables → Buffers → ℕ → List ℕ → List ℕ → Buffers
+abbrev pub buffersOne : Machine → List ℕ → Tables → BuffersOne → ℕ → List ℕ → List ℕ → BuffersOne
 buffersOne machine plugin t b late line body =
     pick (eqb (numberOne machine plugin t b late line body) 0) (filledBy t b (commandIn machine plugin line body) (payloadIn machine plugin line body)) b

@@ -4,35 +4,35 @@ use mathlib.Core.List.{List, [], _∷_}
 use Rattle.phase_one.specs.Commands.{CommandOne, recipient, identity, key, header, done, other, bad}
 use Rattle.tables.specs.Tables.{Table, Row, view}
 use Rattle.session.specs.Tables.{Tables}
-use Rattle.phase_one.specs.PhaseOne.{Buffers}
+use Rattle.phase_one.specs.PhaseOne.{BuffersOne}
 
 -- the kinds of phase one
-pub data Kind : Type 0 where
-  recipients : Kind
-  identities : Kind
-  keys : Kind
-  headers : Kind
+pub data KindOne : Type 0 where
+  recipients : KindOne
+  identities : KindOne
+  keys : KindOne
+  headers : KindOne
 
 -- a kind's table
-abbrev pub tableOf : Kind → Tables → Table
+abbrev pub tableOf : KindOne → Tables → Table
 tableOf recipients t = t .recipients
 tableOf identities t = t .identities
 tableOf keys t = t .keys
 tableOf headers t = t .headers
 
 -- a kind's buffer
-abbrev pub bufferOf : Kind → Buffers → List ℕ
+abbrev pub bufferOf : KindOne → BuffersOne → List ℕ
 bufferOf recipients b = b .recipients
 bufferOf identities b = b .identities
 bufferOf keys b = b .keys
 bufferOf headers b = b .headers
 
 -- what a kind's table shows
-abbrev pub viewOf : Kind → Tables → Buffers → List Row
+abbrev pub viewOf : KindOne → Tables → BuffersOne → List Row
 viewOf k t b = view (tableOf k t) (bufferOf k b)
 
 -- the row that an accepted command adds to a kind's table: one in its own, none in another's
-abbrev pub rowsOf : CommandOne → Kind → List ℕ → List Row
+abbrev pub rowsOf : CommandOne → KindOne → List ℕ → List Row
 rowsOf (recipient m) recipients p = record { payload = p; index = 0; mark = m } ∷ []
 rowsOf (recipient m) identities p = []
 rowsOf (recipient m) keys p = []

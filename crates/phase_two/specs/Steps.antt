@@ -5,8 +5,8 @@ use lib.ListN.{length}
 use Rattle.refusal.specs.Verdict.{firstOf}
 use Rattle.session.specs.Tables.{Tables}
 use Rattle.conversation.specs.CommandsTwo.{CommandTwo}
-use Rattle.conversation.specs.PhaseTwo.{Buffers, when, isSpaceless}
+use Rattle.conversation.specs.PhaseTwo.{BuffersTwo, when, isSpaceless}
 
 -- what is ruled, then 8, then a late fault; p is the payload
-abbrev pub numberStepped : ℕ → Tables → Buffers → CommandTwo → List ℕ → ℕ → ℕ
+abbrev pub numberStepped : ℕ → Tables → BuffersTwo → CommandTwo → List ℕ → ℕ → ℕ
 numberStepped ruled t b c p late = firstOf (firstOf ruled (when (isSpaceless t b c (length p)) 8)) late

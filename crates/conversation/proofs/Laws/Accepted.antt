@@ -61,7 +61,7 @@ pub record Written (text out : List ℕ) (o : Outcome) : Type 0 where
   pub size : o .size ≡ length text
 
 -- one command of phase one applied, by its arguments' text and its body: the session and the buffers behind it
-pub record Applied (s : Session) (b : one.Buffers) (line body : List ℕ) (after : Session) (buffers-after : one.Buffers) : Type 0 where
+pub record Applied (s : Session) (b : one.BuffersOne) (line body : List ℕ) (after : Session) (buffers-after : one.BuffersOne) : Type 0 where
   pub turn : s .phase ≡ One
   pub argued : isLine line ≡ true
   pub faultless : one.decided (s .tables) b (commandIn (s .machine) (s .name) line body) (length (payloadIn (s .machine) (s .name) line body)) ≡ 0
@@ -167,14 +167,14 @@ branch P number false x y p q h = absurd (q refl h)
 -- ---- phase one
 
 -- the rows that a command of phase one adds to a kind's table
-pub applied-rows : (s : Session) (b : one.Buffers) (line body : List ℕ) (after : Session) (buffers-after : one.Buffers) → Applied s b line body after buffers-after → Reached (s .tables) → (k : one-kind.Kind) →
+pub applied-rows : (s : Session) (b : one.BuffersOne) (line body : List ℕ) (after : Session) (buffers-after : one.BuffersOne) → Applied s b line body after buffers-after → Reached (s .tables) → (k : one-kind.KindOne) →
     one-kind.viewOf k (after .tables) buffers-after ≡ one-kind.viewOf k (s .tables) b ++ one-kind.rowsOf (commandIn (s .machine) (s .name) line body) k (payloadIn (s .machine) (s .name) line body)
 applied-rows s b line body after buffers-after a r k =
     ap₂ (one-kind.viewOf k) (ap (λ x. x .tables) (a .session)) (a .buffers)
     ∙ applied-view (s .tables) b (payloadIn (s .machine) (s .name) line body) r (commandIn (s .machine) (s .name) line body) (a .faultless) k
 
 -- what one command's tables and buffers are, where its number is 0; `late` as in `numberOne`
-pub one-applied : (s : Session) (b : one.Buffers) (late : ℕ) (line body : List ℕ) → s .phase ≡ One → isLine line ≡ true → eqb (numberOne (s .machine) (s .name) (s .tables) b late line body) 0 ≡ true →
+pub one-applied : (s : Session) (b : one.BuffersOne) (late : ℕ) (line body : List ℕ) → s .phase ≡ One → isLine line ≡ true → eqb (numberOne (s .machine) (s .name) (s .tables) b late line body) 0 ≡ true →
     Applied s b line body (moved s (phaseAfter (commandIn (s .machine) (s .name) line body)) (tablesOne (s .machine) (s .name) (s .tables) b late line body)) (buffersOne (s .machine) (s .name) (s .tables) b late line body)
 one-applied s b late line body o a h =
     let z = eqb-true (numberOne (s .machine) (s .name) (s .tables) b late line body) 0 h in

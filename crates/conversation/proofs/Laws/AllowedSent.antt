@@ -85,7 +85,7 @@ or-iff : {X Y : Type 0} (a b : Bool) → (a ≡ false) ↔ X → (b ≡ false) �
 or-iff a b i j = (λ e. let h = or-false a b e in (i .0 (h .0), j .0 (h .1)), λ h. false-or a b (i .1 (h .0)) (j .1 (h .1)))
 
 module _ (t : Tables) (left : Left) (s : Shows t left) where
-  none-of : (q : Label → Bool) (P : Row → Type 0) → ((r : Row) → (q (rowLabel r) ≡ false) ↔ P r) → (k : one-kind.Kind) → (isAny q (labels (one-kind.tableOf k t)) ≡ false) ↔ All P (left k)
+  none-of : (q : Label → Bool) (P : Row → Type 0) → ((r : Row) → (q (rowLabel r) ≡ false) ↔ P r) → (k : one-kind.KindOne) → (isAny q (labels (one-kind.tableOf k t)) ≡ false) ↔ All P (left k)
   none-of q P same k = subst (λ l. (isAny q l ≡ false) ↔ All P (left k)) (sym (s .labelled k)) (none-iff q P same (left k))
 
   valid-iff : (anyInvalid t ≡ false) ↔ NoneInvalid left
@@ -201,7 +201,7 @@ all-reported-iff t left cs s e =
       λ y. true-and _ _ (true-and _ _ (r .1 (y .of-recipients)) (i .1 (y .of-identities))) (h .1 (y .of-headers)),
     )
   where
-    of : (k : one-kind.Kind) (test : Label → Bool) (Owes : Row → Type 0) → ((r : Row) → (test (rowLabel r) ≡ true) ↔ Owes r) → (mark : ℕ) (Names : ℕ → CommandTwo → Type 0) →
+    of : (k : one-kind.KindOne) (test : Label → Bool) (Owes : Row → Type 0) → ((r : Row) → (test (rowLabel r) ≡ true) ↔ Owes r) → (mark : ℕ) (Names : ℕ → CommandTwo → Type 0) →
         ((n : ℕ) (x : Named) → (isNaming mark n (labelNamed x) ≡ true) ↔ Names n (error x)) → ((n : ℕ) (c : CommandTwo) → Names n c → isError c ≡ true) →
         (areReported test mark 0 (labels (one-kind.tableOf k t)) (labels (t .errors)) ≡ true) ↔ Reported Owes Names 0 (left k) cs
     of k test Owes same mark Names names only =

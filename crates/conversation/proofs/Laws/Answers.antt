@@ -11,7 +11,7 @@ use Rattle.refusal.specs.Pick.{pick}
 use Rattle.refusal.specs.Same.{same}
 use Rattle.refusal.proofs.Laws.Booleans.{and-true, cases}
 use Rattle.stanza.specs.Arguments.{countOf, argumentOf}
-use Rattle.stanza.specs.Index.{Reading, number, refused, readIndex}
+use Rattle.stanza.specs.Index.{ReadIndex, number, refused, readIndex}
 use Rattle.responses.specs.Responses.{fitting, fitsWhole, mayHaveBody}
 use Rattle.responses.specs.declared.Response.{Response}
 use Rattle.responses.specs.declared.Response.the-variants.{Fail}
@@ -115,7 +115,7 @@ refused-so-far s (send-two word arguments body out) n es i = i
 refused-so-far s (respond text out) n es i = closed-or (closes n) s es i
 
 -- an accepted call: of phase one
-one-step : (s : Session) (b : one.Buffers) (line body : List ℕ) (after : Session) (buffers-after : one.Buffers) (es : List Event) → Applied s b line body after buffers-after → SoFar (s .phase) es → SoFar (after .phase) (es ++ [])
+one-step : (s : Session) (b : one.BuffersOne) (line body : List ℕ) (after : Session) (buffers-after : one.BuffersOne) (es : List Event) → Applied s b line body after buffers-after → SoFar (s .phase) es → SoFar (after .phase) (es ++ [])
 one-step s b line body after buffers-after es a i =
     subst (λ x. SoFar (x .phase) (es ++ [])) (sym (a .session)) (one-so-far (one.commandIn (s .machine) (s .name) line body) es (subst (λ p. SoFar p es) (a .turn) i))
 

@@ -10,7 +10,7 @@ use native.Mathlib.Omega.{arith}
 use Rattle.refusal.specs.Pick.{pick}
 use Rattle.refusal.specs.Same.{same}
 use Rattle.stanza.specs.Arguments.{countOf, argumentOf}
-use Rattle.stanza.specs.Index.{readIndex, Reading, number, refused}
+use Rattle.stanza.specs.Index.{readIndex, ReadIndex, number, refused}
 use Rattle.stanza.proofs.Laws.Index.{read-index}
 use Rattle.responses.specs.Responses.{fitting}
 use Rattle.responses.specs.declared.Response.the-variants.{Fail}
@@ -40,7 +40,7 @@ module _ (d : Bool) where
   either false c e p q = q
 
   -- an index that is none has the number 5
-  by-index : (P : Reading → Type 0) (t : List ℕ) → ((i : ℕ) → P (number i)) → P (refused 5) → P (readIndex t)
+  by-index : (P : ReadIndex → Type 0) (t : List ℕ) → ((i : ℕ) → P (number i)) → P (refused 5) → P (readIndex t)
   by-index P t f g = ⊎-elim (λ j. subst P (sym (j .1)) (f _)) (λ e. subst P (sym e) g) (read-index t)
 
   five : _≡_ {A = ℕ} 5 0 → ⊥

@@ -17,7 +17,7 @@ use Rattle.tables.proofs.Laws.Tables.{Kept, appended-view, view-count, entered-
 use Rattle.session.specs.Tables.{Tables}
 use Rattle.refusal.specs.Verdict.{firstOf}
 use Rattle.conversation.specs.CommandsTwo.{Named, internal, identity, recipient, header, CommandTwo, ask, stanza, key, error, done, other, bad}
-use Rattle.conversation.specs.PhaseTwo.{Kind, errors, stanzas, returned, Buffers, tableOf, bufferOf, viewOf, Label, labelOf, labels, howMany, isAny, passes, isFile, namesFile, belongs, stanzasFor, mostStanzas, hasKey, markOf, indexOf, isAbout, hasErrorFor, isMissing, isSecondKey, isTooMany, isAgainstKey, isClashing, isSpaceless, isHeldBack, when, faultOf, ruled, decided, applied, filledBy, rowsOf}
+use Rattle.conversation.specs.PhaseTwo.{KindTwo, errors, stanzas, returned, BuffersTwo, tableOf, bufferOf, viewOf, Label, labelOf, labels, howMany, isAny, passes, isFile, namesFile, belongs, stanzasFor, mostStanzas, hasKey, markOf, indexOf, isAbout, hasErrorFor, isMissing, isSecondKey, isTooMany, isAgainstKey, isClashing, isSpaceless, isHeldBack, when, faultOf, ruled, decided, applied, filledBy, rowsOf}
 use Rattle.conversation.specs.Allowed.{isRightTwo, isKeyFor, isErrorFor, isKind, Said, Sum, keys-for, stanzas-for, errors-for, entries, bytes, weight, slotsTwo, Limits}
 use Rattle.conversation.proofs.Laws.Firsts.{first-iff}
 
@@ -34,7 +34,7 @@ test-iff f n late h =
     (λ e. (w .0 (a .0 e .0), a .0 e .1), λ e. a .1 (w .1 (e .0), e .1))
 
 -- no test finds a fault
-pub record Faultless (own : Bool) (t : Tables) (b : Buffers) (c : CommandTwo) (n : ℕ) : Type 0 where
+pub record Faultless (own : Bool) (t : Tables) (b : BuffersTwo) (c : CommandTwo) (n : ℕ) : Type 0 where
   pub right : faultOf c ≡ 0
   pub there : isMissing t c ≡ false
   pub first-key : isSecondKey t c ≡ false
@@ -43,7 +43,7 @@ pub record Faultless (own : Bool) (t : Tables) (b : Buffers) (c : CommandTwo) (n
   pub unheld : (own && isHeldBack t c) ≡ false
   pub space : isSpaceless t b c n ≡ false
 
-pub decided-iff : (own : Bool) (t : Tables) (b : Buffers) (c : CommandTwo) (n : ℕ) → (decided own t b c n ≡ 0) ↔ Faultless own t b c n
+pub decided-iff : (own : Bool) (t : Tables) (b : BuffersTwo) (c : CommandTwo) (n : ℕ) → (decided own t b c n ≡ 0) ↔ Faultless own t b c n
 unfolding decided
 decided-iff own t b c n = (to, from)
   where

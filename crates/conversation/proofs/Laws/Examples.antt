@@ -17,7 +17,7 @@ use Rattle.stanza.specs.Grammar.{stanzaText}
 use Rattle.stanza.specs.Reading.{found}
 use Rattle.phase_one.specs.Commands.{add-recipient, add-identity, wrap-file-key, done-word, lineSent}
 use Rattle.phase_one.specs.PhaseOne.{buffersOf}
-use Rattle.phase_one.specs.Views.{Kind, recipients, identities, keys, headers, bufferOf}
+use Rattle.phase_one.specs.Views.{KindOne, recipients, identities, keys, headers, bufferOf}
 use Rattle.session.specs.declared.opening.Machine.the-variants.{RecipientV1}
 use Rattle.session.specs.Session.{Session, openedSession}
 use Rattle.conversation.specs.Kinds as kinds
@@ -120,13 +120,13 @@ allowed : Allowed RecipientV1 plugin (lent .first) (textsOf given)
 unfolding All rowsIn bytesOf Rising isCharacter valueOf characterOf encoded decoded endsWell wrapped unwrapped run isGraphic next verdict scan found isWordByte before words same
 allowed = record { right = (refl, (refl, (refl, (refl, (refl, tt))))); slots = slots; bytes = bytes; rising = tt }
   where
-    slots : (k : Kind) → length (rowsIn RecipientV1 plugin k (textsOf given)) ≤ slotsOf k
+    slots : (k : KindOne) → length (rowsIn RecipientV1 plugin k (textsOf given)) ≤ slotsOf k
     slots recipients = lit≤ tt
     slots identities = lit≤ tt
     slots keys = lit≤ tt
     slots headers = lit≤ tt
 
-    bytes : (k : Kind) → bytesOf (rowsIn RecipientV1 plugin k (textsOf given)) ≤ length (bufferOf k (lent .first))
+    bytes : (k : KindOne) → bytesOf (rowsIn RecipientV1 plugin k (textsOf given)) ≤ length (bufferOf k (lent .first))
     bytes recipients = lit≤ tt
     bytes identities = lit≤ tt
     bytes keys = lit≤ tt

@@ -268,7 +268,7 @@ abbrev turnedRows : List Row
 turnedRows = row 1 (99 ∷ 10 ∷ []) ∷ row 0 (97 ∷ 10 ∷ []) ∷ row 0 (98 ∷ 10 ∷ []) ∷ []
 
 -- of a state
-abbrev seen : two.Kind → State → List Row
+abbrev seen : two.KindTwo → State → List Row
 seen k x = viewOf (second k) (x .session .tables) (x .buffers)
 
 pub both-stanzas : (seen two.stanzas (behind given) ≡ givenRows) × (seen two.stanzas (behind turned) ≡ turnedRows)
@@ -282,20 +282,20 @@ files (suc zero) = refl
 files (suc (suc f)) = neither _ _ _ (eqb 0 (suc (suc f))) (eqb 1 (suc (suc f))) (eqb·zero-suc (suc f)) (eqb·suc-suc 0 (suc f) ∙ eqb·zero-suc f)
 
 -- what phase one left
-abbrev left : one-kind.Kind → List Row
+abbrev left : one-kind.KindOne → List Row
 left one-kind.recipients = record { payload = 97 ∷ []; index = 0; mark = 16 } ∷ []
 left one-kind.identities = record { payload = 98 ∷ []; index = 0; mark = 16 } ∷ []
 left one-kind.keys = row 0 (replicate 16 0) ∷ row 0 (replicate 16 1) ∷ []
 left one-kind.headers = []
 
-given-left : (k : one-kind.Kind) → viewOf (kinds.first k) (behind given .session .tables) (behind given .buffers) ≡ left k
+given-left : (k : one-kind.KindOne) → viewOf (kinds.first k) (behind given .session .tables) (behind given .buffers) ≡ left k
 unfolding numbers after callsOf replyCalls sending.sent sending.sentStanza receiving-two.received receiving-two.receivedStanza replying.repliedTo commandTwo decided howMany passes isCharacter valueOf characterOf encoded decoded endsWell wrapped unwrapped all run isGraphic isWordByte before words isArgument areArguments same next verdict scan found digits readIndex afterSpace
 given-left one-kind.recipients = refl
 given-left one-kind.identities = refl
 given-left one-kind.keys = refl
 given-left one-kind.headers = refl
 
-turned-left : (k : one-kind.Kind) → viewOf (kinds.first k) (behind turned .session .tables) (behind turned .buffers) ≡ left k
+turned-left : (k : one-kind.KindOne) → viewOf (kinds.first k) (behind turned .session .tables) (behind turned .buffers) ≡ left k
 unfolding numbers after callsOf replyCalls sending.sent sending.sentStanza receiving-two.received receiving-two.receivedStanza replying.repliedTo commandTwo decided howMany passes isCharacter valueOf characterOf encoded decoded endsWell wrapped unwrapped all run isGraphic isWordByte before words isArgument areArguments same next verdict scan found digits readIndex afterSpace
 turned-left one-kind.recipients = refl
 turned-left one-kind.identities = refl

@@ -9,9 +9,9 @@ use Rattle.refusal.specs.Pick.{pick}
 use Rattle.tables.specs.Tables.{view}
 use Rattle.session.specs.declared.opening.Machine.{Machine}
 use Rattle.phase_one.specs.Commands.{WordOne, add-recipient, add-identity, wrap-file-key, recipient-stanza, done-word, other-word, wordIn, rowCommand}
-use Rattle.phase_one.specs.PhaseOne.{Buffers as OneBuffers, buffersOf}
+use Rattle.phase_one.specs.PhaseOne.{BuffersOne, buffersOf}
 use Rattle.session.specs.Tables.{openedTables}
-use Rattle.phase_one.specs.Views.{Kind, headers, bufferOf}
+use Rattle.phase_one.specs.Views.{KindOne, headers, bufferOf}
 use Rattle.session.specs.Session.{Session, openedSession}
 use Rattle.conversation.specs.Kinds.{Buffers, second, viewOf, ofFile}
 use Rattle.conversation.specs.PhaseTwo as two
@@ -25,7 +25,7 @@ use Rattle.conversation.proofs.Laws.AllowedOne.{textsOf, Holds, accepte
 
 -- ---- the rows of texts
 
-module _ (machine : Machine) (name : List ℕ) (k : Kind) where
+module _ (machine : Machine) (name : List ℕ) (k : KindOne) where
   rows-append : (xs ys : List (List ℕ)) → rowsIn machine name k (xs ++ ys) ≡ rowsIn machine name k xs ++ rowsIn machine name k ys
   unfolding rowsIn
   rows-append [] ys = refl
@@ -71,7 +71,7 @@ unknown-right machine name x h = other-right name (lineIn (x .text)) (length (bo
 module _ (machine : Machine) (name : List ℕ) where
   module _ (p q : Phase) (r : Rearranged one-part machine name p q) where
     -- they make the same rows of each kind
-    same-rows : (k : Kind) → rowsIn machine name k (textsOf p) ≡ rowsIn machine name k (textsOf q)
+    same-rows : (k : KindOne) → rowsIn machine name k (textsOf p) ≡ rowsIn machine name k (textsOf q)
     same-rows k =
         let text : Block → List ℕ = λ x. x .text in
         ap (rowsIn machine name k) (map-append text (p .ahead) (p .last ∷ [])) ∙ rows-append machine name k (map text (p .ahead)) (p .last .text ∷ [])
@@ -90,7 +90,7 @@ module _ (machine : Machine) (name : List ℕ) where
         )
 
     -- with buffers of equal lengths the one is allowed where the other is
-    same-allowed : (b c : OneBuffers) → ((k : Kind) → length (bufferOf k b) ≡ length (bufferOf k c)) → Allowed machine name b (textsOf p) → Allowed machine name c (textsOf q)
+    same-allowed : (b c : BuffersOne) → ((k : KindOne) → length (bufferOf k b) ≡ length (bufferOf k c)) → Allowed machine name b (textsOf p) → Allowed machine name c (textsOf q)
     same-allowed b c l a =
         let P : List ℕ → Type 0 = λ t. isRight (commandOf machine name t) ≡ true in
         record {
@@ -119,7 +119,7 @@ quiet-written machine screen s b outs (x ∷ xs) h =
 -- ---- both
 
 -- phase two's tables show nothing yet
-late-none : (machine : Machine) (name : List ℕ) (ts : List (List ℕ)) (x : State) → Holds machine name ts x → (k : two.Kind) → viewOf (second k) (x .session .tables) (x .buffers) ≡ []
+late-none : (machine : Machine) (name : List ℕ) (ts : List (List ℕ)) (x : State) → Holds machine name ts x → (k : two.KindTwo) → viewOf (second k) (x .session .tables) (x .buffers) ≡ []
 late-none machine name ts x h two.errors = ap (λ t. view t (x .buffers .second .errors)) (h .errors)
 late-none machine name ts x h two.stanzas = ap (λ t. view t (x .buffers .second .stanzas)) (h .stanzas)
 late-none machine name ts x h two.returned = ap (λ t. view t (x .buffers .second .returned)) (h .returned)
@@ -144,7 +144,7 @@ module _ (machine : Machine) (name : List ℕ) where
             let y = accepted-tables machine name false c outs′ q hq (forth a) in
             let end = after start b (callsOf one-part outs (blocksOf p)) in
             let end′ = after start c (callsOf one-part outs′ (blocksOf q)) in
-            let late : (k : two.Kind) → viewOf (second k) (end .session .tables) (end .buffers) ≡ viewOf (second k) (end′ .session .tables) (end′ .buffers) =
+            let late : (k : two.KindTwo) → viewOf (second k) (end .session .tables) (end .buffers) ≡ viewOf (second k) (end′ .session .tables) (end′ .buffers) =
             λ k. late-none machine name (textsOf p) end x k ∙ sym (late-none machine name (textsOf q) end′ y k) in
             record {
               views = λ k. x .views k ∙ same-rows machine name p q r k ∙ sym (y .views k);

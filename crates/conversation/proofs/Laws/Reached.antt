@@ -27,7 +27,7 @@ use Rattle.session.specs.declared.phases.Phase.the-variants.{One, Two, Closed}
 use Rattle.session.specs.declared.opening.Machine.{Machine}
 use Rattle.phase_one.proofs.Laws.Views.{Reached, opened-reached, applied-reached, payload-stored}
 use Rattle.session.specs.Session.{Session, moved, closed, openedSession, opened}
-use Rattle.conversation.specs.Kinds.{Kind, first, second, Buffers, tableOf}
+use Rattle.conversation.specs.Kinds.{AnyKind, first, second, Buffers, tableOf}
 use Rattle.conversation.specs.CommandsTwo as two-command
 use Rattle.conversation.specs.CommandsTwo.{CommandTwo}
 use Rattle.conversation.specs.PhaseTwo as two
@@ -47,7 +47,7 @@ LaterOpened t = (t .errors ≡ openedTables .errors) × (t .stanzas ≡ openedTa
 
 -- each table has the slots that it was opened with: 64, 64, 64 and 256; 384, 256 and 256
 abbrev pub Wide : Tables → Type 0
-Wide t = (k : Kind) → tableOf k t .width ≡ tableOf k openedTables .width
+Wide t = (k : AnyKind) → tableOf k t .width ≡ tableOf k openedTables .width
 
 -- each kind has its entries in the first slots, one behind the other, no payload empty but an error's, and the rest is as opened; each table has its slots; in
 -- phase one, phase two's tables are as opened
@@ -117,8 +117,8 @@ entered-width t n index mark capacity = either (fits t n capacity)
     either true = refl
     either false = refl
 
-module _ (t : Tables) (b : one.Buffers) (p : List ℕ) where
-  widths : (c : CommandOne) (k : one-kind.Kind) → one-kind.tableOf k (one.applied t b c p) .width ≡ one-kind.tableOf k t .width
+module _ (t : Tables) (b : one.BuffersOne) (p : List ℕ) where
+  widths : (c : CommandOne) (k : one-kind.KindOne) → one-kind.tableOf k (one.applied t b c p) .width ≡ one-kind.tableOf k t .width
   widths (recipient m) recipients = entered-width (t .recipients) (length p) 0 m (length (b .recipients))
   widths (recipient m) identities = refl
   widths (recipient m) keys = refl
@@ -151,8 +151,8 @@ module _ (t : Tables) (b : one.Buffers) (p : List ℕ) where
   applied-later c l = (one-leaves t p b c errors ∙ l .0, one-leaves t p b c stanzas ∙ l .1, one-leaves t p b c returned ∙ l .2)
 
 -- .. of phase two
-module _ (t : Tables) (b : two.Buffers) (p : List ℕ) where
-  widths-two : (c : CommandTwo) (k : two.Kind) → two.tableOf k (two.applied t b c p) .width ≡ two.tableOf k t .width
+module _ (t : Tables) (b : two.BuffersTwo) (p : List ℕ) where
+  widths-two : (c : CommandTwo) (k : two.KindTwo) → two.tableOf k (two.applied t b c p) .width ≡ two.tableOf k t .width
   widths-two (two-command.ask w) k = refl
   widths-two (two-command.stanza f) errors = refl
   widths-two (two-command.stanza f) stanzas = entered-width (t .stanzas) (length p) f 0 (length (b .stanzas))
@@ -215,7 +215,7 @@ module _ (s : Session) (r : ReachedSession s) where
   left-reached (respond text out) n = closed-reached (closes n)
 
   -- an accepted command of phase one
-  applied-so : (b b′ : one.Buffers) (line body : List ℕ) (s′ : Session) → Applied s b line body s′ b′ → ReachedSession s′
+  applied-so : (b b′ : one.BuffersOne) (line body : List ℕ) (s′ : Session) → Applied s b line body s′ b′ → ReachedSession s′
   applied-so b b′ line body s′ a =
       let c = commandIn (s .machine) (s .name) line body in
       let p = payloadIn (s .machine) (s .name) line body in
@@ -278,7 +278,7 @@ pub record JustReached (s : Session) : Type 0 where
   pub reached : ReachedSession s
 
 -- done of phase one leads to it, received or sent
-just-applied : (s₀ s : Session) (b b′ : one.Buffers) (line body : List ℕ) → ReachedSession s₀ → Applied s₀ b line body s b′ → commandIn (s .machine) (s .name) line body ≡ done → ReachedSession s → JustReached s
+just-applied : (s₀ s : Session) (b b′ : one.BuffersOne) (line body : List ℕ) → ReachedSession s₀ → Applied s₀ b line body s b′ → commandIn (s .machine) (s .name) line body ≡ done → ReachedSession s → JustReached s
 just-applied s₀ s b b′ line body r a d reached =
     let c = commandIn (s₀ .machine) (s₀ .name) line body in
     let p = payloadIn (s₀ .machine) (s₀ .name) line body in

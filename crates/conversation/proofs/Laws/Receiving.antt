@@ -9,7 +9,7 @@ use Rattle.refusal.specs.Pick.{pick}
 use Rattle.stanza.specs.Reading.{readFirst}
 use Rattle.phase_one.specs.Commands.{CommandOne, wordOf}
 use Rattle.session.specs.Tables.{Tables}
-use Rattle.phase_one.specs.PhaseOne.{Buffers, applied, filledBy, commandIn, payloadIn, numberOne, tablesOne, buffersOne}
+use Rattle.phase_one.specs.PhaseOne.{BuffersOne, applied, filledBy, commandIn, payloadIn, numberOne, tablesOne, buffersOne}
 use Rattle.phase_one.specs.Turns.{turnOne, phaseAfter, phaseReceived}
 use Rattle.session.specs.Phases.{closes, phaseRefused}
 use Rattle.session.specs.declared.opening.Machine.{Machine}
@@ -21,10 +21,10 @@ use Rattle.conversation.specs.Receiving.{Taking, took, declined, answerO
 abbrev sessionIn : Machine → List ℕ → Bool → Phase → Tables → Session
 sessionIn m g x p t = record { machine = m; name = g; screen = x; phase = p; tables = t }
 
-abbrev receipt : Taking → Session → Buffers → Received
+abbrev receipt : Taking → Session → BuffersOne → Received
 receipt a s b = record { answer = a; session = s; buffers = b }
 
-module _ (m : Machine) (g : List ℕ) (x : Bool) (q : Phase) (t : Tables) (b : Buffers) where
+module _ (m : Machine) (g : List ℕ) (x : Bool) (q : Phase) (t : Tables) (b : BuffersOne) where
   -- a refusal
   pub refusal-is : (n : ℕ) → receipt (declined n) (sessionIn m g x (phaseRefused q n) t) b ≡ refusedReceipt n (sessionIn m g x q t) b
   refusal-is n = go (closes n)
@@ -54,12 +54,12 @@ module _ (m : Machine) (g : List ℕ) (x : Bool) (q : Phase) (t : Tables) (b : B
         go false true = refl
         go false false = refl
 
-    pub received-by : (n : ℕ) (c : CommandOne) (a : Taking) (p : Phase) (t′ : Tables) (b′ : Buffers) → n ≡ numberOne m g t b 0 l y → c ≡ commandIn m g l y → a ≡ answerOf n c k → p ≡ phaseReceived q n c → t′ ≡ tablesOne m g t b 0 l y → b′ ≡ buffersOne m g t b 0 l y →
+    pub received-by : (n : ℕ) (c : CommandOne) (a : Taking) (p : Phase) (t′ : Tables) (b′ : BuffersOne) → n ≡ numberOne m g t b 0 l y → c ≡ commandIn m g l y → a ≡ answerOf n c k → p ≡ phaseReceived q n c → t′ ≡ tablesOne m g t b 0 l y → b′ ≡ buffersOne m g t b 0 l y →
         receipt a (sessionIn m g x p t′) b′ ≡ receivedStanza (sessionIn m g x q t) b l y k
     received-by n c a p t′ b′ en ec ea ep et eb = rw (ea, ep, et, eb, en, ec) step-is
 
     -- the same where name, arguments' text and body are said otherwise
-    pub received-from : (g′ l′ y′ : List ℕ) (n : ℕ) (c : CommandOne) (a : Taking) (p : Phase) (t′ : Tables) (b′ : Buffers) → g′ ≡ g → l′ ≡ l → y′ ≡ y → n ≡ numberOne m g′ t b 0 l′ y′ → c ≡ commandIn m g′ l′ y′ → a ≡ answerOf n c k → p ≡ phaseReceived q n c →
+    pub received-from : (g′ l′ y′ : List ℕ) (n : ℕ) (c : CommandOne) (a : Taking) (p : Phase) (t′ : Tables) (b′ : BuffersOne) → g′ ≡ g → l′ ≡ l → y′ ≡ y → n ≡ numberOne m g′ t b 0 l′ y′ → c ≡ commandIn m g′ l′ y′ → a ≡ answerOf n c k → p ≡ phaseReceived q n c →
         t′ ≡ tablesOne m g′ t b 0 l′ y′ → b′ ≡ buffersOne m g′ t b 0 l′ y′ → receipt a (sessionIn m g x p t′) b′ ≡ receivedStanza (sessionIn m g x q t) b l y k
     received-from g′ l′ y′ n c a p t′ b′ eg el ey en ec ea ep et eb =
         received-by n c a p t′ b′ (en ∙ same (λ g l y. numberOne m g t b 0 l y)) (ec ∙ same (λ g l y. commandIn m g l y)) ea ep (et ∙ same (λ g l y. tablesOne m g t b 0 l y)) (eb ∙ same (λ g l y. buffersOne m g t b 0 l y))
@@ -84,7 +84,7 @@ turn-keeps (Awaiting w) e = refl
 turn-keeps Ended e = refl
 turn-keeps Closed e = refl
 
-pub received-out-of-turn : (s : Session) (text : List ℕ) (b : Buffers) (n : ℕ) → n ≡ turnOne (s .phase) → eqb n 0 ≡ false → receipt (declined n) s b ≡ received s text b
+pub received-out-of-turn : (s : Session) (text : List ℕ) (b : BuffersOne) (n : ℕ) → n ≡ turnOne (s .phase) → eqb n 0 ≡ false → receipt (declined n) s b ≡ received s text b
 unfolding received
 received-out-of-turn s text b n e f =
     let z : eqb (turnOne (s .phase)) 0 ≡ false = ap (λ j. eqb j 0) (sym e) ∙ f in
@@ -92,6 +92,6 @@ received-out-of-turn s text b n e f =
     ∙ ap (λ q. receipt (declined (turnOne (s .phase))) (pick q (closed s) s) b) (sym (turn-keeps (s .phase) z))
     ∙ ap (λ q. pick q (receivedAs (readFirst text) s text b) (refusedReceipt (turnOne (s .phase)) s b)) (sym z)
 
-pub received-in-turn : (s : Session) (text : List ℕ) (b : Buffers) → 0 ≡ turnOne (s .phase) → receivedAs (readFirst text) s text b ≡ received s text b
+pub received-in-turn : (s : Session) (text : List ℕ) (b : BuffersOne) → 0 ≡ turnOne (s .phase) → receivedAs (readFirst text) s text b ≡ received s text b
 unfolding received
 received-in-turn s text b e = ap (λ n. pick (eqb n 0) (receivedAs (readFirst text) s text b) (refusedReceipt n s b)) e

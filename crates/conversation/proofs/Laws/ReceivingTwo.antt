@@ -17,7 +17,7 @@ use Rattle.session.specs.declared.opening.Machine.{Machine}
 use Rattle.session.specs.declared.phases.Phase.{Phase}
 use Rattle.session.specs.declared.phases.Phase.the-variants.{One, Two, Awaiting, Ended, Closed}
 use Rattle.conversation.specs.CommandsTwo.{CommandTwo, commandTwo, rowTwo, wordTwo, wordOf, payloadOf}
-use Rattle.conversation.specs.PhaseTwo.{Buffers, buffersOf, when, isSpaceless, ruled, decided, applied, filledBy}
+use Rattle.conversation.specs.PhaseTwo.{BuffersTwo, buffersOf, when, isSpaceless, ruled, decided, applied, filledBy}
 use Rattle.session.specs.Session.{Session, closed}
 use Rattle.conversation.specs.Sending.{shortness}
 use Rattle.conversation.specs.TurnsTwo.{turnTwo}
@@ -26,10 +26,10 @@ use Rattle.conversation.specs.ReceivingTwo.{AtOnce, atOnce, textOf, phas
 abbrev sessionIn : Machine → List ℕ → Bool → Phase → Tables → Session
 sessionIn m g x p t = record { machine = m; name = g; screen = x; phase = p; tables = t }
 
-abbrev receipt : Taking → Session → Buffers → List ℕ → Received
+abbrev receipt : Taking → Session → BuffersTwo → List ℕ → Received
 receipt a s b out = record { answer = a; session = s; buffers = b; output = out }
 
-module _ (m : Machine) (g : List ℕ) (x : Bool) (q : Phase) (t : Tables) (b : Buffers) (out : List ℕ) where
+module _ (m : Machine) (g : List ℕ) (x : Bool) (q : Phase) (t : Tables) (b : BuffersTwo) (out : List ℕ) where
   -- a refusal
   pub refusal-is : (n : ℕ) → receipt (declined n) (sessionIn m g x (pick (closes n) Closed q) t) b out ≡ refusedReceipt n (sessionIn m g x q t) b out
   refusal-is n = go (closes n)
@@ -61,7 +61,7 @@ module _ (m : Machine) (g : List ℕ) (x : Bool) (q : Phase) (t : Tables) (b : B
 
     -- the same by what each part of the code came to: the command, what is ruled, the answer at once, its length, the output's shortness, the number; then the
     -- answer, the phase, the tables, the buffers and the output
-    pub received-from : (c : CommandTwo) (r : ℕ) (w : AtOnce) (j late n : ℕ) (a : Taking) (p : Phase) (t′ : Tables) (b′ : Buffers) (o′ : List ℕ) →
+    pub received-from : (c : CommandTwo) (r : ℕ) (w : AtOnce) (j late n : ℕ) (a : Taking) (p : Phase) (t′ : Tables) (b′ : BuffersTwo) (o′ : List ℕ) →
         c ≡ rowTwo (wordTwo m (argumentOf l 0)) m l (length y) → r ≡ ruled false t c → w ≡ atOnce x c → j ≡ length (textOf w) → late ≡ pick (ltb (length out) j) 15 0 →
         n ≡ firstOf (firstOf r (when (isSpaceless t b c (length (payloadOf c l y))) 8)) late → a ≡ pick (eqb n 0) (took (wordOf c) k j) (declined n) →
         p ≡ pick (eqb n 0) (phaseReceived x c) (pick (closes n) Closed q) → t′ ≡ pick (eqb n 0) (applied t b c (payloadOf c l y)) t → b′ ≡ pick (eqb n 0) (filledBy t b c (payloadOf c l y)) b →
@@ -73,7 +73,7 @@ module _ (m : Machine) (g : List ℕ) (x : Bool) (q : Phase) (t : Tables) (b : B
         en ∙ ap₂ (λ r z. firstOf (firstOf r (when (isSpaceless t b c (length (payloadOf c l y))) 8)) z) er (el ∙ ap (λ j. pick (ltb (length out) j) 15 0) (ej ∙ ap length text)) in
         whole (ea ∙ ap (λ i. pick (eqb n 0) (took (wordOf c) k i) (declined n)) (ej ∙ ap length text)) ep et eb (eo ∙ ap (λ i. pick (eqb n 0) (filled i out) out) text) (step-is c n ec number)
       where
-        whole : {a a₂ : Taking} {p p₂ : Phase} {t₁ t₂ : Tables} {b₁ b₂ : Buffers} {o o₂ : List ℕ} {z : Received} → a ≡ a₂ → p ≡ p₂ → t₁ ≡ t₂ → b₁ ≡ b₂ → o ≡ o₂ → receipt a₂ (sessionIn m g x p₂ t₂) b₂ o₂ ≡ z → receipt a (sessionIn m g x p t₁) b₁ o ≡ z
+        whole : {a a₂ : Taking} {p p₂ : Phase} {t₁ t₂ : Tables} {b₁ b₂ : BuffersTwo} {o o₂ : List ℕ} {z : Received} → a ≡ a₂ → p ≡ p₂ → t₁ ≡ t₂ → b₁ ≡ b₂ → o ≡ o₂ → receipt a₂ (sessionIn m g x p₂ t₂) b₂ o₂ ≡ z → receipt a (sessionIn m g x p t₁) b₁ o ≡ z
         whole ea ep et eb eo e = rw (ea, ep, et, eb, eo) e
 
 -- ---- whose turn it is
@@ -93,7 +93,7 @@ turn-keeps (Awaiting w) e = refl
 turn-keeps Ended e = refl
 turn-keeps Closed e = refl
 
-pub received-out-of-turn : (s : Session) (text : List ℕ) (b : Buffers) (out : List ℕ) (n : ℕ) → n ≡ turnTwo (s .phase) → eqb n 0 ≡ false → receipt (declined n) s b out ≡ received s text b out
+pub received-out-of-turn : (s : Session) (text : List ℕ) (b : BuffersTwo) (out : List ℕ) (n : ℕ) → n ≡ turnTwo (s .phase) → eqb n 0 ≡ false → receipt (declined n) s b out ≡ received s text b out
 unfolding received
 received-out-of-turn s text b out n e f =
     let z : eqb (turnTwo (s .phase)) 0 ≡ false = ap (λ j. eqb j 0) (sym e) ∙ f in
@@ -101,6 +101,6 @@ received-out-of-turn s text b out n e f =
     ∙ ap (λ q. receipt (declined (turnTwo (s .phase))) (pick q (closed s) s) b out) (sym (turn-keeps (s .phase) z))
     ∙ ap (λ q. pick q (receivedAs (readFirst text) s text b out) (refusedReceipt (turnTwo (s .phase)) s b out)) (sym z)
 
-pub received-in-turn : (s : Session) (text : List ℕ) (b : Buffers) (out : List ℕ) → 0 ≡ turnTwo (s .phase) → receivedAs (readFirst text) s text b out ≡ received s text b out
+pub received-in-turn : (s : Session) (text : List ℕ) (b : BuffersTwo) (out : List ℕ) → 0 ≡ turnTwo (s .phase) → receivedAs (readFirst text) s text b out ≡ received s text b out
 unfolding received
 received-in-turn s text b out e = ap (λ n. pick (eqb n 0) (receivedAs (readFirst text) s text b out) (refusedReceipt n s b out)) e

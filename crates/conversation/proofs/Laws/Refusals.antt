@@ -52,7 +52,7 @@ Left number left x = (number x ≡ 0 → ⊥) → x ≡ left (number x)
 
 module _ (s : Session) where
   -- phase one, received
-  module _ (b : one.Buffers) where
+  module _ (b : one.BuffersOne) where
     abbrev LeftReceived : receiving.Received → Type 0
     LeftReceived = Left (λ r. takingNumber (r .answer)) (λ n. receiving.refusedReceipt n s b)
 
@@ -84,7 +84,7 @@ module _ (s : Session) where
           (either LeftSent (isWritable (one-command.lineSent word arguments) body) _ _ (sent-stanza-left (one-command.lineSent word arguments) body) (λ h. refl)) (λ h. refl)
 
   -- phase two, commands: received
-  module _ (b : two.Buffers) (out : List ℕ) where
+  module _ (b : two.BuffersTwo) (out : List ℕ) where
     abbrev LeftReceivedTwo : receiving-two.Received → Type 0
     LeftReceivedTwo = Left (λ r. takingTwoNumber (r .answer)) (λ n. receiving-two.refusedReceipt n s b out)
 

@@ -14,7 +14,7 @@ use Rattle.stanza.specs.Grammar.{stanzaText}
 use Rattle.stanza.specs.Writing.{isWritable, written, bufferAfter}
 use Rattle.phase_one.specs.Commands.{CommandOne, WordOne, lineSent}
 use Rattle.session.specs.Tables.{Tables}
-use Rattle.phase_one.specs.PhaseOne.{Buffers, decided, applied, filledBy, commandIn, payloadIn, numberOne, tablesOne, buffersOne}
+use Rattle.phase_one.specs.PhaseOne.{BuffersOne, decided, applied, filledBy, commandIn, payloadIn, numberOne, tablesOne, buffersOne}
 use Rattle.refusal.specs.Verdict.{firstOf}
 use Rattle.phase_one.specs.Turns.{turnOne, phaseAfter, phaseSent}
 use Rattle.session.specs.declared.opening.Machine.{Machine}
@@ -26,14 +26,14 @@ use Rattle.conversation.proofs.Laws.Firsts.{first-iff, short-none}
 abbrev sessionIn : Machine → List ℕ → Bool → Phase → Tables → Session
 sessionIn m g x p t = record { machine = m; name = g; screen = x; phase = p; tables = t }
 
-abbrev sending : Answer → Session → Buffers → List ℕ → Sent
+abbrev sending : Answer → Session → BuffersOne → List ℕ → Sent
 sending a s b out = record { answer = a; session = s; buffers = b; output = out }
 
 -- what is answered and written where the output is long enough
 pub answered-whole : (w out : List ℕ) → overflows w out ≡ false → (answered w out ≡ bytes (length w))
 answered-whole w out e = ap (λ f. pick f (refused 15) (bytes (length w))) e
 
-module _ (m : Machine) (g : List ℕ) (x : Bool) (q : Phase) (t : Tables) (b : Buffers) (l y out : List ℕ) (w : isWritable l y ≡ true) where
+module _ (m : Machine) (g : List ℕ) (x : Bool) (q : Phase) (t : Tables) (b : BuffersOne) (l y out : List ℕ) (w : isWritable l y ≡ true) where
   step-is :
       sending (pick (eqb (numberOne m g t b (shortness (stanzaText l y) out) l y) 0) (written l y out) (refused (numberOne m g t b (shortness (stanzaText l y) out) l y))) (sessionIn m g x (phaseSent q (numberOne m g t b (shortness (stanzaText l y) out) l y) (commandIn m g l y)) (tablesOne m g t b (shortness (stanzaText l y) out) l y)) (buffersOne m g t b (shortness (stanzaText l y) out) l y)
       (pick (eqb (numberOne m g t b (shortness (stanzaText l y) out) l y) 0) (bufferAfter l y out) out) ≡ sentStanza (sessionIn m g x q t) b l y out
@@ -52,25 +52,25 @@ module _ (m : Machine) (g : List ℕ) (x : Bool) (q : Phase) (t : Tables) (b : B
       go false h = refl
 
   -- a stanza that can be written, where the name is said otherwise
-  pub sent-from : (g′ : List ℕ) (late n : ℕ) (c : CommandOne) (a : Answer) (p : Phase) (t′ : Tables) (b′ : Buffers) (o′ : List ℕ) → g′ ≡ g → late ≡ shortness (stanzaText l y) out →
+  pub sent-from : (g′ : List ℕ) (late n : ℕ) (c : CommandOne) (a : Answer) (p : Phase) (t′ : Tables) (b′ : BuffersOne) (o′ : List ℕ) → g′ ≡ g → late ≡ shortness (stanzaText l y) out →
       n ≡ numberOne m g′ t b late l y → c ≡ commandIn m g′ l y → a ≡ pick (eqb n 0) (written l y out) (refused n) → p ≡ phaseSent q n c → t′ ≡ tablesOne m g′ t b late l y → b′ ≡ buffersOne m g′ t b late l y →
       o′ ≡ pick (eqb n 0) (bufferAfter l y out) out → sending a (sessionIn m g x p t′) b′ o′ ≡ sentLine (sessionIn m g x q t) b l y out
   sent-from g′ late n c a p t′ b′ o′ eg el en ec ea ep et eb eo =
       rw (ea, ep, et, eb, eo, en, ec, eg, el) (step-is ∙ sym (ap (λ z. pick z (sentStanza (sessionIn m g x q t) b l y out) (refusedSending 17 (sessionIn m g x q t) b out)) w))
 
 -- a line that cannot be written
-pub sent-unwritable : (s : Session) (b : Buffers) (l y out : List ℕ) → isWritable l y ≡ false → sending (refused 17) s b out ≡ sentLine s b l y out
+pub sent-unwritable : (s : Session) (b : BuffersOne) (l y out : List ℕ) → isWritable l y ≡ false → sending (refused 17) s b out ≡ sentLine s b l y out
 sent-unwritable s b l y out w = sym (ap (λ z. pick z (sentStanza s b l y out) (refusedSending 17 s b out)) w)
 
 -- ---- whose turn it is
 
-pub sent-out-of-turn : (s : Session) (word : WordOne) (arguments body : List ℕ) (b : Buffers) (out : List ℕ) (n : ℕ) → n ≡ turnOne (s .phase) → eqb n 0 ≡ false → sending (refused n) s b out ≡ sent s word arguments body b out
+pub sent-out-of-turn : (s : Session) (word : WordOne) (arguments body : List ℕ) (b : BuffersOne) (out : List ℕ) (n : ℕ) → n ≡ turnOne (s .phase) → eqb n 0 ≡ false → sending (refused n) s b out ≡ sent s word arguments body b out
 unfolding sent
 sent-out-of-turn s word arguments body b out n e f =
     let z : eqb (turnOne (s .phase)) 0 ≡ false = ap (λ j. eqb j 0) (sym e) ∙ f in
     ap (λ j. sending (refused j) s b out) e ∙ ap (λ q. pick q (sentLine s b (lineSent word arguments) body out) (refusedSending (turnOne (s .phase)) s b out)) (sym z)
 
-pub sent-in-turn : (s : Session) (word : WordOne) (arguments body : List ℕ) (b : Buffers) (out : List ℕ) → 0 ≡ turnOne (s .phase) →
+pub sent-in-turn : (s : Session) (word : WordOne) (arguments body : List ℕ) (b : BuffersOne) (out : List ℕ) → 0 ≡ turnOne (s .phase) →
     sentLine s b (lineSent word arguments) body out ≡ sent s word arguments body b out
 unfolding sent
 sent-in-turn s word arguments body b out e = ap (λ n. pick (eqb n 0) (sentLine s b (lineSent word arguments) body out) (refusedSending n s b out)) e

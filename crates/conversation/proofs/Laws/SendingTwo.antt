@@ -21,7 +21,7 @@ use Rattle.session.specs.declared.phases.Phase.the-variants.{One, Two, Awaiting
 use Rattle.session.specs.Session.{Session}
 use Rattle.conversation.specs.Sending.{shortness}
 use Rattle.conversation.specs.CommandsTwo.{CommandTwo, rowTwo, wordTwo, commandTwo, payloadOf, lineSent}
-use Rattle.conversation.specs.PhaseTwo.{Buffers, buffersOf, when, isSpaceless, ruled, decided, applied, filledBy}
+use Rattle.conversation.specs.PhaseTwo.{BuffersTwo, buffersOf, when, isSpaceless, ruled, decided, applied, filledBy}
 use Rattle.conversation.specs.TurnsTwo.{turnTwo}
 use Rattle.conversation.specs.SendingTwo.{phaseSent, Sent, refusedSending, numberSent, sentLine, sent}
 use Rattle.conversation.proofs.Laws.Firsts.{first-iff, short-none}
@@ -30,14 +30,14 @@ use Rattle.conversation.proofs.Laws.Sending.{answered-whole}
 abbrev sessionIn : Machine → List ℕ → Bool → Phase → Tables → Session
 sessionIn m g x p t = record { machine = m; name = g; screen = x; phase = p; tables = t }
 
-abbrev sending : Answer → Session → Buffers → List ℕ → Sent
+abbrev sending : Answer → Session → BuffersTwo → List ℕ → Sent
 sending a s b out = record { answer = a; session = s; buffers = b; output = out }
 
 -- the three buffers, one by one
-pub buffers-two-are : (e s r : List ℕ) (b : Buffers) → e ≡ b .errors → s ≡ b .stanzas → r ≡ b .returned → buffersOf e s r ≡ b
+pub buffers-two-are : (e s r : List ℕ) (b : BuffersTwo) → e ≡ b .errors → s ≡ b .stanzas → r ≡ b .returned → buffersOf e s r ≡ b
 buffers-two-are e s r b h i j = rw (h, i, j)
 
-module _ (m : Machine) (g : List ℕ) (x : Bool) (q : Phase) (t : Tables) (b : Buffers) (l y out : List ℕ) (w : isWritable l y ≡ true) where
+module _ (m : Machine) (g : List ℕ) (x : Bool) (q : Phase) (t : Tables) (b : BuffersTwo) (l y out : List ℕ) (w : isWritable l y ≡ true) where
   -- what it comes to, by its command, its number and whether it is accepted
   abbrev came : CommandTwo → ℕ → Bool → Sent
   came c n f =
@@ -59,7 +59,7 @@ module _ (m : Machine) (g : List ℕ) (x : Bool) (q : Phase) (t : Tables) (b : B
   parts c n false h = refl
 
   -- a stanza that can be written, by its command, what is ruled, the output's shortness and the number
-  pub sent-from : (c : CommandTwo) (r late n : ℕ) (a : Answer) (p : Phase) (t′ : Tables) (b′ : Buffers) (o′ : List ℕ) →
+  pub sent-from : (c : CommandTwo) (r late n : ℕ) (a : Answer) (p : Phase) (t′ : Tables) (b′ : BuffersTwo) (o′ : List ℕ) →
       c ≡ rowTwo (wordTwo m (argumentOf l 0)) m l (length y) → r ≡ ruled true t c → late ≡ shortness (stanzaText l y) out →
       n ≡ firstOf (firstOf r (when (isSpaceless t b c (length (payloadOf c l y))) 8)) late → a ≡ pick (eqb n 0) (written l y out) (refused n) → p ≡ pick (eqb n 0) (phaseSent c) q →
       t′ ≡ pick (eqb (firstOf (firstOf r (when (isSpaceless t b c (length (payloadOf c l y))) 8)) late) 0) (applied t b c (payloadOf c l y)) t →
@@ -72,19 +72,19 @@ module _ (m : Machine) (g : List ℕ) (x : Bool) (q : Phase) (t : Tables) (b : B
       (parts c k (eqb k 0) (λ f. short-none (overflows (stanzaText l y) out) (first-iff (decided true t b c (length (payloadOf c l y))) (shortness (stanzaText l y) out) .0 (eqb-true k 0 f) .1)) ∙ came-is c ec)
 
 -- a line that cannot be written
-pub sent-unwritable : (s : Session) (b : Buffers) (l y out : List ℕ) → isWritable l y ≡ false → sending (refused 17) s b out ≡ sentLine s b l y out
+pub sent-unwritable : (s : Session) (b : BuffersTwo) (l y out : List ℕ) → isWritable l y ≡ false → sending (refused 17) s b out ≡ sentLine s b l y out
 unfolding sentLine
 sent-unwritable s b l y out w = rw w
 
 -- ---- whose turn it is
 
-pub sent-out-of-turn : (s : Session) (word : WordTwo) (arguments body : List ℕ) (b : Buffers) (out : List ℕ) (n : ℕ) → n ≡ turnTwo (s .phase) → eqb n 0 ≡ false → sending (refused n) s b out ≡ sent s word arguments body b out
+pub sent-out-of-turn : (s : Session) (word : WordTwo) (arguments body : List ℕ) (b : BuffersTwo) (out : List ℕ) (n : ℕ) → n ≡ turnTwo (s .phase) → eqb n 0 ≡ false → sending (refused n) s b out ≡ sent s word arguments body b out
 unfolding sent
 sent-out-of-turn s word arguments body b out n e f =
     let z : eqb (turnTwo (s .phase)) 0 ≡ false = ap (λ j. eqb j 0) (sym e) ∙ f in
     ap (λ j. sending (refused j) s b out) e ∙ ap (λ q. pick q (sentLine s b (lineSent word arguments) body out) (refusedSending (turnTwo (s .phase)) s b out)) (sym z)
 
-pub sent-in-turn : (s : Session) (word : WordTwo) (arguments body : List ℕ) (b : Buffers) (out : List ℕ) → 0 ≡ turnTwo (s .phase) →
+pub sent-in-turn : (s : Session) (word : WordTwo) (arguments body : List ℕ) (b : BuffersTwo) (out : List ℕ) → 0 ≡ turnTwo (s .phase) →
     sentLine s b (lineSent word arguments) body out ≡ sent s word arguments body b out
 unfolding sent
 sent-in-turn s word arguments body b out e = ap (λ n. pick (eqb n 0) (sentLine s b (lineSent word arguments) body out) (refusedSending n s b out)) e

@@ -27,9 +27,9 @@ use Rattle.session.specs.declared.opening.Machine.the-variants.{RecipientV1, Id
 use Rattle.session.specs.declared.phases.Phase.the-variants.{One}
 use Rattle.phase_one.specs.Commands.{WordOne, add-recipient, add-identity, wrap-file-key, recipient-stanza, done-word, other-word, addRecipient, addIdentity, wrapFileKey, recipientStanza, doneWord, wordIn, CommandOne, recipient, identity, key, header, done, other, bad, textOfKind, textCommand, headerMark, indexed, isBare, rowCommand, wordOf}
 use Rattle.session.specs.Tables.{Tables}
-use Rattle.phase_one.specs.PhaseOne.{Buffers, falls, decided, applied, filledBy, payloadIn}
+use Rattle.phase_one.specs.PhaseOne.{BuffersOne, falls, decided, applied, filledBy, payloadIn}
 use Rattle.refusal.specs.Verdict.{firstOf}
-use Rattle.phase_one.specs.Views.{Kind, recipients, identities, keys, headers, tableOf, bufferOf, viewOf, rowsOf}
+use Rattle.phase_one.specs.Views.{KindOne, recipients, identities, keys, headers, tableOf, bufferOf, viewOf, rowsOf}
 use Rattle.phase_one.proofs.Laws.Views.{Reached, applied-reached, applied-view, payload-stored, space, header-space}
 use Rattle.phase_one.specs.Turns.{phaseAfter}
 use Rattle.session.specs.Session.{Session, moved, openedSession}
@@ -109,9 +109,9 @@ proper-phase (bad n) h = refl
 
 -- ---- what the decision says of each kind
 
-module _ (t : Tables) (b : Buffers) where
+module _ (t : Tables) (b : BuffersOne) where
   -- by the command alone: in its own kind one entry more, where it fits; nothing in another
-  pub grown : (c : CommandOne) (p : List ℕ) (k : Kind) →
+  pub grown : (c : CommandOne) (p : List ℕ) (k : KindOne) →
       Grown k (tableOf k t) (bufferOf k b) (decided t b c (length p)) (rowsOf c k p) (tableOf k (applied t b c p)) (bufferOf k (filledBy t b c p))
   grown (recipient m) p recipients = more p 0 m (λ z. (space (fits (t .recipients) (length p) (length (b .recipients))) z, tt))
   grown (recipient m) p identities = unchanged
@@ -144,11 +144,11 @@ module _ (t : Tables) (b : Buffers) where
 
   -- every kind's table and buffer
   abbrev pub Going : Type 0
-  Going = (k : Kind) → Held k (tableOf k t) (bufferOf k b)
+  Going = (k : KindOne) → Held k (tableOf k t) (bufferOf k b)
 
   -- rows more are within every kind's limits
-  abbrev pub Fitting : (Kind → List Row) → Type 0
-  Fitting rows = (k : Kind) → Within k (length (bufferOf k b)) (viewOf k t b ++ rows k)
+  abbrev pub Fitting : (KindOne → List Row) → Type 0
+  Fitting rows = (k : KindOne) → Within k (length (bufferOf k b)) (viewOf k t b ++ rows k)
 
   decided-zero : (c : CommandOne) (p : List ℕ) → Going → isRight c ≡ true → Fitting (λ k. rowsOf c k p) → decided t b c (length p) ≡ 0
   decided-zero (recipient m) p g h w = rw (within-fits (t .recipients) (b .recipients) (record { payload = p; index = 0; mark = m }) recipients (g recipients) (w recipients) .0)
@@ -181,7 +181,7 @@ module _ (machine : Machine) (name : List ℕ) where
   proper : (x : List ℕ) → Proper (isDone x) (commandOf machine name x)
   proper x = word-proper name (lineIn x) (length (bodyIn x)) machine (argumentOf (lineIn x) 0)
 
-  module _ (t : Tables) (b : Buffers) where
+  module _ (t : Tables) (b : BuffersOne) where
     -- the decision of a text; the tables and the buffers behind it where it is accepted
     abbrev pub judged : List ℕ → ℕ
     judged x = decided t b (commandOf machine name x) (length (payload x))
@@ -189,7 +189,7 @@ module _ (machine : Machine) (name : List ℕ) where
     abbrev pub tablesWith : List ℕ → Tables
     tablesWith x = applied t b (commandOf machine name x) (payload x)
 
-    abbrev pub buffersWith : List ℕ → Buffers
+    abbrev pub buffersWith : List ℕ → BuffersOne
     buffersWith x = filledBy t b (commandOf machine name x) (payload x)
 
     -- it is accepted exactly if it is right and its rows are within the limits
@@ -204,10 +204,10 @@ module _ (machine : Machine) (name : List ℕ) where
       reached k = g k .reached
 
       -- then its rows stand behind those of before, and buffers keep their lengths
-      pub view-with : (k : Kind) → viewOf k (tablesWith x) (buffersWith x) ≡ viewOf k t b ++ rowsFrom machine name k x
+      pub view-with : (k : KindOne) → viewOf k (tablesWith x) (buffersWith x) ≡ viewOf k t b ++ rowsFrom machine name k x
       view-with k = applied-view t b (payload x) reached (commandOf machine name x) z k
 
-      pub length-with : (k : Kind) → length (bufferOf k (buffersWith x)) ≡ length (bufferOf k b)
+      pub length-with : (k : KindOne) → length (bufferOf k (buffersWith x)) ≡ length (bufferOf k b)
       length-with k = grown-length (grown t b (commandOf machine name x) (payload x) k) z
 
       pub going-with : Going (tablesWith x) (buffersWith x)
@@ -221,7 +221,7 @@ module _ (machine : Machine) (name : List ℕ) where
   going screen t = moved (openedSession machine name screen) One t
 
   -- phase two's buffers are lent beside and stay
-  module _ (screen : Bool) (t : Tables) (b : Buffers) (later : two.Buffers) where
+  module _ (screen : Bool) (t : Tables) (b : BuffersOne) (later : two.BuffersTwo) where
     abbrev now : Session
     now = going screen t
 

@@ -23,7 +23,7 @@ use Rattle.stanza.proofs.Laws.RoundTrip.{read-text, written-read}
 use Rattle.stanza.proofs.Laws.Writing.{text-length}
 use Rattle.tables.specs.Tables.{fits}
 use Rattle.session.specs.Tables.{Tables}
-use Rattle.phase_one.specs.PhaseOne.{Buffers, falls, decided, commandIn, payloadIn, numberOne}
+use Rattle.phase_one.specs.PhaseOne.{BuffersOne, falls, decided, commandIn, payloadIn, numberOne}
 use Rattle.phase_one.specs.Commands.{WordOne, add-recipient, add-identity, wrap-file-key, recipient-stanza, done-word, other-word, wordIn, CommandOne, recipient, identity, key, header, done, other, bad, indexed, headerMark, isBare, rowCommand}
 use Rattle.phase_one.specs.Turns.{turnOne}
 use Rattle.session.specs.declared.phases.Phase.{Phase}
@@ -124,7 +124,7 @@ row-not-two recipient-stanza g l n =
 row-not-two done-word g l n = either NotTwo (isBare l n 0) _ _ tt four
 row-not-two other-word g l n = tt
 
-decided-not-two : (t : Tables) (b : Buffers) (c : CommandOne) (n : ℕ) → NotTwo c → decided t b c n ≡ 2 → ⊥
+decided-not-two : (t : Tables) (b : BuffersOne) (c : CommandOne) (n : ℕ) → NotTwo c → decided t b c n ≡ 2 → ⊥
 decided-not-two t b (recipient m) n h = either (λ x. x ≡ 2 → ⊥) (fits (t .recipients) n (length (b .recipients))) 0 8 (λ e. omega arith) (λ e. omega arith)
 decided-not-two t b (identity m) n h = either (λ x. x ≡ 2 → ⊥) (fits (t .identities) n (length (b .identities))) 0 8 (λ e. omega arith) (λ e. omega arith)
 decided-not-two t b key n h = either (λ x. x ≡ 2 → ⊥) (fits (t .keys) n (length (b .keys))) 0 8 (λ e. omega arith) (λ e. omega arith)
@@ -144,7 +144,7 @@ turn-not-two Closed e = omega arith
 
 -- ---- receiving
 
-module _ (s : Session) (b : Buffers) where
+module _ (s : Session) (b : BuffersOne) where
   number-not-two : (line body : List ℕ) → numberOne (s .machine) (s .name) (s .tables) b 0 line body ≡ 2 → ⊥
   number-not-two line body =
       let n = length (payloadIn (s .machine) (s .name) line body) in

@@ -6,7 +6,7 @@ use Rattle.session.specs.declared.sessions.Session.{Session as CodeSession}
 use Rattle.session.specs.declared.kinds.Tables.{Tables as CodeTables}
 use Rattle.session.specs.Tables.{tablesIn}
 use Rattle.session.specs.Session.{sessionOf}
-use Rattle.phase_one.specs.PhaseOne.{Buffers}
+use Rattle.phase_one.specs.PhaseOne.{BuffersOne}
 use Rattle.conversation.specs.Kinds as kinds
 use Rattle.conversation.specs.PhaseTwo as two
 use Rattle.conversation.specs.Receiving.{Taking, took, declined, Received, received}
@@ -18,7 +18,7 @@ same-slots : (t u v : CodeTables) (xs ys hs ks : List (List ℕ)) → tablesIn u
 same-slots t u v xs ys hs ks e =
     rw (ap (λ z. z .recipients .slots) e, ap (λ z. z .identities .slots) e, ap (λ z. z .keys .slots) e, ap (λ z. z .headers .slots) e, ap (λ z. z .errors .slots) e, ap (λ z. z .stanzas .slots) e, ap (λ z. z .returned .slots) e) refl
 
-pub refused-same : (before after : CodeSession) (xs ys hs ks : List (List ℕ)) (b x : Buffers) (text : List ℕ) (a : Taking) (n : ℕ) →
+pub refused-same : (before after : CodeSession) (xs ys hs ks : List (List ℕ)) (b x : BuffersOne) (text : List ℕ) (a : Taking) (n : ℕ) →
     _≡_ {A = Received} (record { answer = a; session = sessionOf after ys ks; buffers = x }) (received (sessionOf before xs hs) text b) → a ≡ declined n → (n ≡ 0 → ⊥) →
     sessionOf before ys ks ≡ sessionOf before xs hs
 refused-same before after xs ys hs ks b x text a n e q z =

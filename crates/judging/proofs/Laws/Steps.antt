@@ -12,7 +12,7 @@ use Rattle.refusal.proofs.Laws.Lists.{part-rest}
 use Rattle.symbols.specs.Charset.{isLower}
 use Rattle.bech32.specs.Text.{isName, isNameByte}
 use Rattle.phase_one.specs.Commands.{WordOne}
-use Rattle.phase_one.specs.PhaseOne.{Buffers, buffersOf}
+use Rattle.phase_one.specs.PhaseOne.{BuffersOne, buffersOf}
 use Rattle.session.specs.Opening.{recipientV1}
 use Rattle.session.specs.Session.{Session, opened}
 use Rattle.conversation.specs.Receiving.{Taking, took, declined, Received, received}
@@ -34,7 +34,7 @@ empty-list (x ∷ l) h = absurd (omega arith)
 
 -- ---- one stanza: the code calls with the part of the window from `at` to its end
 
-module _ (last : Bool) (s after : Session) (b : Buffers) (r i k h : List ℕ) (window : List ℕ) (at : ℕ) (a : Taking) (none : length h ≡ 0)
+module _ (last : Bool) (s after : Session) (b : BuffersOne) (r i k h : List ℕ) (window : List ℕ) (at : ℕ) (a : Taking) (none : length h ≡ 0)
     (e : _≡_ {A = Received} (record { answer = a; session = after; buffers = buffersOf r i k h }) (received s (take (length window - at) (drop at window)) b)) where
   by-answer : (a′ : Taking) → a ≡ a′ → behind at (turnBy last s (record { answer = a′; session = after; buffers = buffersIn r i k })) ≡ behind at (turned last s b (drop at window))
   by-answer a′ q =
@@ -61,11 +61,11 @@ module _ (last : Bool) (s after : Session) (b : Buffers) (r i k h : List ℕ) (w
 -- ---- one turn of the loop
 
 -- where judging has stopped the window's turn is over
-pub step-stopped : (last : Bool) (d : Standing) (x : Judged) (b : Buffers) (at : ℕ) (text : List ℕ) → d ≡ stopped x → behind at (judgedFrom last d b text) ≡ turnOf d b at
+pub step-stopped : (last : Bool) (d : Standing) (x : Judged) (b : BuffersOne) (at : ℕ) (text : List ℕ) → d ≡ stopped x → behind at (judgedFrom last d b text) ≡ turnOf d b at
 step-stopped last d x b at text e =
     ap (λ y. behind at (judgedFrom last y b text)) e ∙ ap (behind at) (ended (suc (length text)) last x b text) ∙ behind-stays (stopped x) b at ∙ ap (λ y. turnOf y b at) (sym e)
 
-module _ (last : Bool) (window : List ℕ) (at : ℕ) (s : Session) (b : Buffers) (fits : at ≤ length window)
+module _ (last : Bool) (window : List ℕ) (at : ℕ) (s : Session) (b : BuffersOne) (fits : at ≤ length window)
     (d : Standing) (goes : d ≡ going s) (u : Turn) (e : u ≡ behind at (turned last s b (drop at window))) where
   pub step-within : (at ≤ u .taken) × (u .taken ≤ length window)
   step-within =
@@ -93,5 +93,5 @@ module _ (last : Bool) (window : List ℕ) (at : ℕ) (s : Session) (b : Buffers
 
 -- ---- a whole text
 
-pub whole : (u : Turn) (d : Standing) (b : Buffers) (text : List ℕ) → u ≡ judgedFrom true d b text → d ≡ going start → u ≡ judgedText b text
+pub whole : (u : Turn) (d : Standing) (b : BuffersOne) (text : List ℕ) → u ≡ judgedFrom true d b text → d ≡ going start → u ≡ judgedText b text
 whole u d b text e q = e ∙ ap (λ x. judgedFrom true x b text) q

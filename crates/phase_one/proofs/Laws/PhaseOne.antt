@@ -13,7 +13,7 @@ use Rattle.refusal.specs.Pick.{pick}
 use Rattle.phase_one.specs.Commands.{CommandOne, recipient, identity, key, header, done, other, bad, restOf, payloadOf}
 use Rattle.session.specs.declared.opening.Machine.{Machine}
 use Rattle.session.specs.Tables.{Tables}
-use Rattle.phase_one.specs.PhaseOne.{Buffers, buffersOf, falls, decided, applied, filledBy, commandIn, payloadIn, numberOne, tablesOne, buffersOne}
+use Rattle.phase_one.specs.PhaseOne.{BuffersOne, buffersOf, falls, decided, applied, filledBy, commandIn, payloadIn, numberOne, tablesOne, buffersOne}
 use Rattle.refusal.specs.Verdict.{firstOf}
 
 -- a choice within, and a choice between the same
@@ -37,12 +37,12 @@ module _ (t : Table) (index : ℕ) where
 
 -- ---- one command, by what it was parsed as and what storing it came to
 
-module _ (m : Machine) (g : List ℕ) (t : Tables) (b : Buffers) (z : ℕ) (l y : List ℕ) where
+module _ (m : Machine) (g : List ℕ) (t : Tables) (b : BuffersOne) (z : ℕ) (l y : List ℕ) where
   -- what a step comes to
-  abbrev pub Stepped : ℕ → Tables → Buffers → Type 0
+  abbrev pub Stepped : ℕ → Tables → BuffersOne → Type 0
   Stepped v t′ b′ = (v ≡ numberOne m g t b z l y) × ((t′ ≡ tablesOne m g t b z l y) × (b′ ≡ buffersOne m g t b z l y))
 
-  pub stepped : (x : CommandOne) (v : ℕ) (t′ : Tables) (b′ : Buffers) → x ≡ commandIn m g l y → v ≡ firstOf (decided t b x (length (payloadOf x l y))) z →
+  pub stepped : (x : CommandOne) (v : ℕ) (t′ : Tables) (b′ : BuffersOne) → x ≡ commandIn m g l y → v ≡ firstOf (decided t b x (length (payloadOf x l y))) z →
       t′ ≡ pick (eqb (firstOf (decided t b x (length (payloadOf x l y))) z) 0) (applied t b x (payloadOf x l y)) t →
       b′ ≡ pick (eqb (firstOf (decided t b x (length (payloadOf x l y))) z) 0) (filledBy t b x (payloadOf x l y)) b → Stepped v t′ b′
   stepped x v t′ b′ e q u w = (
@@ -116,7 +116,7 @@ module _ (m : Machine) (g : List ℕ) (t : Tables) (b : Buffers) (z : ℕ) (l y 
       (ap (λ x. buffersOf (b .recipients) (b .identities) (b .keys) x) w ∙ pick-in s (λ x. buffersOf (b .recipients) (b .identities) (b .keys) x) _ _ ∙ rw f)
 
 -- ---- an accepted command
-module _ (m : Machine) (g : List ℕ) (t : Tables) (b : Buffers) (z : ℕ) (l y : List ℕ) where
+module _ (m : Machine) (g : List ℕ) (t : Tables) (b : BuffersOne) (z : ℕ) (l y : List ℕ) where
   pub accepted-one : (x : CommandOne) → x ≡ commandIn m g l y → numberOne m g t b z l y ≡ 0 →
       (applied t b x (payloadOf x l y) ≡ tablesOne m g t b z l y) × (filledBy t b x (payloadOf x l y) ≡ buffersOne m g t b z l y)
   accepted-one x e q =
@@ -126,5 +126,5 @@ module _ (m : Machine) (g : List ℕ) (t : Tables) (b : Buffers) (z : ℕ) (l y 
       )
 
 -- the four buffers, one by one
-pub buffers-are : (r i k h : List ℕ) (b : Buffers) → (r ≡ b .recipients) × ((i ≡ b .identities) × ((k ≡ b .keys) × (h ≡ b .headers))) → buffersOf r i k h ≡ b
+pub buffers-are : (r i k h : List ℕ) (b : BuffersOne) → (r ≡ b .recipients) × ((i ≡ b .identities) × ((k ≡ b .keys) × (h ≡ b .headers))) → buffersOf r i k h ≡ b
 buffers-are r i k h b e = rw (e .0, e .1 .0, e .1 .1 .0, e .1 .1 .1)

@@ -10,7 +10,7 @@ use borrow.Author.Tests.{eqb-true}
 use Rattle.refusal.specs.Pick.{pick}
 use Rattle.refusal.proofs.Laws.Booleans.{cases, and-true}
 use Rattle.stanza.specs.Arguments.{isLine, countOf, argumentOf}
-use Rattle.stanza.specs.Index.{Reading, number, refused, readIndex}
+use Rattle.stanza.specs.Index.{ReadIndex, number, refused, readIndex}
 use Rattle.stanza.proofs.Laws.Arguments.{argument-some}
 use Rattle.bech32.specs.Text.{parse}
 use Rattle.bech32.specs.Calls.{formOf, markOf}
@@ -20,14 +20,14 @@ use Rattle.phase_one.specs.Commands.{WordOne, add-recipient, add-identit
 use Rattle.tables.specs.Tables.{Table, fits, entered, kept, view}
 use Rattle.session.specs.declared.opening.Machine.{Machine}
 use Rattle.session.specs.Tables.{Tables, openedTables}
-use Rattle.phase_one.specs.PhaseOne.{Buffers, falls, decided, applied, filledBy, commandIn, payloadIn, numberOne, tablesOne, buffersOne}
+use Rattle.phase_one.specs.PhaseOne.{BuffersOne, falls, decided, applied, filledBy, commandIn, payloadIn, numberOne, tablesOne, buffersOne}
 use Rattle.refusal.specs.Verdict.{firstOf}
-use Rattle.phase_one.specs.Views.{Kind, recipients, identities, keys, headers, tableOf, viewOf, rowsOf}
+use Rattle.phase_one.specs.Views.{KindOne, recipients, identities, keys, headers, tableOf, viewOf, rowsOf}
 use Rattle.tables.proofs.Laws.Tables.{Kept, Filled, opened-filled, entered-filled, entered-view}
 
 -- tables that an opening and calls can reach
 unfoldable pub Reached : Tables → Type 0
-Reached t = (k : Kind) → Filled (tableOf k t)
+Reached t = (k : KindOne) → Filled (tableOf k t)
 
 pub opened-reached : Reached openedTables
 unfolding Reached
@@ -47,7 +47,7 @@ Stored other p = Unit
 Stored (bad n) p = Unit
 
 -- commands keep them so
-pub applied-reached : (t : Tables) (b : Buffers) (c : CommandOne) (p : List ℕ) → Stored c p → Reached t → Reached (applied t b c p)
+pub applied-reached : (t : Tables) (b : BuffersOne) (c : CommandOne) (p : List ℕ) → Stored c p → Reached t → Reached (applied t b c p)
 unfolding Reached
 applied-reached t b (recipient m) p h r recipients = entered-filled (t .recipients) (length p) 0 m (length (b .recipients)) (r recipients) h
 applied-reached t b (recipient m) p h r identities = r identities
@@ -83,15 +83,15 @@ own : (t : Table) (p b : List ℕ) (index mark : ℕ) → Kept t → fits t (len
     view (entered t (length p) index mark (length b)) (kept t p b) ≡ view t b ++ (record { payload = p; index = index; mark = mark } ∷ [])
 own t p b index mark k f = entered-view t p b index mark k ∙ ap (λ x. pick x (view t b ++ (record { payload = p; index = index; mark = mark } ∷ [])) (view t b)) f
 
-module _ (t : Tables) (b : Buffers) (p : List ℕ) (r : Reached t) where
-  none : (k : Kind) → viewOf k t b ≡ viewOf k t b ++ []
+module _ (t : Tables) (b : BuffersOne) (p : List ℕ) (r : Reached t) where
+  none : (k : KindOne) → viewOf k t b ≡ viewOf k t b ++ []
   none k = sym (append-nil (viewOf k t b))
 
-  kept-of : (k : Kind) → Kept (tableOf k t)
+  kept-of : (k : KindOne) → Kept (tableOf k t)
   unfolding Reached
   kept-of k = r k .kept-so
 
-  pub applied-view : (c : CommandOne) → decided t b c (length p) ≡ 0 → (k : Kind) → viewOf k (applied t b c p) (filledBy t b c p) ≡ viewOf k t b ++ rowsOf c k p
+  pub applied-view : (c : CommandOne) → decided t b c (length p) ≡ 0 → (k : KindOne) → viewOf k (applied t b c p) (filledBy t b c p) ≡ viewOf k t b ++ rowsOf c k p
   applied-view (recipient m) h recipients = own (t .recipients) p (b .recipients) 0 m (kept-of recipients) (space (fits (t .recipients) (length p) (length (b .recipients))) h)
   applied-view (recipient m) h identities = none identities
   applied-view (recipient m) h keys = none keys
@@ -132,7 +132,7 @@ module _ (g l y : List ℕ) (a : isLine l ≡ true) where
   done-stored true = tt
   done-stored false = tt
 
-  header-stored : (f : Bool) (i : Reading) (m : ℕ) → Stored (pick f (indexed i m) (bad 4)) (payloadOf (pick f (indexed i m) (bad 4)) l y)
+  header-stored : (f : Bool) (i : ReadIndex) (m : ℕ) → Stored (pick f (indexed i m) (bad 4)) (payloadOf (pick f (indexed i m) (bad 4)) l y)
   header-stored true (number i) m = simp length-append (omega arith)
   header-stored true (refused n) m = tt
   header-stored false i m = tt
@@ -151,7 +151,7 @@ module _ (g l y : List ℕ) (a : isLine l ≡ true) where
   pub payload-stored : (m : Machine) → Stored (commandIn m g l y) (payloadIn m g l y)
   payload-stored m = row-stored (wordIn m (argumentOf l 0))
 
-module _ (m : Machine) (g : List ℕ) (t : Tables) (b : Buffers) (z : ℕ) (l y : List ℕ) (r : Reached t) where
+module _ (m : Machine) (g : List ℕ) (t : Tables) (b : BuffersOne) (z : ℕ) (l y : List ℕ) (r : Reached t) where
   pub one-reached : isLine l ≡ true → Reached (tablesOne m g t b z l y)
   one-reached a =
       cases (eqb (numberOne m g t b z l y) 0)
@@ -159,7 +159,7 @@ module _ (m : Machine) (g : List ℕ) (t : Tables) (b : Buffers) (z : ℕ) (l y 
       (λ e. subst Reached (sym (ap (λ x. pick x (applied t b (commandIn m g l y) (payloadIn m g l y)) t) e)) r)
 
   -- the rows that it adds: one to its kind's table if it is accepted; none if it is refused, or ignored
-  pub one-view : (k : Kind) → viewOf k (tablesOne m g t b z l y) (buffersOne m g t b z l y) ≡ viewOf k t b ++ pick (eqb (numberOne m g t b z l y) 0) (rowsOf (commandIn m g l y) k (payloadIn m g l y)) []
+  pub one-view : (k : KindOne) → viewOf k (tablesOne m g t b z l y) (buffersOne m g t b z l y) ≡ viewOf k t b ++ pick (eqb (numberOne m g t b z l y) 0) (rowsOf (commandIn m g l y) k (payloadIn m g l y)) []
   one-view k =
       both (eqb (numberOne m g t b z l y) 0)
       (λ e. applied-view t b (payloadIn m g l y) r (commandIn m g l y) (first-zero (decided t b (commandIn m g l y) (length (payloadIn m g l y))) z (eqb-true (numberOne m g t b z l y) 0 e)) k)

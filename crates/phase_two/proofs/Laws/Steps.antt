@@ -10,7 +10,7 @@ use Rattle.refusal.specs.Verdict.{firstOf}
 use Rattle.tables.specs.Tables.{Table, fits, storing, entered, kept}
 use Rattle.session.specs.Tables.{Tables}
 use Rattle.conversation.specs.CommandsTwo.{Named, CommandTwo, stanza, key, error}
-use Rattle.conversation.specs.PhaseTwo.{Buffers, buffersOf, when, applied, filledBy, markOf, indexOf}
+use Rattle.conversation.specs.PhaseTwo.{BuffersTwo, buffersOf, when, applied, filledBy, markOf, indexOf}
 use Rattle.phase_two.specs.Steps.{numberStepped}
 
 -- a choice within
@@ -22,9 +22,9 @@ space-as : (f : Bool) (late : ℕ) → firstOf (pick f 0 8) late ≡ firstOf (fi
 space-as true late = refl
 space-as false late = refl
 
-module _ (t : Tables) (b : Buffers) (p : List ℕ) (late : ℕ) where
+module _ (t : Tables) (b : BuffersTwo) (p : List ℕ) (late : ℕ) where
   -- what a command with the payload p comes to: its number, the tables and the buffers, where the tables rule n of it
-  abbrev pub Stepped : ℕ → CommandTwo → ℕ → Tables → Buffers → Type 0
+  abbrev pub Stepped : ℕ → CommandTwo → ℕ → Tables → BuffersTwo → Type 0
   Stepped n c v t′ b′ =
       (v ≡ numberStepped n t b c p late)
       × ((t′ ≡ pick (eqb (numberStepped n t b c p late) 0) (applied t b c p) t) × (b′ ≡ pick (eqb (numberStepped n t b c p late) 0) (filledBy t b c p) b))
