@@ -2,7 +2,7 @@
 -- two as the plugin end speaks it, sendings with the responses received.
 use Prim.Native.Nat.{ℕ, zero, suc, _+_, _<_, _≤_}
 use mathlib.Core.Path.{_≡_}
-use mathlib.Core.Bool.{Bool, true, false, _&&_}
+use mathlib.Core.Bool.{Bool, true, false}
 use mathlib.Core.Logic.{_⊎_}
 use mathlib.Core.List.{List, [], _∷_, _++_, map}
 use lib.Dec.{eqb}
@@ -25,7 +25,7 @@ use Rattle.conversation.specs.CommandsTwo as two-command
 use Rattle.conversation.specs.CommandsTwo.{CommandTwo, lineSent}
 use Rattle.conversation.specs.PhaseTwo as two
 use Rattle.conversation.specs.PhaseTwo.{errors, stanzas, returned}
-use Rattle.conversation.specs.Phases.{All, Whole, lineIn, bodyIn, commandOf, rowsFrom, commandIn, payloadIn, isError, isStanzaFor, Reply, Block, Supply, skip}
+use Rattle.conversation.specs.Phases.{All, lineIn, bodyIn, commandOf, rowsFrom, commandIn, payloadIn, isStanzaFor, Reply, Block, Supply, skip}
 
 -- ---- phase one
 

@@ -1,6 +1,5 @@
 -- Answers (document 00, demand 2: "Each phase-two command but done is answered exactly once if it is accepted and its phase ends"): what the accepted calls of a list
 -- ask and answer, in order, at both ends.
-use Prim.Native.Nat.{ℕ}
 use mathlib.Core.Path.{_≡_}
 use mathlib.Core.Bool.{true}
 use mathlib.Core.List.{List, [], _∷_, _++_}

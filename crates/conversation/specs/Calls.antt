@@ -5,7 +5,7 @@ use mathlib.Core.Path.{_≡_}
 use mathlib.Core.Bool.{Bool, true, false}
 use mathlib.Core.List.{List, [], _∷_, _++_}
 use lib.Dec.{eqb}
-use lib.ListN.{length, take, drop}
+use lib.ListN.{take, drop}
 use Rattle.base64.specs.Lines.{bodyOf}
 use Rattle.refusal.specs.Output.{Answer, bytes, refused}
 use Rattle.refusal.specs.Pick.{pick}

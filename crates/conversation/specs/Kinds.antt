@@ -1,7 +1,6 @@
 -- The seven kinds, and their buffers (document 01: "A kind's table is its accepted commands in order (returned stanzas and keys: file by file), each with payload,
 -- index, unsound mark and what an error names").
 use Prim.Native.Nat.{ℕ}
-use mathlib.Core.Bool.{Bool}
 use mathlib.Core.List.{List, [], _∷_, _++_}
 use lib.Dec.{eqb}
 use Rattle.refusal.specs.Pick.{pick}

@@ -22,7 +22,7 @@ use Rattle.session.specs.declared.opening.Machine.{Machine}
 use Rattle.conversation.specs.Calls.{Call, receive, send, receive-two, reply, send-two, respond, isClient, outcome, outputIn, writtenBy, State, after, written, lineRead, bodyRead, Accepted}
 use Rattle.conversation.specs.CommandsTwo as two-command
 use Rattle.conversation.specs.CommandsTwo.{CommandTwo}
-use Rattle.conversation.specs.Kinds.{AnyKind, first, second, Buffers, viewOf, ofFile}
+use Rattle.conversation.specs.Kinds.{first, second, Buffers, viewOf, ofFile}
 use Rattle.conversation.specs.PhaseTwo as two
 use Rattle.conversation.specs.ReceivingTwo.{atOnce, textOf}
 use Rattle.session.specs.Session.{Session, openedSession, opened}

@@ -11,7 +11,7 @@ use Rattle.base64.specs.Lines.{bodyOf}
 use Rattle.stanza.specs.Grammar.{stanzaText}
 use Rattle.stanza.specs.Reading as reading
 use Rattle.stanza.specs.Reading.{Reading, readFirst}
-use Rattle.responses.specs.Responses.{responseLine, response}
+use Rattle.responses.specs.Responses.{responseLine}
 use Rattle.responses.specs.declared.Response.{Response}
 use Rattle.responses.specs.declared.Response.the-variants.{Ok, Fail, Unsupported}
 use Rattle.session.specs.declared.words.WordTwo.{WordTwo}

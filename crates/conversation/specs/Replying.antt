@@ -8,7 +8,7 @@ use Rattle.refusal.specs.Output.{Answer, bytes, refused, filled}
 use Rattle.refusal.specs.Pick.{pick}
 use Rattle.stanza.specs.Grammar.{stanzaText}
 use Rattle.stanza.specs.Writing.{isWritable}
-use Rattle.responses.specs.Responses.{fitsWhole, responseLine, response}
+use Rattle.responses.specs.Responses.{fitsWhole, responseLine}
 use Rattle.responses.specs.declared.Response.{Response}
 use Rattle.session.specs.declared.words.WordTwo.{WordTwo}
 use Rattle.refusal.specs.Verdict.{firstOf}

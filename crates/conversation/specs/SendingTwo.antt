@@ -9,7 +9,6 @@ use Rattle.refusal.specs.Output.{Answer, bytes, refused, filled}
 use Rattle.refusal.specs.Pick.{pick}
 use Rattle.stanza.specs.Grammar.{stanzaText}
 use Rattle.stanza.specs.Writing.{isWritable}
-use Rattle.responses.specs.Responses.{response}
 use Rattle.session.specs.declared.words.WordTwo.{WordTwo}
 use Rattle.refusal.specs.Verdict.{firstOf}
 use Rattle.session.specs.declared.phases.Phase.{Phase}

@@ -5,7 +5,6 @@ use mathlib.Core.Path.{_≡_}
 use mathlib.Core.Bool.{false}
 use mathlib.Core.List.{List, [], _∷_, _++_, map}
 use lib.ListN.{length, replicate}
-use Rattle.base64.specs.Code.{encoded}
 use Rattle.base64.specs.Lines.{linesOf}
 use Rattle.stanza.specs.Grammar.{stanzaText}
 use Rattle.stanza.specs.Index as index

@@ -1,7 +1,7 @@
 -- Phase one: what is decided of a command, and what it does (document 01, "Phase one" and "Numbers given back").
 use Prim.Native.Nat.{ℕ, _-_}
 use mathlib.Core.Bool.{Bool, _&&_}
-use mathlib.Core.List.{List, []}
+use mathlib.Core.List.{List}
 use lib.Dec.{ltb, leb, eqb}
 use lib.ListN.{length, getD}
 use Rattle.refusal.specs.Pick.{pick}

@@ -1,7 +1,7 @@
 -- The responses of phase two (document 01, "Phase two": the table's column of fitting responses, and the sentences below it).
 use Prim.Native.Nat.{ℕ}
 use mathlib.Core.Bool.{Bool, true, false, _&&_, _||_}
-use mathlib.Core.List.{List, [], _∷_, _++_}
+use mathlib.Core.List.{List, [], _∷_}
 use lib.Dec.{eqb}
 use lib.ListN.{length}
 use Rattle.refusal.specs.Pick.{pick}

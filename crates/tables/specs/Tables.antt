@@ -1,7 +1,7 @@
 -- The tables (document 01, "Phase one": "Each kind has its own numbering from 0 and its own lent room", there called places and rooms).
 use Prim.Native.Nat.{ℕ, _+_}
 use mathlib.Core.Bool.{Bool, _&&_}
-use mathlib.Core.List.{List, [], _∷_, _++_, map}
+use mathlib.Core.List.{List, [], _++_, map}
 use lib.Dec.{ltb, leb}
 use lib.ListN.{length, take, drop, set, getD, replicate}
 use Rattle.refusal.specs.Pick.{pick}

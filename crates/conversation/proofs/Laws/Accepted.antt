@@ -10,7 +10,7 @@ use native.Mathlib.Omega.{arith}
 use borrow.Author.Tests.{eqb-true, eqb-false}
 use Rattle.refusal.specs.Output.{overflows, filled}
 use Rattle.refusal.specs.Pick.{pick}
-use Rattle.refusal.proofs.Laws.Booleans.{and-true, cases}
+use Rattle.refusal.proofs.Laws.Booleans.{and-true}
 use Rattle.stanza.specs.Arguments.{isLine}
 use Rattle.stanza.specs.Automaton.{Scan, bad, short, whole, scan, start}
 use Rattle.stanza.specs.Grammar.{stanzaText}

@@ -5,9 +5,9 @@ use mathlib.Core.Bool.{Bool, true, false, not, _&&_, _||_, true≢false, false�
 use mathlib.Core.Logic.{_⊎_, inl, inr, ⊎-elim, _↔_}
 use mathlib.Core.List.{List, [], _∷_, _++_, map, map-append, append-nil, append-assoc}
 use lib.Dec.{ltb, eqb}
-use lib.ListN.{length, take}
+use lib.ListN.{length}
 use native.Mathlib.Omega.{arith}
-use borrow.Author.Tests.{ltb-true, lt-ltb, ltb-false, eqb-true, eqb-false, eq-eqb, ne-eqb, not-false}
+use borrow.Author.Tests.{ltb-true, lt-ltb, eqb-true, eqb-false, eq-eqb, ne-eqb, not-false}
 use Rattle.refusal.specs.Pick.{pick}
 use Rattle.refusal.specs.Same.{same}
 use Rattle.refusal.proofs.Laws.Booleans.{and-true, true-and, cases}
@@ -24,7 +24,7 @@ use Rattle.refusal.specs.Verdict.{firstOf}
 use Rattle.phase_one.specs.Views as one-kind
 use Rattle.phase_one.specs.Views.{recipients, identities, headers}
 use Rattle.session.specs.declared.phases.Phase.the-variants.{Two, Awaiting, Ended}
-use Rattle.conversation.specs.Calls.{Call, send-two, respond, sentNumber, respondedNumber, Outcome, outcome, writtenBy, stateOf, after, numbers, lineRead, bodyRead, AllZero, Accepted}
+use Rattle.conversation.specs.Calls.{Call, send-two, respond, sentNumber, respondedNumber, outcome, writtenBy, stateOf, after, numbers, lineRead, bodyRead, AllZero, Accepted}
 use Rattle.conversation.specs.CommandsTwo.{Named, internal, identity, recipient, header, CommandTwo, ask, stanza, key, error, done, other, bad, wordOf}
 use Rattle.conversation.specs.Kinds.{Buffers, buffersOf}
 use Rattle.conversation.specs.PhaseTwo.{Label, labels, howMany, isAny, passes, isFile, markOf, indexOf, isNaming, isInvalid, anyInvalid, isNonconforming, isUnknown, areReported, allReported, isHeldBack, decided, applied, filledBy, rowsOf, errors}
@@ -35,7 +35,7 @@ use Rattle.conversation.specs.Sending.{shortness}
 use Rattle.conversation.specs.SendingTwo.{phaseSent, Sent, sentLine, sent}
 use Rattle.session.specs.Session.{Session}
 use Rattle.conversation.specs.Allowed.{Left, isRightTwo, RowAt, Present, Said, Exchange, lineOf, commandSent, saidIn, OneResponse, Responded, NoneInvalid, Unheld, Some, Reported, AllReported, RightExchange, AllowedSent, isDoneSent, responseCalls, exchangeCalls, sendingCalls}
-use Rattle.conversation.proofs.Laws.Accepted.{Written, accepted}
+use Rattle.conversation.proofs.Laws.Accepted.{accepted}
 use Rattle.conversation.proofs.Laws.AllowedTwo.{Standing, decided-exact, standing-with, Fitting, fitting-front, fitting-one, fitting-rest, done-word}
 use Rattle.conversation.proofs.Laws.CommandsTwo.{Proper, command-proper}
 use Rattle.conversation.proofs.Laws.Firsts.{first-iff}
@@ -44,7 +44,7 @@ use Rattle.conversation.proofs.Laws.OrderTwo.{leftOf, capacityOf, begin
 use Rattle.conversation.proofs.Laws.PresentTwo.{Shows}
 use Rattle.conversation.proofs.Laws.Reached.{JustReached}
 use Rattle.conversation.proofs.Laws.Runs.{accepted-append, enough-append}
-use Rattle.conversation.proofs.Laws.StepsTwo.{long-enough, all-written, at, Settled}
+use Rattle.conversation.proofs.Laws.StepsTwo.{long-enough, at, Settled}
 use Rattle.conversation.proofs.Laws.SumsTwo.{With, not-any, none-any, or-false, false-or, not-is}
 use Rattle.conversation.proofs.Laws.ViewsTwo.{applied-view-two}
 use Rattle.conversation.proofs.Laws.WrittenRead.{front}

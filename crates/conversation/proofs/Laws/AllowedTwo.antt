@@ -1,10 +1,9 @@
 -- Phase two at the client end: exactly the allowed phases are accepted, and what they leave and write.
 use Prim.Native.Nat.{ℕ, _+_, _≤_}
-use mathlib.Core.Path.{_≡_, refl, sym, ap, ap₂, _∙_, subst, subst₂}
-use mathlib.Core.Bool.{Bool, true, false, _&&_, true≢false, false≢true}
+use mathlib.Core.Path.{_≡_, refl, sym, ap, ap₂, _∙_, subst}
+use mathlib.Core.Bool.{Bool, true, false, _&&_, false≢true}
 use mathlib.Core.Logic.{_⊎_, inl, inr, ⊎-elim, _↔_}
-use mathlib.Core.List.{List, [], _∷_, _++_, map, append-nil, append-assoc}
-use lib.Dec.{eqb, leb, ltb}
+use mathlib.Core.List.{List, [], _∷_, _++_, map}
 use lib.ListN.{length}
 use native.Mathlib.Omega.{arith}
 use Rattle.refusal.specs.Pick.{pick}
@@ -13,33 +12,30 @@ use Rattle.refusal.proofs.Laws.Booleans.{cases}
 use Rattle.refusal.proofs.Laws.Same.{same-eq}
 use Rattle.stanza.specs.Arguments.{argumentOf}
 use Rattle.session.specs.declared.words.WordTwo.{WordTwo}
-use Rattle.tables.specs.Tables.{Table, Row, fits, entered, kept, placed}
-use Rattle.tables.proofs.Laws.Tables.{Kept, entered-kept}
+use Rattle.tables.specs.Tables.{Table, fits, entered, kept}
+use Rattle.tables.proofs.Laws.Tables.{entered-kept}
 use Rattle.phase_one.specs.Commands.{doneWord, isBare}
 use Rattle.session.specs.Tables.{Tables}
-use Rattle.phase_one.specs.Views as one-kind
-use Rattle.phase_one.specs.Views.{recipients, identities, keys, headers}
+use Rattle.phase_one.specs.Views.{recipients, identities}
 use Rattle.session.specs.declared.opening.Machine.{Machine}
-use Rattle.session.specs.declared.opening.Machine.the-variants.{RecipientV1, IdentityV1}
-use Rattle.session.specs.declared.phases.Phase.{Phase}
-use Rattle.session.specs.declared.phases.Phase.the-variants.{Two, Ended}
-use Rattle.conversation.specs.Calls.{Call, receive-two, outcome, State, stateOf, after, numbers, written, AllZero, Accepted}
-use Rattle.conversation.specs.CommandsTwo.{Named, CommandTwo, ask, stanza, key, error, done, other, bad, commandTwo, rowTwo, wordTwo}
-use Rattle.conversation.specs.Kinds.{Buffers, buffersOf}
+use Rattle.session.specs.declared.phases.Phase.the-variants.{Two}
+use Rattle.conversation.specs.Calls.{receive-two, stateOf, after, numbers, AllZero, Accepted}
+use Rattle.conversation.specs.CommandsTwo.{CommandTwo, ask, stanza, key, error, done, other, bad, commandTwo, rowTwo, wordTwo}
+use Rattle.conversation.specs.Kinds.{Buffers}
 use Rattle.conversation.specs.PhaseTwo as two
-use Rattle.conversation.specs.PhaseTwo.{KindTwo, errors, stanzas, returned, tableOf, bufferOf, mostStanzas, isHeldBack, faultOf, decided, applied, filledBy, rowsOf, viewOf}
-use Rattle.conversation.specs.Phases.{All, Whole, lineIn, bodyIn, isDone, commandIn, payloadIn, Block, Supply, behind, two-part, blockCalls, callsOf, writtenIn, responsesTo, LongEnough}
-use Rattle.session.specs.Session.{Session, moved}
-use Rattle.conversation.specs.Allowed.{Left, isRightTwo, Present, Said, Sum, keys-for, stanzas-for, errors-for, entries, bytes, weight, total, slotsTwo, Limits, saidBy, Answered, RightBlock, AllowedTwo}
+use Rattle.conversation.specs.PhaseTwo.{KindTwo, errors, stanzas, returned, bufferOf, mostStanzas, isHeldBack, faultOf, decided, applied, filledBy}
+use Rattle.conversation.specs.Phases.{All, Whole, lineIn, bodyIn, isDone, commandIn, payloadIn, Block, Supply, behind, two-part, blockCalls, callsOf, LongEnough}
+use Rattle.session.specs.Session.{Session}
+use Rattle.conversation.specs.Allowed.{Left, isRightTwo, Present, Said, Sum, keys-for, stanzas-for, errors-for, entries, bytes, weight, total, Limits, saidBy, Answered, RightBlock}
 use Rattle.conversation.proofs.Laws.Accepted.{accepted}
 use Rattle.conversation.proofs.Laws.CommandsTwo.{Proper, command-proper}
 use Rattle.conversation.proofs.Laws.DecidedTwo.{decided-iff, Faultless}
 use Rattle.conversation.proofs.Laws.Limits.{placed-length}
-use Rattle.conversation.proofs.Laws.PresentTwo.{Shows, applied-shows, most-is, present-iff}
-use Rattle.conversation.proofs.Laws.Runs.{after-append, accepted-append, enough-append}
+use Rattle.conversation.proofs.Laws.PresentTwo.{Shows, applied-shows, present-iff}
+use Rattle.conversation.proofs.Laws.Runs.{accepted-append, enough-append}
 use Rattle.conversation.proofs.Laws.StepsTwo.{at, judged, tablesWith, buffersWith, Settled, phaseBehind, BlockDone, block-from, block-to}
 use Rattle.conversation.proofs.Laws.SumsTwo.{sumsIn, said, Going, With, Kept-limits, limits-with, tests-by, adds}
-use Rattle.conversation.proofs.Laws.ViewsTwo.{two-leaves, applied-view-two}
+use Rattle.conversation.proofs.Laws.ViewsTwo.{two-leaves}
 
 -- ---- limits: smaller sums keep them
 

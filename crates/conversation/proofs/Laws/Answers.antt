@@ -2,33 +2,26 @@
 -- were refused in between.
 use Prim.Native.Nat.{ℕ}
 use mathlib.Core.Path.{_≡_, refl, sym, ap, _∙_, subst}
-use mathlib.Core.Bool.{Bool, true, false, _&&_, _||_}
+use mathlib.Core.Bool.{Bool, true, false, _||_}
 use mathlib.Core.List.{List, [], _∷_, _++_, append-assoc, append-nil}
-use lib.Dec.{leb, eqb}
+use lib.Dec.{eqb}
 use lib.ListN.{length}
 use borrow.Author.Tests.{eqb-true, eqb-false}
 use Rattle.refusal.specs.Pick.{pick}
-use Rattle.refusal.specs.Same.{same}
 use Rattle.refusal.proofs.Laws.Booleans.{and-true, cases}
-use Rattle.stanza.specs.Arguments.{countOf, argumentOf}
-use Rattle.stanza.specs.Index.{ReadIndex, number, refused, readIndex}
+use Rattle.stanza.specs.Index.{number}
 use Rattle.responses.specs.Responses.{fitting, fitsWhole, mayHaveBody}
 use Rattle.responses.specs.declared.Response.{Response}
-use Rattle.responses.specs.declared.Response.the-variants.{Fail}
 use Rattle.session.specs.declared.words.WordTwo.{WordTwo}
-use Rattle.session.specs.declared.words.WordTwo.the-variants.{Msg, Confirm, RequestPublic, RequestSecret, RecipientStanza, FileKey, Error, Other, Done}
 use Rattle.phase_one.specs.Commands as one-command
-use Rattle.phase_one.specs.Commands.{isBare}
 use Rattle.phase_one.specs.PhaseOne as one
 use Rattle.phase_one.specs.Turns.{phaseAfter}
 use Rattle.session.specs.Phases.{closes}
-use Rattle.session.specs.declared.opening.Machine.{Machine}
-use Rattle.session.specs.declared.opening.Machine.the-variants.{RecipientV1, IdentityV1}
 use Rattle.session.specs.declared.phases.Phase.{Phase}
 use Rattle.session.specs.declared.phases.Phase.the-variants.{One, Two, Awaiting, Ended, Closed}
 use Rattle.conversation.specs.Answers.{Event, asked, responded, askedBy, answeredBy, respondedBy, eventsOf, events, Paired}
 use Rattle.conversation.specs.Calls.{Call, receive, send, receive-two, reply, send-two, respond, outcome, sessionAfter, after}
-use Rattle.conversation.specs.CommandsTwo.{Named, internal, identity, recipient, CommandTwo, ask, stanza, key, error, done, other, bad, areLabels, internalWord, identityWord, recipientWord, stanzaWord, stanzaAt, keyAt, errorAt, headerAt, errorOf, rowTwo, wordTwo, commandTwo, lineSent}
+use Rattle.conversation.specs.CommandsTwo.{identity, recipient, CommandTwo, ask, stanza, key, error, done, other, bad, commandTwo, lineSent}
 use Rattle.conversation.specs.Kinds.{Buffers}
 use Rattle.conversation.specs.Phases.{lineIn, bodyIn, isDone, commandIn}
 use Rattle.conversation.specs.ReceivingTwo.{atOnce, phaseReceived}

@@ -1,24 +1,22 @@
 -- The decision of phase two, test by test: it finds no fault exactly if the command is right, what it names is there, and the sums of the tables with what it adds
 -- keep the limits.
-use Prim.Native.Nat.{ℕ, zero, suc, _+_, _<_, _≤_}
-use mathlib.Core.Path.{_≡_, refl, sym, ap, ap₂, _∙_, subst}
-use mathlib.Core.Bool.{Bool, true, false, not, _&&_, _||_, true≢false, false≢true}
-use mathlib.Core.Logic.{_⊎_, inl, inr, ⊎-elim, _↔_}
+use Prim.Native.Nat.{ℕ, zero, suc, _+_, _<_}
+use mathlib.Core.Path.{_≡_, refl, sym, ap, _∙_}
+use mathlib.Core.Bool.{Bool, true, false, _&&_, true≢false, false≢true}
+use mathlib.Core.Logic.{_↔_}
 use mathlib.Core.List.{List, [], _∷_, _++_, map, map-append}
-use lib.Dec.{ltb, leb, eqb}
+use lib.Dec.{eqb}
 use lib.ListN.{length, take}
 use native.Mathlib.Omega.{arith}
-use borrow.Author.Tests.{ltb-true, ltb-false, leb-true, leb-false, lt-ltb, le-ltb, le-leb, lt-leb, eqb-true, eqb-false, eq-eqb}
+use borrow.Author.Tests.{eqb-true}
 use Rattle.refusal.specs.Pick.{pick}
-use Rattle.refusal.proofs.Laws.Booleans.{and-true, true-and, cases}
 use Rattle.tables.specs.declared.slots.Entry.{Entry}
-use Rattle.tables.specs.Tables.{Table, Row, fits, entered, rowOf, view, kept, appended}
-use Rattle.tables.proofs.Laws.Tables.{Kept, appended-view, view-count, entered-view}
+use Rattle.tables.specs.Tables.{Table, Row, fits, entered, rowOf, view, kept}
+use Rattle.tables.proofs.Laws.Tables.{Kept, entered-view}
 use Rattle.session.specs.Tables.{Tables}
 use Rattle.refusal.specs.Verdict.{firstOf}
-use Rattle.conversation.specs.CommandsTwo.{Named, internal, identity, recipient, header, CommandTwo, ask, stanza, key, error, done, other, bad}
-use Rattle.conversation.specs.PhaseTwo.{KindTwo, errors, stanzas, returned, BuffersTwo, tableOf, bufferOf, viewOf, Label, labelOf, labels, howMany, isAny, passes, isFile, namesFile, belongs, stanzasFor, mostStanzas, hasKey, markOf, indexOf, isAbout, hasErrorFor, isMissing, isSecondKey, isTooMany, isAgainstKey, isClashing, isSpaceless, isHeldBack, when, faultOf, ruled, decided, applied, filledBy, rowsOf}
-use Rattle.conversation.specs.Allowed.{isRightTwo, isKeyFor, isErrorFor, isKind, Said, Sum, keys-for, stanzas-for, errors-for, entries, bytes, weight, slotsTwo, Limits}
+use Rattle.conversation.specs.CommandsTwo.{CommandTwo}
+use Rattle.conversation.specs.PhaseTwo.{BuffersTwo, Label, labelOf, labels, howMany, passes, isFile, isMissing, isSecondKey, isTooMany, isClashing, isSpaceless, isHeldBack, when, faultOf, ruled, decided}
 use Rattle.conversation.proofs.Laws.Firsts.{first-iff}
 
 -- ---- the first fault

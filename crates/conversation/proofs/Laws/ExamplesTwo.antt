@@ -41,7 +41,7 @@ use Rattle.conversation.specs.Kinds as kinds
 use Rattle.conversation.specs.Kinds.{Buffers, second, viewOf, ofFile}
 use Rattle.conversation.specs.PhaseTwo as two
 use Rattle.conversation.specs.PhaseTwo.{howMany, passes, decided}
-use Rattle.conversation.specs.Phases.{All, keep, Whole, lineIn, bodyIn, two-part, Block, Reply, Phase, blocksOf, IsPhase, Supply, callsOf, replyCalls, writtenIn, LongEnough, CallWith, afterEach, JustDone, Strand, of-kind, of-errors, of-file, isIn, Rearranged, SameTables, SameOutcome}
+use Rattle.conversation.specs.Phases.{All, keep, Whole, lineIn, bodyIn, two-part, Block, Phase, blocksOf, IsPhase, Supply, callsOf, replyCalls, writtenIn, LongEnough, CallWith, afterEach, JustDone, Strand, of-kind, of-errors, of-file, isIn, Rearranged, SameTables, SameOutcome}
 use Rattle.conversation.specs.ReceivingTwo as receiving-two
 use Rattle.conversation.specs.ReceivingTwo.{atOnce, textOf}
 use Rattle.conversation.specs.Replying as replying

@@ -1,25 +1,21 @@
 -- Phase two at the client end: what an accepted phase leaves in the tables, and what its calls write.
-use Prim.Native.Nat.{ℕ}
-use mathlib.Core.Path.{_≡_, refl, sym, ap, ap₂, _∙_, subst, subst₂}
-use mathlib.Core.Bool.{Bool, true, false}
-use mathlib.Core.Logic.{_↔_}
+use mathlib.Core.Path.{_≡_, refl, sym, ap, ap₂, _∙_, subst}
+use mathlib.Core.Bool.{true, false}
 use mathlib.Core.List.{List, [], _∷_, _++_, map, append-nil, append-assoc}
-use lib.ListN.{length}
 use Rattle.tables.specs.Tables.{Row}
-use Rattle.phase_one.specs.PhaseOne as one
 use Rattle.session.specs.Tables.{Tables}
 use Rattle.phase_one.specs.Views as one-kind
 use Rattle.session.specs.declared.opening.Machine.{Machine}
 use Rattle.session.specs.declared.phases.Phase.the-variants.{Two}
-use Rattle.conversation.specs.Calls.{Call, State, stateOf, after, written, Accepted}
-use Rattle.conversation.specs.Kinds.{Buffers, buffersOf}
+use Rattle.conversation.specs.Calls.{State, stateOf, after, Accepted}
+use Rattle.conversation.specs.Kinds.{Buffers}
 use Rattle.conversation.specs.PhaseTwo.{KindTwo, viewOf, rowsOf}
 use Rattle.conversation.specs.Phases.{All, Whole, isDone, commandIn, payloadIn, Block, Supply, behind, two-part, blockCalls, callsOf, writtenIn, responsesTo, LongEnough}
 use Rattle.session.specs.Session.{Session}
-use Rattle.conversation.specs.Allowed.{Left, Answered}
+use Rattle.conversation.specs.Allowed.{Left}
 use Rattle.conversation.proofs.Laws.AllowedTwo.{Standing, standing-behind, first-turn, behind-block, done-asks}
 use Rattle.conversation.proofs.Laws.Runs.{after-append, accepted-append, enough-append}
-use Rattle.conversation.proofs.Laws.StepsTwo.{at, judged, tablesWith, buffersWith, Settled, BlockDone, block-from, block-to}
+use Rattle.conversation.proofs.Laws.StepsTwo.{at, judged, tablesWith, buffersWith, Settled, block-from, block-to}
 use Rattle.conversation.proofs.Laws.ViewsTwo.{applied-view-two, two-leaves}
 
 -- the rows of a kind that a block makes

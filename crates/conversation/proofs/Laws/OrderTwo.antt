@@ -1,41 +1,40 @@
 -- Phase two at the client end: exactly the allowed phases are accepted by a session that has just sent done; a rearrangement of an allowed phase is allowed; and
 -- what they leave and write is the same.
 use Prim.Native.Nat.{ℕ, _+_, _≤_}
-use mathlib.Core.Path.{_≡_, refl, sym, ap, ap₂, _∙_, subst, subst₂, fun-ext}
-use mathlib.Core.Bool.{Bool, true, false, not, _&&_, _||_, true≢false, false≢true}
-use mathlib.Core.Logic.{_⊎_, inl, inr, ⊎-elim, _↔_}
-use mathlib.Core.List.{List, [], _∷_, _++_, map, append-nil, append-assoc, List·Permᴰ}
-use lib.Dec.{eqb, ltb, leb}
+use mathlib.Core.Path.{_≡_, refl, sym, ap, ap₂, _∙_, subst, fun-ext}
+use mathlib.Core.Bool.{Bool, true, false, not, _&&_, true≢false}
+use mathlib.Core.Logic.{inl, _↔_}
+use mathlib.Core.List.{List, [], _∷_, _++_, map, append-nil, append-assoc}
+use lib.Dec.{eqb}
 use lib.ListN.{length}
 use native.Mathlib.Omega.{arith}
-use borrow.Author.Tests.{eqb-true, eq-eqb, not-false}
+use borrow.Author.Tests.{eqb-true, not-false}
 use Rattle.refusal.specs.Pick.{pick}
 use Rattle.refusal.proofs.Laws.Booleans.{cases}
-use Rattle.tables.specs.Tables.{Table, Row, view, opened}
+use Rattle.tables.specs.Tables.{Row, view, opened}
 use Rattle.tables.proofs.Laws.Tables.{Kept, opened-kept, view-count}
-use Rattle.session.specs.Tables.{Tables, openedTables}
+use Rattle.session.specs.Tables.{Tables}
 use Rattle.phase_one.specs.Views as one-kind
 use Rattle.phase_one.specs.Views.{recipients, identities}
 use Rattle.phase_one.proofs.Laws.Views.{Reached}
 use Rattle.session.specs.declared.opening.Machine.{Machine}
 use Rattle.session.specs.declared.phases.Phase.the-variants.{Two}
 use Rattle.conversation.specs.Calls.{State, stateOf, after, Accepted}
-use Rattle.conversation.specs.CommandsTwo.{Named, internal, identity, recipient, header, CommandTwo, ask, stanza, key, error, done, other, bad}
-use Rattle.conversation.specs.Kinds as kinds
+use Rattle.conversation.specs.CommandsTwo.{CommandTwo, ask, stanza, key, error, done, other, bad}
 use Rattle.conversation.specs.Kinds.{Buffers, ofFile}
-use Rattle.conversation.specs.PhaseTwo.{KindTwo, errors, stanzas, returned, tableOf, bufferOf, viewOf, labels, howMany, isFile, isAbout, mostStanzas, rowsOf, indexOf, markOf}
-use Rattle.conversation.specs.Phases.{All, keep, Whole, isDone, commandIn, payloadIn, isNamedTwo, isError, isStanzaFor, Part, one-part, two-part, Block, Phase, blocksOf, IsPhase, Supply, callsOf, writtenIn, responsesTo, LongEnough, Starts, JustDone, SameLengths, SameStart, isKept, Strand, of-errors, of-file, isIn, Rearranged, SameTables, SameOutcome}
+use Rattle.conversation.specs.PhaseTwo.{KindTwo, errors, stanzas, returned, tableOf, bufferOf, viewOf, labels, howMany, isFile, isAbout, rowsOf}
+use Rattle.conversation.specs.Phases.{All, keep, commandIn, payloadIn, isNamedTwo, isError, isStanzaFor, two-part, Block, Phase, blocksOf, IsPhase, Supply, callsOf, writtenIn, responsesTo, LongEnough, SameStart, isKept, of-errors, of-file, Rearranged, SameTables, SameOutcome}
 use Rattle.session.specs.Session.{Session, moved}
-use Rattle.conversation.specs.Allowed.{Left, isRightTwo, Present, isKeyFor, isErrorFor, isKind, Said, Sum, keys-for, stanzas-for, errors-for, entries, bytes, weight, total, slotsTwo, Limits, saidBy, Answered, RightBlock, AllowedTwo}
+use Rattle.conversation.specs.Allowed.{Left, isRightTwo, Present, isKeyFor, Said, Sum, keys-for, stanzas-for, errors-for, entries, bytes, weight, total, slotsTwo, Limits, saidBy, Answered, RightBlock, AllowedTwo}
 use Rattle.conversation.proofs.Laws.AllowedTwo.{limits-same, Standing, Fitting, accepted-from}
-use Rattle.conversation.proofs.Laws.DecidedTwo.{rowLabels, labels-view}
-use Rattle.conversation.proofs.Laws.LeftTwo.{rowsBy, rowsIn, Grown, Done, left-from}
-use Rattle.conversation.proofs.Laws.Lists.{all-append, all-permuted, all-kept, sumOf, sum-append, sum-permuted, sum-kept, sum-map, length-keep, keep-permuted-once, keep-kept}
+use Rattle.conversation.proofs.Laws.DecidedTwo.{labels-view}
+use Rattle.conversation.proofs.Laws.LeftTwo.{rowsBy, rowsIn, Grown, left-from}
+use Rattle.conversation.proofs.Laws.Lists.{all-append, all-permuted, all-kept, sumOf, sum-append, sum-permuted, sum-kept, length-keep, keep-permuted-once, keep-kept}
 use Rattle.conversation.proofs.Laws.OrderOne.{turned}
 use Rattle.conversation.proofs.Laws.PresentTwo.{Shows, most-is}
-use Rattle.conversation.proofs.Laws.Reached.{LaterOpened, ReachedSession, JustReached, just-done}
+use Rattle.conversation.proofs.Laws.Reached.{LaterOpened, ReachedSession, JustReached}
 use Rattle.conversation.proofs.Laws.StepsTwo.{at}
-use Rattle.conversation.proofs.Laws.SumsTwo.{sumsIn, Going, Kept-limits, or-false}
+use Rattle.conversation.proofs.Laws.SumsTwo.{sumsIn, Kept-limits, or-false}
 use Rattle.conversation.proofs.Laws.Tables.{of-file-append}
 
 -- ---- a session that has just sent done

@@ -1,21 +1,19 @@
 -- Phase two: what the decision asks of phase one's tables, said of the rows that they show.
-use Prim.Native.Nat.{ℕ, zero, suc, _+_, _<_, _≤_}
+use Prim.Native.Nat.{ℕ, zero, suc, _+_, _<_}
 use mathlib.Core.Path.{_≡_, refl, sym, ap, ap₂, _∙_, subst}
-use mathlib.Core.Bool.{Bool, true, false, not, _&&_, _||_, true≢false, false≢true}
-use mathlib.Core.Logic.{_⊎_, inl, inr, ⊎-elim, _↔_}
+use mathlib.Core.Bool.{Bool, true, false, not, false≢true}
+use mathlib.Core.Logic.{_↔_}
 use mathlib.Core.List.{List, [], _∷_}
-use lib.Dec.{ltb, leb, eqb}
+use lib.Dec.{ltb}
 use lib.ListN.{length}
 use native.Mathlib.Omega.{arith}
-use borrow.Author.Tests.{ltb-true, ltb-false, lt-ltb, le-ltb, eqb-true, eqb-false, eq-eqb, ne-eqb, not-false}
-use Rattle.refusal.specs.Pick.{pick}
-use Rattle.refusal.proofs.Laws.Booleans.{and-true, true-and, cases}
+use borrow.Author.Tests.{ltb-true, lt-ltb, eqb-true, eq-eqb, not-false}
+use Rattle.refusal.proofs.Laws.Booleans.{cases}
 use Rattle.tables.specs.Tables.{Row}
-use Rattle.phase_one.specs.PhaseOne as one
 use Rattle.session.specs.Tables.{Tables}
 use Rattle.phase_one.specs.Views as one-kind
 use Rattle.phase_one.specs.Views.{recipients, identities, keys, headers}
-use Rattle.conversation.specs.CommandsTwo.{Named, internal, identity, recipient, header, CommandTwo, ask, stanza, key, error, done, other, bad}
+use Rattle.conversation.specs.CommandsTwo.{internal, identity, recipient, header, CommandTwo, ask, stanza, key, error, done, other, bad}
 use Rattle.conversation.specs.PhaseTwo.{Label, labels, howMany, isAny, passes, isFile, mostStanzas, isMissing, BuffersTwo, applied}
 use Rattle.conversation.specs.Allowed.{Left, RowAt, Present}
 use Rattle.conversation.proofs.Laws.DecidedTwo.{rowLabel, rowLabels}

@@ -17,7 +17,7 @@ use Rattle.session.specs.declared.opening.Machine.{Machine}
 use Rattle.session.specs.declared.phases.Phase.{Phase}
 use Rattle.session.specs.declared.phases.Phase.the-variants.{One, Two, Awaiting, Ended, Closed}
 use Rattle.conversation.specs.CommandsTwo.{CommandTwo, commandTwo, rowTwo, wordTwo, wordOf, payloadOf}
-use Rattle.conversation.specs.PhaseTwo.{BuffersTwo, buffersOf, when, isSpaceless, ruled, decided, applied, filledBy}
+use Rattle.conversation.specs.PhaseTwo.{BuffersTwo, when, isSpaceless, ruled, decided, applied, filledBy}
 use Rattle.session.specs.Session.{Session, closed}
 use Rattle.conversation.specs.Sending.{shortness}
 use Rattle.conversation.specs.TurnsTwo.{turnTwo}

@@ -1,12 +1,11 @@
 -- Replying, by what writing the response came to: for the code of the client end.
 use Prim.Native.Nat.{ℕ}
-use mathlib.Core.Path.{_≡_, refl, sym, ap, ap₂, _∙_}
+use mathlib.Core.Path.{_≡_, sym, ap₂, _∙_}
 use mathlib.Core.Bool.{Bool, true, false}
 use mathlib.Core.List.{List}
 use lib.Dec.{eqb}
-use lib.ListN.{length}
 use native.Mathlib.Omega.{arith}
-use Rattle.refusal.specs.Output.{Answer, bytes, refused, overflows, filled}
+use Rattle.refusal.specs.Output.{Answer, bytes, refused, overflows}
 use Rattle.refusal.specs.Pick.{pick}
 use Rattle.stanza.specs.Grammar.{stanzaText}
 use Rattle.stanza.specs.Writing.{isWritable, written, bufferAfter}

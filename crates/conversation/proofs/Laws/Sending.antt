@@ -5,17 +5,14 @@ use mathlib.Core.Bool.{Bool, true, false}
 use mathlib.Core.List.{List}
 use lib.Dec.{eqb}
 use lib.ListN.{length}
-use native.Mathlib.Omega.{arith}
-use borrow.Author.Tests.{eqb-true, eqb-false}
+use borrow.Author.Tests.{eqb-true}
 use Rattle.refusal.specs.Output.{Answer, bytes, refused, overflows, answered, filled}
 use Rattle.refusal.specs.Pick.{pick}
-use Rattle.refusal.proofs.Laws.Booleans.{cases}
 use Rattle.stanza.specs.Grammar.{stanzaText}
 use Rattle.stanza.specs.Writing.{isWritable, written, bufferAfter}
 use Rattle.phase_one.specs.Commands.{CommandOne, WordOne, lineSent}
 use Rattle.session.specs.Tables.{Tables}
 use Rattle.phase_one.specs.PhaseOne.{BuffersOne, decided, applied, filledBy, commandIn, payloadIn, numberOne, tablesOne, buffersOne}
-use Rattle.refusal.specs.Verdict.{firstOf}
 use Rattle.phase_one.specs.Turns.{turnOne, phaseAfter, phaseSent}
 use Rattle.session.specs.declared.opening.Machine.{Machine}
 use Rattle.session.specs.declared.phases.Phase.{Phase}

@@ -1,11 +1,10 @@
 -- Sending in phase two, by what one step came to: for the code of the plugin end.
 use Prim.Native.Nat.{ℕ}
 use mathlib.Core.Path.{_≡_, refl, sym, ap, ap₂, _∙_}
-use mathlib.Core.Bool.{Bool, true, false, false≢true}
+use mathlib.Core.Bool.{Bool, true, false}
 use mathlib.Core.List.{List}
 use lib.Dec.{eqb}
 use lib.ListN.{length}
-use native.Mathlib.Omega.{arith}
 use borrow.Author.Tests.{eqb-true}
 use Rattle.refusal.specs.Output.{Answer, bytes, refused, overflows, answered, filled}
 use Rattle.refusal.specs.Pick.{pick}
@@ -17,13 +16,12 @@ use Rattle.session.specs.Tables.{Tables}
 use Rattle.refusal.specs.Verdict.{firstOf}
 use Rattle.session.specs.declared.opening.Machine.{Machine}
 use Rattle.session.specs.declared.phases.Phase.{Phase}
-use Rattle.session.specs.declared.phases.Phase.the-variants.{One, Two, Awaiting, Ended, Closed}
 use Rattle.session.specs.Session.{Session}
 use Rattle.conversation.specs.Sending.{shortness}
 use Rattle.conversation.specs.CommandsTwo.{CommandTwo, rowTwo, wordTwo, commandTwo, payloadOf, lineSent}
 use Rattle.conversation.specs.PhaseTwo.{BuffersTwo, buffersOf, when, isSpaceless, ruled, decided, applied, filledBy}
 use Rattle.conversation.specs.TurnsTwo.{turnTwo}
-use Rattle.conversation.specs.SendingTwo.{phaseSent, Sent, refusedSending, numberSent, sentLine, sent}
+use Rattle.conversation.specs.SendingTwo.{phaseSent, Sent, refusedSending, sentLine, sent}
 use Rattle.conversation.proofs.Laws.Firsts.{first-iff, short-none}
 use Rattle.conversation.proofs.Laws.Sending.{answered-whole}
 

@@ -19,14 +19,12 @@ use Rattle.tables.proofs.Laws.Tables.{Kept, Filled, opened-kept, opened-filled,
 use Rattle.phase_one.specs.Commands.{isBare}
 use Rattle.phase_one.specs.PhaseOne as one
 use Rattle.session.specs.Tables.{Tables, openedTables}
-use Rattle.refusal.specs.Verdict.{firstOf}
 use Rattle.phase_one.specs.Commands as one-command
 use Rattle.phase_one.specs.Views as one-kind
 use Rattle.session.specs.declared.opening.Machine.{Machine}
 use Rattle.session.specs.declared.opening.Machine.the-variants.{RecipientV1, IdentityV1}
-use Rattle.phase_one.proofs.Laws.Views.{first-zero}
 use Rattle.conversation.specs.CommandsTwo.{Named, identity, recipient, CommandTwo, ask, stanza, key, error, done, other, bad, internalWord, identityWord, recipientWord, stanzaWord, areLabels, stanzaAt, keyAt, errorAt, headerAt, errorOf, rowTwo, commandTwo, wordTwo, payloadOf}
-use Rattle.conversation.specs.PhaseTwo.{KindTwo, errors, stanzas, returned, BuffersTwo, tableOf, viewOf, isMissing, isSecondKey, isTooMany, isClashing, isSpaceless, isHeldBack, faultOf, when, decided, applied, filledBy, rowsOf}
+use Rattle.conversation.specs.PhaseTwo.{KindTwo, errors, stanzas, returned, BuffersTwo, tableOf, viewOf, decided, applied, filledBy, rowsOf}
 use Rattle.conversation.proofs.Laws.DecidedTwo.{decided-iff}
 
 -- ---- tables that an opening and calls can reach

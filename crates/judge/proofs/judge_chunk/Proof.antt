@@ -1,15 +1,9 @@
 use borrow.Author.Needs.{needs}
 use Rattle.judge.proofs.judge_chunk.Statement.{statement}
 use Rattle.judge.proofs.judge_chunk.Tie as tie
-use Rattle.judge.proofs.judge_chunk.Reads as reads
-use Rattle.judge.proofs.judge_chunk.Lts as lts
-use Rattle.judge.proofs.input.keep_rest.Reads as keep-rest-reads
-use Rattle.judging.proofs.Judging.judge_window.Reads as judge-window-reads
-use Prim.Native.Nat.{_<_}
 use native.Mathlib.Omega.{arith}
-use mathlib.Core.Path.{_≡_, sym, ap, _∙_}
+use mathlib.Core.Path.{sym, ap}
 use mathlib.Core.Bool.{false≢true}
-use lib.ListN.{length}
 use lib.Seq.{length-take-le}
 use denote.Ref.{now}
 use Rattle.session.specs.Session.{sessionOf}

@@ -1,17 +1,11 @@
 use Rattle.judge.proofs.run.Statement.{statement}
 use Rattle.judge.proofs.run.Tie as tie
-use Rattle.judge.proofs.run.Reads as reads
-use Rattle.judge.proofs.run.Lts as lts
-use Rattle.judge.proofs.run_turn.Reads as run-turn-reads
-use Rattle.judging.proofs.Judging.numbers.Reads as numbers-reads
-use Rattle.judging.proofs.Judging.open.Reads as open-reads
 use Prim.Native.Nat.{_<_}
 use native.Mathlib.Omega.{arith}
 use mathlib.Core.Path.{_≡_, refl}
 use mathlib.Core.Bool.{true}
 use lib.ListN.{length}
 use borrow.Author.Needs.{needs}
-use denote.Ref.{now}
 
 abbrev Inv-loop : tie.InvT-loop
 Inv-loop window₀ slots₀ header₀ recipients₀ identities₀ keys₀ s₀ turns₀ window slots header recipients identities keys s turns =

@@ -9,7 +9,7 @@ use Rattle.session.specs.Session.{sessionOf}
 use Rattle.phase_one.specs.PhaseOne.{BuffersOne}
 use Rattle.conversation.specs.Kinds as kinds
 use Rattle.conversation.specs.PhaseTwo as two
-use Rattle.conversation.specs.Receiving.{Taking, took, declined, Received, received}
+use Rattle.conversation.specs.Receiving.{Taking, declined, Received, received}
 use Rattle.conversation.specs.Calls.{receive, takingNumber}
 use Rattle.conversation.proofs.Laws.Refusals.{refusal}
 

@@ -1,11 +1,6 @@
 use borrow.Author.Needs.{needs}
 use Rattle.judging.proofs.advance.Statement.{statement}
 use Rattle.judging.proofs.advance.Tie as tie
-use Rattle.judging.proofs.advance.Reads as reads
-use Rattle.judging.proofs.advance.Lts as lts
-use Rattle.judging.proofs.behind_command.Reads as behind-command-reads
-use Rattle.judging.proofs.behind_refusal.Reads as behind-refusal-reads
-use Rattle.plugin.proofs.receive.Reads as receive-reads
 use native.Mathlib.Omega.{arith}
 use mathlib.Core.Path.{ap, _∙_}
 use borrow.Author.Tests.{eqb-false}

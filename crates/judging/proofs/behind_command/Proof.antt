@@ -1,13 +1,8 @@
 use borrow.Author.Needs.{needs}
 use Rattle.judging.proofs.behind_command.Statement.{statement}
 use Rattle.judging.proofs.behind_command.Tie as tie
-use Rattle.judging.proofs.behind_command.Reads as reads
-use Rattle.judging.proofs.behind_command.Lts as lts
-use Rattle.judging.proofs.count.Reads as count-reads
-use Rattle.judging.proofs.is_done.Reads as is-done-reads
 use mathlib.Core.Path.{sym, ap, _∙_}
 use Rattle.judging.specs.Judging.{stopped}
-use denote.Ref.{now}
 
 is-done-requires : tie.Need-is-done-requires
 is-done-requires c κs = search needs

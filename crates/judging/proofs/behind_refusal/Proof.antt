@@ -1,10 +1,6 @@
 use borrow.Author.Needs.{needs}
 use Rattle.judging.proofs.behind_refusal.Statement.{statement}
 use Rattle.judging.proofs.behind_refusal.Tie as tie
-use Rattle.judging.proofs.behind_refusal.Reads as reads
-use Rattle.judging.proofs.behind_refusal.Lts as lts
-use Rattle.judging.proofs.count.Reads as count-reads
-use Rattle.refusal.proofs.number.Reads as number-reads
 use mathlib.Core.Path.{_≡_, sym, ap, _∙_}
 use mathlib.Core.Bool.{false, _&&_, not}
 use mathlib.Core.Logic.{⊎-elim}
@@ -14,7 +10,6 @@ use Rattle.refusal.specs.Number.{numberOf}
 use Rattle.refusal.proofs.Laws.Booleans.{and-false-right}
 use Rattle.session.specs.Tables.{tablesIn}
 use Rattle.judging.specs.Judging.{counted, stopped}
-use denote.Ref.{now}
 
 number-requires : tie.Need-number-requires
 number-requires c κs = search needs

@@ -1,11 +1,6 @@
 use borrow.Author.Needs.{needs}
 use Rattle.judging.proofs.judge.Statement.{statement}
 use Rattle.judging.proofs.judge.Tie as tie
-use Rattle.judging.proofs.judge.Reads as reads
-use Rattle.judging.proofs.judge.Lts as lts
-use Rattle.judging.proofs.Judging.judge_window.Reads as judge-window-reads
-use Rattle.judging.proofs.Judging.numbers.Reads as numbers-reads
-use Rattle.judging.proofs.Judging.open.Reads as open-reads
 use mathlib.Core.Path.{ap, ap₂, _∙_}
 use denote.Ref.{now}
 use Rattle.judging.specs.Judging.{numbersOf}

@@ -2,13 +2,12 @@
 use Prim.Native.Nat.{ℕ, _+_, _<_, _≤_, min}
 use mathlib.Core.Path.{_≡_, sym, ap, _∙_}
 use mathlib.Core.Bool.{Bool, true, false}
-use mathlib.Core.List.{List, [], _∷_, map}
+use mathlib.Core.List.{[], _∷_}
 use lib.ListN.{length, take, drop, getD, length-take, length-map, drop-of-length-le, List·getD-map}
 use lib.Seq.{drop-cons, getD-take}
 use native.Mathlib.Numerals.{add-one}
 use native.Mathlib.Omega.{arith}
 use Rattle.refusal.specs.Pick.{pick}
-use Rattle.tables.specs.declared.slots.Entry.{Entry}
 use Rattle.tables.specs.Tables.{Table, empty}
 use Rattle.conversation.specs.PhaseTwo.{Label, labelOf, labels, howMany}
 

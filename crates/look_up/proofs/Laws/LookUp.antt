@@ -1,5 +1,5 @@
 -- Look-up by file, by the loop of the code; and what a look-up shows of tables that an opening and calls can reach.
-use Prim.Native.Nat.{ℕ, zero, suc, _+_, _-_, _<_, _≤_, min}
+use Prim.Native.Nat.{ℕ, zero, suc, _+_, _-_, _<_, _≤_}
 use mathlib.Core.Path.{_≡_, refl, sym, ap, _∙_}
 use mathlib.Core.Logic.{_⊎_, inl, inr, ⊎-elim, _↔_}
 use mathlib.Core.Bool.{Bool, true, false}
@@ -11,14 +11,14 @@ use native.Mathlib.Decide.{decLt}
 use native.Mathlib.Omega.{arith}
 use Rattle.refusal.specs.Pick.{pick}
 use Rattle.tables.specs.declared.slots.Entry.{Entry}
-use Rattle.tables.specs.Tables.{Table, Row, empty, rowOf, view, found, shown}
-use Rattle.tables.proofs.Laws.Tables.{Kept, Filled, view-count}
+use Rattle.tables.specs.Tables.{Table, Row, empty, rowOf, view, shown}
+use Rattle.tables.proofs.Laws.Tables.{Filled, view-count}
 use Rattle.tables.proofs.Laws.LookUp.{find-none, slotOf, looked, shown-empty}
 use Rattle.session.specs.Tables.{Tables}
 use Rattle.conversation.specs.Kinds.{ofFile}
 use Rattle.conversation.specs.PhaseTwo.{Label, labelOf, labels, howMany, isFile, errors, stanzas, returned}
 use Rattle.conversation.proofs.Laws.ViewsTwo.{ReachedTwo, kept-two}
-use Rattle.look_up.specs.LookUp.{numberOf, foundOf, messageOf, stanzaOf, keyOf}
+use Rattle.look_up.specs.LookUp.{numberOf, foundOf, messageOf}
 use Rattle.look_up.proofs.Laws.Labels.{slotLabel, labels-at, labels-end}
 
 -- ---- the loop: the slots before i have been passed, and the k-th of the rest is looked for

@@ -2,22 +2,16 @@ use Rattle.refusal.proofs.Laws.Number.{number-not-zero}
 use borrow.Author.Needs.{needs}
 use Rattle.refusal.proofs.first_of.Statement.{statement}
 use Rattle.refusal.proofs.first_of.Tie as tie
-use Rattle.refusal.proofs.first_of.Reads as reads
-use Rattle.refusal.proofs.first_of.Lts as lts
 
--- src/phase_one.rt:220:32
 enum-told : tie.Need-enum-told
 enum-told c = search needs
 
--- src/phase_one.rt:221:30
 enum-told-2 : tie.Need-enum-told-2
 enum-told-2 c = search needs
 
--- src/phase_one.rt:216:1
 returns : tie.Need-returns
 returns c = rw (c .enum-told .given .1, number-not-zero (c .enum-told .given .0 .0))
 
--- src/phase_one.rt:216:1
 returns-2 : tie.Need-returns-2
 returns-2 c = rw (c .enum-told2 .given .1)
 

@@ -1,15 +1,5 @@
 use Rattle.replay.proofs.run.Statement.{statement}
 use Rattle.replay.proofs.run.Tie as tie
-use Rattle.replay.proofs.run.Reads as reads
-use Rattle.replay.proofs.run.Lts as lts
-use Rattle.replay.proofs.answers.print_answer.Reads as print-answer-reads
-use Rattle.replay.proofs.host.no_session.Reads as no-session-reads
-use Rattle.replay.proofs.lines.advance.Reads as advance-reads
-use Rattle.replay.proofs.lines.start.Reads as start-reads
-use Rattle.replay.proofs.parts.front.Reads as front-reads
-use Rattle.replay.proofs.print.flush.Reads as flush-reads
-use Rattle.replay.proofs.turns.make_call.Reads as make-call-reads
-use Rattle.replay.proofs.words.read_line.Reads as read-line-reads
 use native.Mathlib.Omega.{arith}
 use borrow.Author.Needs.{needs}
 

@@ -1,6 +1,6 @@
 -- One kind's table changed: the others stay, since no two kinds have a slot in common.
 use Prim.Native.Nat.{ℕ}
-use mathlib.Core.Path.{_≡_, refl, ap, _∙_}
+use mathlib.Core.Path.{_≡_, refl, ap}
 use mathlib.Core.Bool.{true}
 use mathlib.Core.List.{List}
 use Rattle.tables.specs.Slots.{areApart, slotsOf}

@@ -1,7 +1,7 @@
 -- Words of a text: what the code's loops pass over, and that splitting a text and joining its words undo each other.
 use Prim.Native.Nat.{ℕ, zero, suc, _+_, _-_, _<_, _≤_}
 use mathlib.Core.Path.{_≡_, refl, sym, ap, _∙_}
-use mathlib.Core.Bool.{Bool, true, false, _&&_, false≢true}
+use mathlib.Core.Bool.{Bool, true, false, _&&_}
 use mathlib.Core.List.{List, [], _∷_, _++_}
 use lib.Dec.{eqb, ltb, eqb·zero-suc, eqb·suc-zero, eqb·suc-suc, leb·suc-suc}
 use lib.ListN.{length, take, drop, getD, length-drop, drop-of-length-le}
@@ -12,7 +12,6 @@ use Rattle.refusal.specs.Pick.{pick}
 use Rattle.refusal.specs.Run.{all, run}
 use Rattle.refusal.proofs.Laws.Booleans.{cases, and-true, and-assoc}
 use Rattle.refusal.proofs.Laws.Lists.{drop-one}
-use Rattle.refusal.proofs.Laws.Run.{run-le}
 use Rattle.stanza.specs.Arguments.{isGraphic, isWordByte, before, words, isArgument, areArguments, isLine, countOf, argumentOf}
 
 -- ---- runs

@@ -3,7 +3,7 @@ use Prim.Native.Nat.{ℕ, suc, _+_, _-_, _<_, _≤_}
 use mathlib.Core.Path.{_≡_, refl, sym, ap, ap₂, _∙_, subst}
 use mathlib.Core.Bool.{true, false, _&&_}
 use mathlib.Core.List.{List, [], _∷_, _++_, map, map-append, append-assoc}
-use lib.Dec.{ltb, leb, eqb}
+use lib.Dec.{ltb, leb}
 use lib.ListN.{length, take, drop, set, replicate, length-drop, length-set, length-replicate, length-map}
 use lib.Seq.{length-take-le, take-append-le, drop-append-le, take-suc-set, drop-at, take-take, drop-drop, drop-set-lt, take-append-seam}
 use native.Mathlib.Nat.{sub-zero}

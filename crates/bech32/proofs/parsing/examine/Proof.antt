@@ -20,13 +20,6 @@ use Rattle.bech32.proofs.Laws.Parsing.{payload-lower, checked-long, hum
 use borrow.Author.Needs.{needs}
 use Rattle.bech32.proofs.parsing.examine.Statement.{statement}
 use Rattle.bech32.proofs.parsing.examine.Tie as tie
-use Rattle.bech32.proofs.parsing.examine.Reads as reads
-use Rattle.bech32.proofs.parsing.examine.Lts as lts
-use Rattle.bech32.proofs.human.name_in.Reads as name-in-reads
-use Rattle.bech32.proofs.human.nameless.Reads as nameless-reads
-use Rattle.bech32.proofs.parsing.is_cased.Reads as is-cased-reads
-use Rattle.bech32.proofs.parsing.is_checked.Reads as is-checked-reads
-use Rattle.symbols.proofs.is_whole.Reads as is-whole-reads
 
 nameless-requires : tie.Need-nameless-requires
 nameless-requires c κs = search needs

@@ -11,8 +11,6 @@ use Rattle.bech32.specs.Text.{isNotOne}
 use Rattle.bech32.proofs.Laws.Parsing.{separator-here, separator-none, none-more}
 use Rattle.bech32.proofs.parsing.find_separator.Statement.{statement}
 use Rattle.bech32.proofs.parsing.find_separator.Tie as tie
-use Rattle.bech32.proofs.parsing.find_separator.Reads as reads
-use Rattle.bech32.proofs.parsing.find_separator.Lts as lts
 
 abbrev Inv-loop : tie.InvT-loop
 Inv-loop text i₀ i =
@@ -21,36 +19,29 @@ Inv-loop text i₀ i =
 abbrev μ-loop : tie.MeasureT-loop
 μ-loop text i₀ i = i
 
--- src/parsing.rt:58:5
 loop-holds : tie.Need-loop-holds Inv-loop μ-loop
 unfolding all
 loop-holds c = (search needs, ap (all isNotOne) (drop-length (now (c .args .text))))
 
--- src/parsing.rt:59:9
 sub-i : tie.Need-sub-i Inv-loop μ-loop
 sub-i c = search needs
 
--- src/parsing.rt:60:12
 shared-slice-read-if1 : tie.Need-shared-slice-read-if1 Inv-loop μ-loop
 shared-slice-read-if1 c = search needs
 
--- src/parsing.rt:61:13
 returns : tie.Need-returns Inv-loop μ-loop
 returns c =
     let n : c .before .before .before .loop .i - 1 + 1 ≡ c .before .before .before .loop .i = omega arith in
     sym (separator-here (now (c .before .before .before .before .args .text)) (c .before .before .before .loop .i - 1) (omega arith) (c .if1 .taken) (rw n (c .before .before .before .loop .inv .1)))
 
--- src/parsing.rt:58:5
 loop-less : tie.Need-loop-less Inv-loop μ-loop
 loop-less c = search needs
 
--- src/parsing.rt:58:5
 loop-again : tie.Need-loop-again Inv-loop μ-loop
 loop-again c =
     let n : c .before .before .before .loop .i - 1 + 1 ≡ c .before .before .before .loop .i = omega arith in
     (search needs, none-more (now (c .before .before .before .before .args .text)) (c .before .before .before .loop .i - 1) (omega arith) (c .if1 .left) (rw n (c .before .before .before .loop .inv .1)))
 
--- src/parsing.rt:54:1
 returns-2 : tie.Need-returns-2 Inv-loop μ-loop
 returns-2 c =
     let n : c .before .loop .i ≡ 0 = omega arith in

@@ -4,12 +4,6 @@ use borrow.Author.Tests.{not-true, not-false}
 use borrow.Author.Needs.{needs}
 use Rattle.bech32.proofs.parsing.holds.Statement.{statement}
 use Rattle.bech32.proofs.parsing.holds.Tie as tie
-use Rattle.bech32.proofs.parsing.holds.Reads as reads
-use Rattle.bech32.proofs.parsing.holds.Lts as lts
-use Rattle.bech32.proofs.parsing.find_separator.Reads as find-separator-reads
-use Rattle.bech32.proofs.parsing.is_checked.Reads as is-checked-reads
-use Rattle.bech32.proofs.parsing.is_one_case.Reads as is-one-case-reads
-use Rattle.symbols.proofs.values.Reads as values-reads
 
 is-one-case-requires : tie.Need-is-one-case-requires
 is-one-case-requires c κs = search needs

@@ -17,10 +17,6 @@ use Rattle.bech32.proofs.Laws.Parsing.{separator-le, checked-is}
 use borrow.Author.Needs.{needs}
 use Rattle.bech32.proofs.parsing.is_checked.Statement.{statement}
 use Rattle.bech32.proofs.parsing.is_checked.Tie as tie
-use Rattle.bech32.proofs.parsing.is_checked.Reads as reads
-use Rattle.bech32.proofs.parsing.is_checked.Lts as lts
-use Rattle.symbols.proofs.fold_human.Reads as fold-human-reads
-use Rattle.symbols.proofs.is_closed.Reads as is-closed-reads
 
 sub-if1 : tie.Need-sub-if1
 sub-if1 c = rw (c .before .pre .1) (separator-le (now (c .before .args .text)))

@@ -15,13 +15,6 @@ use Rattle.bech32.proofs.Laws.Parsing.{is-text, no-text, mark-none, mar
 use borrow.Author.Needs.{needs}
 use Rattle.bech32.proofs.parsing.mark.Statement.{statement}
 use Rattle.bech32.proofs.parsing.mark.Tie as tie
-use Rattle.bech32.proofs.parsing.mark.Reads as reads
-use Rattle.bech32.proofs.parsing.mark.Lts as lts
-use Rattle.bech32.proofs.human.is_lowered.Reads as is-lowered-reads
-use Rattle.bech32.proofs.parsing.examine.Reads as examine-reads
-use Rattle.bech32.proofs.parsing.find_separator.Reads as find-separator-reads
-use Rattle.symbols.proofs.values.Reads as values-reads
-use Rattle.refusal.proofs.number.Reads as number-reads
 
 values-requires : tie.Need-values-requires
 values-requires c κs = search needs

@@ -23,13 +23,6 @@ use borrow.Author.Needs.{needs}
 use Rattle.bech32.proofs.parsing.read.Statement.{statement}
 use Rattle.bech32.proofs.parsing.read.Tie as tie
 use Rattle.bech32.proofs.parsing.read.Reads as reads
-use Rattle.bech32.proofs.parsing.read.Lts as lts
-use Rattle.bech32.proofs.parsing.examine.Reads as examine-reads
-use Rattle.bech32.proofs.parsing.find_separator.Reads as find-separator-reads
-use Rattle.bech32.proofs.parsing.refused.Reads as refused-reads
-use Rattle.symbols.proofs.bytes_length.Reads as bytes-length-reads
-use Rattle.symbols.proofs.decode.Reads as decode-reads
-use Rattle.symbols.proofs.values.Reads as values-reads
 
 values-requires : tie.Need-values-requires
 values-requires c κs = search needs

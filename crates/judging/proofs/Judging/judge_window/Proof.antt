@@ -1,8 +1,5 @@
 use Rattle.judging.proofs.Judging.judge_window.Statement.{statement}
 use Rattle.judging.proofs.Judging.judge_window.Tie as tie
-use Rattle.judging.proofs.Judging.judge_window.Reads as reads
-use Rattle.judging.proofs.Judging.judge_window.Lts as lts
-use Rattle.judging.proofs.advance.Reads as advance-reads
 use Prim.Native.Nat.{_≤_, _-_}
 use mathlib.Core.Path.{_≡_, refl, sym, ap, _∙_, subst}
 use lib.ListN.{length, drop}

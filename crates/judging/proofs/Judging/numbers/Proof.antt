@@ -1,11 +1,6 @@
 use borrow.Author.Needs.{needs}
 use Rattle.judging.proofs.Judging.numbers.Statement.{statement}
 use Rattle.judging.proofs.Judging.numbers.Tie as tie
-use Rattle.judging.proofs.Judging.numbers.Reads as reads
-use Rattle.judging.proofs.Judging.numbers.Lts as lts
-use Rattle.judging.proofs.count.Reads as count-reads
-use mathlib.Core.Path.{refl}
-use denote.Ref.{now}
 
 enum-known-progress : tie.Need-enum-known-progress
 enum-known-progress c = search needs

@@ -1,13 +1,9 @@
 use borrow.Author.Needs.{needs}
 use Rattle.judging.proofs.Judging.open.Statement.{statement}
 use Rattle.judging.proofs.Judging.open.Tie as tie
-use Rattle.judging.proofs.Judging.open.Reads as reads
-use Rattle.judging.proofs.Judging.open.Lts as lts
-use Rattle.session.proofs.sessions.Session.open_plugin.Reads as open-plugin-reads
 use mathlib.Core.Path.{refl, ap, _∙_}
 use Rattle.judging.specs.Judging.{going}
 use Rattle.judging.proofs.Laws.Steps.{opened-start}
-use denote.Ref.{now}
 
 slice-aggregate-open-plugin : tie.Need-slice-aggregate-open-plugin
 slice-aggregate-open-plugin c = search needs

@@ -5,10 +5,6 @@ use Rattle.look_up.proofs.Laws.Labels.{entries-are}
 use borrow.Author.Needs.{needs}
 use Rattle.look_up.proofs.entries.count_entries.Statement.{statement}
 use Rattle.look_up.proofs.entries.count_entries.Tie as tie
-use Rattle.look_up.proofs.entries.count_entries.Reads as reads
-use Rattle.look_up.proofs.entries.count_entries.Lts as lts
-use Rattle.look_up.proofs.entries.least.Reads as least-reads
-use Rattle.tables.proofs.slots_in.Reads as slots-in-reads
 
 slots-in-requires : tie.Need-slots-in-requires
 slots-in-requires c κs = search needs

@@ -11,10 +11,6 @@ use Rattle.conversation.specs.PhaseTwo.{isFile, howMany, labels, labelOf}
 use Rattle.look_up.proofs.Laws.Labels.{left, left-one, left-none, left-end}
 use Rattle.look_up.proofs.entries.count_file.Statement.{statement}
 use Rattle.look_up.proofs.entries.count_file.Tie as tie
-use Rattle.look_up.proofs.entries.count_file.Reads as reads
-use Rattle.look_up.proofs.entries.count_file.Lts as lts
-use Rattle.look_up.proofs.entries.count_entries.Reads as count-entries-reads
-use Rattle.tables.proofs.entry_at.Reads as entry-at-reads
 
 abbrev Inv-loop : tie.InvT-loop
 Inv-loop table span file slots n₀ i₀ n i = (left (isFile file) (tableIn span table slots) i + n ≡ howMany (isFile file) (labels (tableIn span table slots))) × (i ≤ length (labels (tableIn span table slots))) × (n ≤ i)

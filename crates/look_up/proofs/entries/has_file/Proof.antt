@@ -4,9 +4,6 @@ use mathlib.Core.Path.{ap}
 use borrow.Author.Needs.{needs}
 use Rattle.look_up.proofs.entries.has_file.Statement.{statement}
 use Rattle.look_up.proofs.entries.has_file.Tie as tie
-use Rattle.look_up.proofs.entries.has_file.Reads as reads
-use Rattle.look_up.proofs.entries.has_file.Lts as lts
-use Rattle.look_up.proofs.entries.count_file.Reads as count-file-reads
 
 count-file-requires : tie.Need-count-file-requires
 count-file-requires c κs = search needs

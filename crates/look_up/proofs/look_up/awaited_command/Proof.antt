@@ -2,8 +2,6 @@
 use borrow.Author.Needs.{needs}
 use Rattle.look_up.proofs.look_up.awaited_command.Statement.{statement}
 use Rattle.look_up.proofs.look_up.awaited_command.Tie as tie
-use Rattle.look_up.proofs.look_up.awaited_command.Reads as reads
-use Rattle.look_up.proofs.look_up.awaited_command.Lts as lts
 
 enum-told : tie.Need-enum-told
 enum-told c = search needs

@@ -2,10 +2,6 @@
 use borrow.Author.Needs.{needs}
 use Rattle.look_up.proofs.look_up.count_stanzas.Statement.{statement}
 use Rattle.look_up.proofs.look_up.count_stanzas.Tie as tie
-use Rattle.look_up.proofs.look_up.count_stanzas.Reads as reads
-use Rattle.look_up.proofs.look_up.count_stanzas.Lts as lts
-use Rattle.look_up.proofs.entries.count_file.Reads as count-file-reads
-use Rattle.session.proofs.span_of.Reads as span-of-reads
 
 span-of-requires : tie.Need-span-of-requires
 span-of-requires c κs = search needs

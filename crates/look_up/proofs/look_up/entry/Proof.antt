@@ -3,11 +3,6 @@ use mathlib.Core.Path.{sym}
 use borrow.Author.Needs.{needs}
 use Rattle.look_up.proofs.look_up.entry.Statement.{statement}
 use Rattle.look_up.proofs.look_up.entry.Tie as tie
-use Rattle.look_up.proofs.look_up.entry.Reads as reads
-use Rattle.look_up.proofs.look_up.entry.Lts as lts
-use Rattle.session.proofs.span_of.Reads as span-of-reads
-use Rattle.tables.proofs.tables.Table.find.Reads as find-reads
-use Rattle.tables.proofs.payload.Reads as payload-reads
 
 enum-told : tie.Need-enum-told
 enum-told c = search needs

@@ -3,11 +3,6 @@ use mathlib.Core.Path.{sym}
 use borrow.Author.Needs.{needs}
 use Rattle.look_up.proofs.look_up.error_message.Statement.{statement}
 use Rattle.look_up.proofs.look_up.error_message.Tie as tie
-use Rattle.look_up.proofs.look_up.error_message.Reads as reads
-use Rattle.look_up.proofs.look_up.error_message.Lts as lts
-use Rattle.session.proofs.span_of.Reads as span-of-reads
-use Rattle.tables.proofs.tables.Table.find.Reads as find-reads
-use Rattle.tables.proofs.payload.Reads as payload-reads
 
 span-of-requires : tie.Need-span-of-requires
 span-of-requires c κs = search needs

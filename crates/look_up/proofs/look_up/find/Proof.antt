@@ -1,13 +1,9 @@
 -- Each kind's arm finds in that kind's table, by the kind's span.
-use mathlib.Core.Path.{sym, ap, _∙_}
+use mathlib.Core.Path.{ap, _∙_}
 use Rattle.session.specs.Tables.{spanOf}
 use borrow.Author.Needs.{needs}
 use Rattle.look_up.proofs.look_up.find.Statement.{statement}
 use Rattle.look_up.proofs.look_up.find.Tie as tie
-use Rattle.look_up.proofs.look_up.find.Reads as reads
-use Rattle.look_up.proofs.look_up.find.Lts as lts
-use Rattle.session.proofs.span_of.Reads as span-of-reads
-use Rattle.tables.proofs.tables.Table.find.Reads as find-reads
 
 span-of-requires : tie.Need-span-of-requires
 span-of-requires c κs = search needs

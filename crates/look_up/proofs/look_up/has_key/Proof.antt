@@ -2,10 +2,6 @@
 use borrow.Author.Needs.{needs}
 use Rattle.look_up.proofs.look_up.has_key.Statement.{statement}
 use Rattle.look_up.proofs.look_up.has_key.Tie as tie
-use Rattle.look_up.proofs.look_up.has_key.Reads as reads
-use Rattle.look_up.proofs.look_up.has_key.Lts as lts
-use Rattle.look_up.proofs.entries.has_file.Reads as has-file-reads
-use Rattle.session.proofs.span_of.Reads as span-of-reads
 
 span-of-requires : tie.Need-span-of-requires
 span-of-requires c κs = search needs

@@ -3,10 +3,6 @@ use mathlib.Core.Path.{sym, _∙_}
 use borrow.Author.Needs.{needs}
 use Rattle.look_up.proofs.look_up.header_named.Statement.{statement}
 use Rattle.look_up.proofs.look_up.header_named.Tie as tie
-use Rattle.look_up.proofs.look_up.header_named.Reads as reads
-use Rattle.look_up.proofs.look_up.header_named.Lts as lts
-use Rattle.session.proofs.span_of.Reads as span-of-reads
-use Rattle.tables.proofs.tables.Table.find.Reads as find-reads
 
 span-of-requires : tie.Need-span-of-requires
 span-of-requires c κs = search needs

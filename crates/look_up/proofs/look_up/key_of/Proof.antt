@@ -3,12 +3,6 @@ use mathlib.Core.Path.{sym}
 use borrow.Author.Needs.{needs}
 use Rattle.look_up.proofs.look_up.key_of.Statement.{statement}
 use Rattle.look_up.proofs.look_up.key_of.Tie as tie
-use Rattle.look_up.proofs.look_up.key_of.Reads as reads
-use Rattle.look_up.proofs.look_up.key_of.Lts as lts
-use Rattle.look_up.proofs.look_up.number_of.Reads as number-of-reads
-use Rattle.session.proofs.span_of.Reads as span-of-reads
-use Rattle.tables.proofs.tables.Table.find.Reads as find-reads
-use Rattle.tables.proofs.payload.Reads as payload-reads
 
 span-of-requires : tie.Need-span-of-requires
 span-of-requires c κs = search needs

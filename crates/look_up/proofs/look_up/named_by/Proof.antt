@@ -3,9 +3,6 @@ use borrow.Author.Tests.{eq-eqb, ne-eqb}
 use borrow.Author.Needs.{needs}
 use Rattle.look_up.proofs.look_up.named_by.Statement.{statement}
 use Rattle.look_up.proofs.look_up.named_by.Tie as tie
-use Rattle.look_up.proofs.look_up.named_by.Reads as reads
-use Rattle.look_up.proofs.look_up.named_by.Lts as lts
-use Rattle.look_up.proofs.look_up.header_named.Reads as header-named-reads
 
 returns : tie.Need-returns
 returns c = rw (eq-eqb _ _ (c .if1 .taken))

@@ -12,10 +12,6 @@ use Rattle.look_up.specs.LookUp.{numberOf}
 use Rattle.look_up.proofs.Laws.LookUp.{onward, onward-here, onward-one, onward-none, onward-end}
 use Rattle.look_up.proofs.look_up.number_of.Statement.{statement}
 use Rattle.look_up.proofs.look_up.number_of.Tie as tie
-use Rattle.look_up.proofs.look_up.number_of.Reads as reads
-use Rattle.look_up.proofs.look_up.number_of.Lts as lts
-use Rattle.look_up.proofs.entries.count_entries.Reads as count-entries-reads
-use Rattle.tables.proofs.entry_at.Reads as entry-at-reads
 
 abbrev Inv-loop : tie.InvT-loop
 Inv-loop table span file k slots left₀ i₀ left i = (onward (isFile file) (tableIn span table slots) i left ≡ numberOf (isFile file) (labels (tableIn span table slots)) k) × (i ≤ length (labels (tableIn span table slots)))

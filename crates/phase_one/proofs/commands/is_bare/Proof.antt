@@ -5,19 +5,13 @@ use Rattle.stanza.specs.Arguments.{countOf}
 use borrow.Author.Needs.{needs}
 use Rattle.phase_one.proofs.commands.is_bare.Statement.{statement}
 use Rattle.phase_one.proofs.commands.is_bare.Tie as tie
-use Rattle.phase_one.proofs.commands.is_bare.Reads as reads
-use Rattle.phase_one.proofs.commands.is_bare.Lts as lts
-use Rattle.stanza.proofs.count.Reads as count-reads
 
--- src/commands.rt:156:8
 count-requires : tie.Need-count-requires
 count-requires c κs = search needs
 
--- src/commands.rt:157:9
 returns : tie.Need-returns
 returns c = rw (ne-eqb (countOf (now (c .before .before .before .args .line))) 1 (λ e. c .if1 .taken (c .before .count .ensures ∙ e)))
 
--- src/commands.rt:153:1
 returns-2 : tie.Need-returns-2
 returns-2 c = rw (eq-eqb (countOf (now (c .before .before .before .args .line))) 1 (sym (c .before .count .ensures) ∙ c .if1 .left))
 

@@ -8,11 +8,6 @@ use Rattle.stanza.specs.Index.{readIndex, indexSaid}
 use borrow.Author.Needs.{needs}
 use Rattle.phase_one.proofs.commands.parse_header.Statement.{statement}
 use Rattle.phase_one.proofs.commands.parse_header.Tie as tie
-use Rattle.phase_one.proofs.commands.parse_header.Reads as reads
-use Rattle.phase_one.proofs.commands.parse_header.Lts as lts
-use Rattle.stanza.proofs.argument.Reads as argument-reads
-use Rattle.stanza.proofs.count.Reads as count-reads
-use Rattle.stanza.proofs.read_index.Reads as read-index-reads
 
 count-requires : tie.Need-count-requires
 count-requires c κs = search needs

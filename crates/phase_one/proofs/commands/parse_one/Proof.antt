@@ -4,13 +4,6 @@ use Rattle.phase_one.specs.Commands.{wordIn, wordSaid}
 use borrow.Author.Needs.{needs}
 use Rattle.phase_one.proofs.commands.parse_one.Statement.{statement}
 use Rattle.phase_one.proofs.commands.parse_one.Tie as tie
-use Rattle.phase_one.proofs.commands.parse_one.Reads as reads
-use Rattle.phase_one.proofs.commands.parse_one.Lts as lts
-use Rattle.phase_one.proofs.commands.is_bare.Reads as is-bare-reads
-use Rattle.phase_one.proofs.commands.parse_header.Reads as parse-header-reads
-use Rattle.phase_one.proofs.commands.parse_text.Reads as parse-text-reads
-use Rattle.phase_one.proofs.commands.word_in.Reads as word-in-reads
-use Rattle.stanza.proofs.argument.Reads as argument-reads
 
 argument-requires : tie.Need-argument-requires
 argument-requires c κs = search needs

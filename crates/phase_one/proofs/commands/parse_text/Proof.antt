@@ -6,9 +6,6 @@ use Rattle.stanza.specs.Arguments.{countOf}
 use borrow.Author.Needs.{needs}
 use Rattle.phase_one.proofs.commands.parse_text.Statement.{statement}
 use Rattle.phase_one.proofs.commands.parse_text.Tie as tie
-use Rattle.phase_one.proofs.commands.parse_text.Reads as reads
-use Rattle.phase_one.proofs.commands.parse_text.Lts as lts
-use Rattle.stanza.proofs.count.Reads as count-reads
 
 count-requires : tie.Need-count-requires
 count-requires c κs = search needs

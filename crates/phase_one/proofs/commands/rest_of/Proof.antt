@@ -3,19 +3,13 @@ use Rattle.phase_one.specs.Commands.{afterSpace}
 use borrow.Author.Needs.{needs}
 use Rattle.phase_one.proofs.commands.rest_of.Statement.{statement}
 use Rattle.phase_one.proofs.commands.rest_of.Tie as tie
-use Rattle.phase_one.proofs.commands.rest_of.Reads as reads
-use Rattle.phase_one.proofs.commands.rest_of.Lts as lts
-use Rattle.phase_one.proofs.commands.after_space.Reads as after-space-reads
 
--- src/commands.rt:102:9
 after-space-requires : tie.Need-after-space-requires
 after-space-requires c κs = search needs
 
--- src/commands.rt:103:5
 after-space-requires-2 : tie.Need-after-space-requires-2
 after-space-requires-2 c κs = search needs
 
--- src/commands.rt:99:1
 returns : tie.Need-returns
 returns c = c .after-space2 .ensures ∙ ap afterSpace (c .before .after-space .ensures)
 

@@ -1,32 +1,22 @@
 use borrow.Author.Needs.{needs}
 use Rattle.phase_one.proofs.commands.word_in.Statement.{statement}
 use Rattle.phase_one.proofs.commands.word_in.Tie as tie
-use Rattle.phase_one.proofs.commands.word_in.Reads as reads
-use Rattle.phase_one.proofs.commands.word_in.Lts as lts
-use Rattle.phase_one.proofs.commands.identity_word.Reads as identity-word-reads
-use Rattle.phase_one.proofs.commands.recipient_word.Reads as recipient-word-reads
 
--- src/commands.rt:77:33
 enum-told : tie.Need-enum-told
 enum-told c = search needs
 
--- src/commands.rt:77:33
 recipient-word-requires : tie.Need-recipient-word-requires
 recipient-word-requires c κs = search needs
 
--- src/commands.rt:78:32
 enum-told-2 : tie.Need-enum-told-2
 enum-told-2 c = search needs
 
--- src/commands.rt:78:32
 identity-word-requires : tie.Need-identity-word-requires
 identity-word-requires c κs = search needs
 
--- src/commands.rt:73:1
 returns : tie.Need-returns
 returns c = rw (c .before .enum-told .given .1) (c .recipient-word .ensures)
 
--- src/commands.rt:73:1
 returns-2 : tie.Need-returns-2
 returns-2 c = rw (c .before .enum-told2 .given .1) (c .identity-word .ensures)
 

@@ -3,8 +3,6 @@ use mathlib.Core.Path.{refl}
 use borrow.Author.Needs.{needs}
 use Rattle.phase_one.proofs.commands.word_of.Statement.{statement}
 use Rattle.phase_one.proofs.commands.word_of.Tie as tie
-use Rattle.phase_one.proofs.commands.word_of.Reads as reads
-use Rattle.phase_one.proofs.commands.word_of.Lts as lts
 
 enum-told : tie.Need-enum-told
 enum-told c = search needs

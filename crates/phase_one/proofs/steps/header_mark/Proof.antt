@@ -5,9 +5,6 @@ use Rattle.phase_one.specs.Commands.{findingMark}
 use borrow.Author.Needs.{needs}
 use Rattle.phase_one.proofs.steps.header_mark.Statement.{statement}
 use Rattle.phase_one.proofs.steps.header_mark.Tie as tie
-use Rattle.phase_one.proofs.steps.header_mark.Reads as reads
-use Rattle.phase_one.proofs.steps.header_mark.Lts as lts
-use Rattle.profile.proofs.check.Reads as check-reads
 
 check-requires : tie.Need-check-requires
 check-requires c κs = search needs

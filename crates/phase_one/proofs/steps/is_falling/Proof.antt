@@ -1,6 +1,5 @@
 -- No header stanza, or a count beyond the slots, and nothing falls; else the last entry's index is compared.
 use denote.Ref.{now}
-use mathlib.Core.Path.{ap, _∙_}
 use native.Mathlib.Omega.{arith}
 use Rattle.tables.specs.Tables.{tableIn}
 use Rattle.session.specs.Tables.{spanOf}
@@ -9,11 +8,6 @@ use Rattle.phase_one.proofs.Laws.PhaseOne.{falls-none, falls-over, fall
 use borrow.Author.Needs.{needs}
 use Rattle.phase_one.proofs.steps.is_falling.Statement.{statement}
 use Rattle.phase_one.proofs.steps.is_falling.Tie as tie
-use Rattle.phase_one.proofs.steps.is_falling.Reads as reads
-use Rattle.phase_one.proofs.steps.is_falling.Lts as lts
-use Rattle.phase_one.proofs.steps.wide.Reads as wide-reads
-use Rattle.session.proofs.span_of.Reads as span-of-reads
-use Rattle.tables.proofs.entry_at.Reads as entry-at-reads
 
 returns : tie.Need-returns
 returns c = falls-none (tableIn (spanOf the.Headers) (c .before .args .headers) (now (c .before .args .slots))) (c .before .args .index) (c .if1 .taken)

@@ -1,12 +1,11 @@
 -- Each arm is one law of a command that is kept, refused or ignored; parsing says which it is, storing what it came to.
-use mathlib.Core.Path.{_≡_, refl, sym, ap, _∙_}
+use mathlib.Core.Path.{refl, sym, ap, _∙_}
 use lib.ListN.{length}
 use denote.Ref.{now}
 use Rattle.refusal.specs.Verdict.{verdictSaid}
 use Rattle.refusal.proofs.Laws.Number.{number-not-zero}
 use Rattle.tables.specs.Bodies.{bodyFrom}
-use Rattle.session.specs.Tables.{spanOf, tablesIn}
-use Rattle.session.specs.declared.kinds.Kind.the-variants as the
+use Rattle.session.specs.Tables.{tablesIn}
 use Rattle.session.proofs.Laws.Putting.{put-recipients, put-identities, put-keys, put-headers}
 use Rattle.phase_one.specs.Commands.{commandSaid}
 use Rattle.phase_one.specs.PhaseOne.{buffersOf}
@@ -14,19 +13,6 @@ use Rattle.phase_one.proofs.Laws.PhaseOne.{step-bad, step-done, step-ot
 use borrow.Author.Needs.{needs}
 use Rattle.phase_one.proofs.steps.step_one.Statement.{statement}
 use Rattle.phase_one.proofs.steps.step_one.Tie as tie
-use Rattle.phase_one.proofs.steps.step_one.Reads as reads
-use Rattle.phase_one.proofs.steps.step_one.Lts as lts
-use Rattle.phase_one.proofs.commands.parse_one.Reads as parse-one-reads
-use Rattle.phase_one.proofs.commands.rest_of.Reads as rest-of-reads
-use Rattle.phase_one.proofs.steps.header_mark.Reads as header-mark-reads
-use Rattle.phase_one.proofs.steps.is_falling.Reads as is-falling-reads
-use Rattle.phase_one.proofs.steps.text_mark.Reads as text-mark-reads
-use Rattle.phase_one.proofs.steps.wide.Reads as wide-reads
-use Rattle.session.proofs.span_of.Reads as span-of-reads
-use Rattle.stanza.proofs.argument.Reads as argument-reads
-use Rattle.tables.proofs.body_size.Reads as body-size-reads
-use Rattle.tables.proofs.tables.Table.store.Reads as store-reads
-use Rattle.tables.proofs.tables.Table.store_lines.Reads as store-lines-reads
 
 body-size-requires : tie.Need-body-size-requires
 body-size-requires c κs = search needs

@@ -3,8 +3,6 @@ use mathlib.Core.Path.{refl}
 use borrow.Author.Needs.{needs}
 use Rattle.phase_one.proofs.turns.phase_after.Statement.{statement}
 use Rattle.phase_one.proofs.turns.phase_after.Tie as tie
-use Rattle.phase_one.proofs.turns.phase_after.Reads as reads
-use Rattle.phase_one.proofs.turns.phase_after.Lts as lts
 
 enum-told : tie.Need-enum-told
 enum-told c = search needs

@@ -3,10 +3,6 @@ use Rattle.refusal.proofs.Laws.Number.{number-not-zero}
 use borrow.Author.Needs.{needs}
 use Rattle.phase_one.proofs.turns.phase_received.Statement.{statement}
 use Rattle.phase_one.proofs.turns.phase_received.Tie as tie
-use Rattle.phase_one.proofs.turns.phase_received.Reads as reads
-use Rattle.phase_one.proofs.turns.phase_received.Lts as lts
-use Rattle.phase_one.proofs.turns.phase_after.Reads as phase-after-reads
-use Rattle.session.proofs.phase_refused.Reads as phase-refused-reads
 
 enum-told : tie.Need-enum-told
 enum-told c = search needs

@@ -4,9 +4,6 @@ use Rattle.refusal.proofs.Laws.Number.{number-not-zero}
 use borrow.Author.Needs.{needs}
 use Rattle.phase_one.proofs.turns.phase_sent.Statement.{statement}
 use Rattle.phase_one.proofs.turns.phase_sent.Tie as tie
-use Rattle.phase_one.proofs.turns.phase_sent.Reads as reads
-use Rattle.phase_one.proofs.turns.phase_sent.Lts as lts
-use Rattle.phase_one.proofs.turns.phase_after.Reads as phase-after-reads
 
 enum-told : tie.Need-enum-told
 enum-told c = search needs

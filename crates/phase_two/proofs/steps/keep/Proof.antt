@@ -1,8 +1,7 @@
 -- Each arm is one law of a command that is kept, or that makes no entry; storing says what it came to.
-use mathlib.Core.Path.{_≡_, refl, sym, ap, _∙_}
-use mathlib.Core.List.{List, [], _∷_, _++_}
+use mathlib.Core.Path.{refl, _∙_}
+use mathlib.Core.List.{[], _∷_, _++_}
 use Rattle.refusal.specs.Number.{numberOf}
-use Prim.Native.Nat.{ℕ}
 use denote.Ref.{now}
 use Rattle.refusal.specs.Verdict.{verdictSaid}
 use Rattle.tables.specs.Bodies.{bodyFrom}
@@ -16,15 +15,6 @@ use Rattle.phase_two.proofs.Laws.Steps.{step-none, step-stanza, step-ke
 use borrow.Author.Needs.{needs}
 use Rattle.phase_two.proofs.steps.keep.Statement.{statement}
 use Rattle.phase_two.proofs.steps.keep.Tie as tie
-use Rattle.phase_two.proofs.steps.keep.Reads as reads
-use Rattle.phase_two.proofs.steps.keep.Lts as lts
-use Rattle.phase_one.proofs.rest_of.Reads as rest-of-reads
-use Rattle.phase_one.proofs.wide.Reads as wide-reads
-use Rattle.phase_two.proofs.steps.index_of.Reads as index-of-reads
-use Rattle.phase_two.proofs.steps.mark_of.Reads as mark-of-reads
-use Rattle.session.proofs.span_of.Reads as span-of-reads
-use Rattle.tables.proofs.tables.Table.store.Reads as store-reads
-use Rattle.tables.proofs.tables.Table.store_lines.Reads as store-lines-reads
 
 enum-known-command : tie.Need-enum-known-command
 enum-known-command c = search needs

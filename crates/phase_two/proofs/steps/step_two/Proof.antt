@@ -1,7 +1,4 @@
 -- Ruled out, nothing changes; else the command is kept.
-use mathlib.Core.Path.{refl}
-use mathlib.Core.List.{List}
-use Prim.Native.Nat.{ℕ}
 use Rattle.refusal.specs.Number.{numberOf}
 use Rattle.tables.specs.Bodies.{bodyFrom}
 use Rattle.conversation.specs.CommandsTwo.{payloadOf}
@@ -15,9 +12,6 @@ use Rattle.phase_two.proofs.Laws.Steps.{step-ruled}
 use borrow.Author.Needs.{needs}
 use Rattle.phase_two.proofs.steps.step_two.Statement.{statement}
 use Rattle.phase_two.proofs.steps.step_two.Tie as tie
-use Rattle.phase_two.proofs.steps.step_two.Reads as reads
-use Rattle.phase_two.proofs.steps.step_two.Lts as lts
-use Rattle.phase_two.proofs.steps.keep.Reads as keep-reads
 
 enum-told : tie.Need-enum-told
 enum-told c = search needs

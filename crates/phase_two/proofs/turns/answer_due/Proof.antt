@@ -2,8 +2,6 @@
 use borrow.Author.Needs.{needs}
 use Rattle.phase_two.proofs.turns.answer_due.Statement.{statement}
 use Rattle.phase_two.proofs.turns.answer_due.Tie as tie
-use Rattle.phase_two.proofs.turns.answer_due.Reads as reads
-use Rattle.phase_two.proofs.turns.answer_due.Lts as lts
 
 enum-told : tie.Need-enum-told
 enum-told c = search needs

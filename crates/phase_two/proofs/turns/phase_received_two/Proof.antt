@@ -3,10 +3,6 @@ use Rattle.refusal.proofs.Laws.Number.{number-not-zero}
 use borrow.Author.Needs.{needs}
 use Rattle.phase_two.proofs.turns.phase_received_two.Statement.{statement}
 use Rattle.phase_two.proofs.turns.phase_received_two.Tie as tie
-use Rattle.phase_two.proofs.turns.phase_received_two.Reads as reads
-use Rattle.phase_two.proofs.turns.phase_received_two.Lts as lts
-use Rattle.phase_two.proofs.turns.phase_taken.Reads as phase-taken-reads
-use Rattle.session.proofs.phase_refused.Reads as phase-refused-reads
 
 enum-told : tie.Need-enum-told
 enum-told c = search needs

@@ -3,9 +3,6 @@ use Rattle.refusal.proofs.Laws.Number.{number-not-zero}
 use borrow.Author.Needs.{needs}
 use Rattle.phase_two.proofs.turns.phase_sent_two.Statement.{statement}
 use Rattle.phase_two.proofs.turns.phase_sent_two.Tie as tie
-use Rattle.phase_two.proofs.turns.phase_sent_two.Reads as reads
-use Rattle.phase_two.proofs.turns.phase_sent_two.Lts as lts
-use Rattle.phase_two.proofs.turns.phase_spoken.Reads as phase-spoken-reads
 
 enum-told : tie.Need-enum-told
 enum-told c = search needs

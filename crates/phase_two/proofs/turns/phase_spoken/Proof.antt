@@ -1,62 +1,46 @@
 use borrow.Author.Needs.{needs}
 use Rattle.phase_two.proofs.turns.phase_spoken.Statement.{statement}
 use Rattle.phase_two.proofs.turns.phase_spoken.Tie as tie
-use Rattle.phase_two.proofs.turns.phase_spoken.Reads as reads
-use Rattle.phase_two.proofs.turns.phase_spoken.Lts as lts
 
--- src/turns.rt:87:25
 enum-known-command : tie.Need-enum-known-command
 enum-known-command c = search needs
 
--- src/turns.rt:88:50
 enum-told : tie.Need-enum-told
 enum-told c = search needs
 
--- src/turns.rt:89:47
 enum-told-2 : tie.Need-enum-told-2
 enum-told-2 c = search needs
 
--- src/turns.rt:90:49
 enum-told-3 : tie.Need-enum-told-3
 enum-told-3 c = search needs
 
--- src/turns.rt:91:29
 enum-told-4 : tie.Need-enum-told-4
 enum-told-4 c = search needs
 
--- src/turns.rt:92:46
 enum-told-5 : tie.Need-enum-told-5
 enum-told-5 c = search needs
 
--- src/turns.rt:93:35
 enum-told-6 : tie.Need-enum-told-6
 enum-told-6 c = search needs
 
--- src/turns.rt:83:1
 returns : tie.Need-returns
 returns c = rw (c .before .command .given .1)
 
--- src/turns.rt:83:1
 returns-2 : tie.Need-returns-2
 returns-2 c = rw (c .enum-told .given .1)
 
--- src/turns.rt:83:1
 returns-3 : tie.Need-returns-3
 returns-3 c = rw (c .enum-told2 .given .1)
 
--- src/turns.rt:83:1
 returns-4 : tie.Need-returns-4
 returns-4 c = rw (c .enum-told3 .given .1)
 
--- src/turns.rt:83:1
 returns-5 : tie.Need-returns-5
 returns-5 c = search needs
 
--- src/turns.rt:83:1
 returns-6 : tie.Need-returns-6
 returns-6 c = rw (c .enum-told5 .given .1)
 
--- src/turns.rt:83:1
 returns-7 : tie.Need-returns-7
 returns-7 c = search needs
 

@@ -1,66 +1,49 @@
 use borrow.Author.Needs.{needs}
 use Rattle.phase_two.proofs.turns.phase_taken.Statement.{statement}
 use Rattle.phase_two.proofs.turns.phase_taken.Tie as tie
-use Rattle.phase_two.proofs.turns.phase_taken.Reads as reads
-use Rattle.phase_two.proofs.turns.phase_taken.Lts as lts
 
--- src/turns.rt:67:25
 enum-known-command : tie.Need-enum-known-command
 enum-known-command c = search needs
 
--- src/turns.rt:69:17
 returns : tie.Need-returns
 returns c = rw (c .before .before .command .given .1, c .if1 .taken)
 
--- src/turns.rt:73:34
 enum-told : tie.Need-enum-told
 enum-told c = search needs
 
--- src/turns.rt:74:31
 enum-told-2 : tie.Need-enum-told-2
 enum-told-2 c = search needs
 
--- src/turns.rt:75:33
 enum-told-3 : tie.Need-enum-told-3
 enum-told-3 c = search needs
 
--- src/turns.rt:76:29
 enum-told-4 : tie.Need-enum-told-4
 enum-told-4 c = search needs
 
--- src/turns.rt:77:30
 enum-told-5 : tie.Need-enum-told-5
 enum-told-5 c = search needs
 
--- src/turns.rt:78:35
 enum-told-6 : tie.Need-enum-told-6
 enum-told-6 c = search needs
 
--- src/turns.rt:63:1
 returns-2 : tie.Need-returns-2
 returns-2 c = search needs
 
--- src/turns.rt:63:1
 returns-3 : tie.Need-returns-3
 returns-3 c = search needs
 
--- src/turns.rt:63:1
 returns-4 : tie.Need-returns-4
 returns-4 c = search needs
 
--- src/turns.rt:63:1
 returns-5 : tie.Need-returns-5
 returns-5 c = search needs
 
--- src/turns.rt:63:1
 returns-6 : tie.Need-returns-6
 returns-6 c = search needs
 
--- src/turns.rt:63:1
 returns-7 : tie.Need-returns-7
 returns-7 c = search needs
 
--- src/turns.rt:63:1
 returns-8 : tie.Need-returns-8
 returns-8 c = search needs
 

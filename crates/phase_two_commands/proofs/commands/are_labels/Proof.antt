@@ -5,45 +5,31 @@ use Rattle.stanza.specs.Arguments.{countOf}
 use borrow.Author.Needs.{needs}
 use Rattle.phase_two_commands.proofs.commands.are_labels.Statement.{statement}
 use Rattle.phase_two_commands.proofs.commands.are_labels.Tie as tie
-use Rattle.phase_two_commands.proofs.commands.are_labels.Reads as reads
-use Rattle.phase_two_commands.proofs.commands.are_labels.Lts as lts
-use Rattle.phase_two_commands.proofs.commands.is_base64.Reads as is-base64-reads
-use Rattle.stanza.proofs.argument.Reads as argument-reads
-use Rattle.stanza.proofs.count.Reads as count-reads
 
--- src/commands.rt:135:9
 argument-requires : tie.Need-argument-requires
 argument-requires c κs = search needs
 
--- src/commands.rt:136:9
 is-base64-requires : tie.Need-is-base64-requires
 is-base64-requires c κs = search needs
 
--- src/commands.rt:137:9
 returns : tie.Need-returns
 returns c = rw (← c .before .before .argument .ensures, sym (c .before .is-base64 .ensures) ∙ not-true (c .before .is-base64 .result) (c .if1 .taken))
 
--- src/commands.rt:139:9
 count-requires : tie.Need-count-requires
 count-requires c κs = search needs
 
--- src/commands.rt:141:9
 returns-2 : tie.Need-returns-2
 returns-2 c = rw (← c .before .before .before .before .argument .ensures, sym (c .before .before .before .is-base64 .ensures) ∙ not-false (c .before .before .before .is-base64 .result) (c .before .before .if1 .left), eq-eqb (countOf (now (c .before .before .before .before .before .before .args .line))) 2 (sym (c .before .count .ensures) ∙ c .if2 .taken))
 
--- src/commands.rt:144:9
 returns-3 : tie.Need-returns-3
 returns-3 c = rw (← c .before .before .before .before .before .argument .ensures, sym (c .before .before .before .before .is-base64 .ensures) ∙ not-false (c .before .before .before .before .is-base64 .result) (c .before .before .before .if1 .left), ne-eqb (countOf (now (c .before .before .before .before .before .before .before .args .line))) 2 (λ e. c .before .if2 .left (c .before .before .count .ensures ∙ e)), ne-eqb (countOf (now (c .before .before .before .before .before .before .before .args .line))) 3 (λ e. c .if3 .taken (c .before .before .count .ensures ∙ e)))
 
--- src/commands.rt:146:9
 argument-requires-2 : tie.Need-argument-requires-2
 argument-requires-2 c κs = search needs
 
--- src/commands.rt:147:5
 is-base64-requires-2 : tie.Need-is-base64-requires-2
 is-base64-requires-2 c κs = search needs
 
--- src/commands.rt:132:1
 returns-4 : tie.Need-returns-4
 returns-4 c = rw (← c .before .before .before .before .before .before .before .argument .ensures, sym (c .before .before .before .before .before .before .is-base64 .ensures) ∙ not-false (c .before .before .before .before .before .before .is-base64 .result) (c .before .before .before .before .before .if1 .left), ne-eqb (countOf (now (c .before .before .before .before .before .before .before .before .before .args .line))) 2 (λ e. c .before .before .before .if2 .left (c .before .before .before .before .count .ensures ∙ e)), eq-eqb (countOf (now (c .before .before .before .before .before .before .before .before .before .args .line))) 3 (sym (c .before .before .before .before .count .ensures) ∙ c .before .before .if3 .left), ← c .before .argument2 .ensures) (c .is-base642 .ensures)
 

@@ -3,52 +3,37 @@ use Rattle.stanza.specs.Index.{readIndex, indexSaid}
 use borrow.Author.Needs.{needs}
 use Rattle.phase_two_commands.proofs.commands.header_at.Statement.{statement}
 use Rattle.phase_two_commands.proofs.commands.header_at.Tie as tie
-use Rattle.phase_two_commands.proofs.commands.header_at.Reads as reads
-use Rattle.phase_two_commands.proofs.commands.header_at.Lts as lts
-use Rattle.stanza.proofs.argument.Reads as argument-reads
-use Rattle.stanza.proofs.read_index.Reads as read-index-reads
 
--- src/commands.rt:187:9
 argument-requires : tie.Need-argument-requires
 argument-requires c κs = search needs
 
--- src/commands.rt:188:9
 argument-requires-2 : tie.Need-argument-requires-2
 argument-requires-2 c κs = search needs
 
--- src/commands.rt:189:9
 read-index-requires : tie.Need-read-index-requires
 read-index-requires c κs = search needs
 
--- src/commands.rt:190:9
 read-index-requires-2 : tie.Need-read-index-requires-2
 read-index-requires-2 c κs = search needs
 
--- src/commands.rt:192:23
 enum-known-file : tie.Need-enum-known-file
 enum-known-file c = search needs
 
--- src/commands.rt:193:27
 enum-known-number : tie.Need-enum-known-number
 enum-known-number c = search needs
 
--- src/commands.rt:194:28
 enum-known-number-2 : tie.Need-enum-known-number-2
 enum-known-number-2 c = search needs
 
--- src/commands.rt:196:24
 enum-known-file-2 : tie.Need-enum-known-file-2
 enum-known-file-2 c = search needs
 
--- src/commands.rt:184:1
 returns : tie.Need-returns
 returns c = rw (ap readIndex (sym (c .before .before .before .before .before .before .before .before .before .argument .ensures)) ∙ sym (c .before .before .before .before .before .before .before .read-index .ensures) ∙ ap indexSaid (c .before .before .before .before .file .given .1), ap readIndex (sym (c .before .before .before .before .before .before .before .before .argument2 .ensures)) ∙ sym (c .before .before .before .before .before .before .read-index2 .ensures) ∙ ap indexSaid (c .before .number .given .1))
 
--- src/commands.rt:184:1
 returns-2 : tie.Need-returns-2
 returns-2 c = rw (ap readIndex (sym (c .before .before .before .before .before .before .before .before .before .argument .ensures)) ∙ sym (c .before .before .before .before .before .before .before .read-index .ensures) ∙ ap indexSaid (c .before .before .before .before .file .given .1), ap readIndex (sym (c .before .before .before .before .before .before .before .before .argument2 .ensures)) ∙ sym (c .before .before .before .before .before .before .read-index2 .ensures) ∙ ap indexSaid (c .before .number2 .given .1))
 
--- src/commands.rt:184:1
 returns-3 : tie.Need-returns-3
 returns-3 c = rw (ap readIndex (sym (c .before .before .before .before .before .before .argument .ensures)) ∙ sym (c .before .before .before .before .read-index .ensures) ∙ ap indexSaid (c .before .file2 .given .1))
 

@@ -5,27 +5,19 @@ use Rattle.profile.proofs.Laws.Profile.{measured-is, measured-not}
 use borrow.Author.Needs.{needs}
 use Rattle.phase_two_commands.proofs.commands.is_base64.Statement.{statement}
 use Rattle.phase_two_commands.proofs.commands.is_base64.Tie as tie
-use Rattle.phase_two_commands.proofs.commands.is_base64.Reads as reads
-use Rattle.phase_two_commands.proofs.commands.is_base64.Lts as lts
-use Rattle.base64.proofs.measure.Reads as measure-reads
 
--- src/commands.rt:124:9
 measure-requires : tie.Need-measure-requires
 measure-requires c κs = search needs
 
--- src/commands.rt:126:27
 enum-told : tie.Need-enum-told
 enum-told c = search needs
 
--- src/commands.rt:127:28
 enum-told-2 : tie.Need-enum-told-2
 enum-told-2 c = search needs
 
--- src/commands.rt:121:1
 returns : tie.Need-returns
 returns c = rw (measured-is (now (c .before .before .before .before .args .text)) _ (sym (c .before .before .measure .ensures) ∙ ap sizeSaid (c .enum-told .given .1)) .0)
 
--- src/commands.rt:121:1
 returns-2 : tie.Need-returns-2
 returns-2 c = rw (measured-not (now (c .before .before .before .before .args .text)) (sym (c .before .before .measure .ensures) ∙ ap sizeSaid (c .enum-told2 .given .1)))
 

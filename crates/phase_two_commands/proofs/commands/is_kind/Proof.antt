@@ -4,29 +4,19 @@ use borrow.Author.Tests.{not-true, not-false}
 use borrow.Author.Needs.{needs}
 use Rattle.phase_two_commands.proofs.commands.is_kind.Statement.{statement}
 use Rattle.phase_two_commands.proofs.commands.is_kind.Tie as tie
-use Rattle.phase_two_commands.proofs.commands.is_kind.Reads as reads
-use Rattle.phase_two_commands.proofs.commands.is_kind.Lts as lts
-use Rattle.stanza.proofs.argument.Reads as argument-reads
-use Rattle.stanza.proofs.count.Reads as count-reads
-use Rattle.stanza.proofs.is_same.Reads as is-same-reads
 
--- src/commands.rt:154:9
 argument-requires : tie.Need-argument-requires
 argument-requires c κs = search needs
 
--- src/commands.rt:155:9
 is-same-requires : tie.Need-is-same-requires
 is-same-requires c κs = search needs
 
--- src/commands.rt:156:9
 returns : tie.Need-returns
 returns c = rw (← c .before .before .argument .ensures, sym (c .before .is-same .ensures) ∙ not-true (c .before .is-same .result) (c .if1 .taken))
 
--- src/commands.rt:158:5
 count-requires : tie.Need-count-requires
 count-requires c κs = search needs
 
--- src/commands.rt:151:1
 returns-2 : tie.Need-returns-2
 returns-2 c = rw (← c .before .before .before .argument .ensures, sym (c .before .before .is-same .ensures) ∙ not-false (c .before .before .is-same .result) (c .before .if1 .left)) (ap (λ k. eqb k (c .before .before .before .before .before .before .args .n)) (c .count .ensures))
 

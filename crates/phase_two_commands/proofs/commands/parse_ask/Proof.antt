@@ -5,19 +5,13 @@ use Rattle.stanza.specs.Arguments.{countOf}
 use borrow.Author.Needs.{needs}
 use Rattle.phase_two_commands.proofs.commands.parse_ask.Statement.{statement}
 use Rattle.phase_two_commands.proofs.commands.parse_ask.Tie as tie
-use Rattle.phase_two_commands.proofs.commands.parse_ask.Reads as reads
-use Rattle.phase_two_commands.proofs.commands.parse_ask.Lts as lts
-use Rattle.stanza.proofs.count.Reads as count-reads
 
--- src/commands.rt:237:8
 count-requires : tie.Need-count-requires
 count-requires c κs = search needs
 
--- src/commands.rt:238:9
 returns : tie.Need-returns
 returns c = rw (eq-eqb (countOf (now (c .before .before .before .args .line))) 1 (sym (c .before .count .ensures) ∙ c .if1 .taken))
 
--- src/commands.rt:234:1
 returns-2 : tie.Need-returns-2
 returns-2 c = rw (ne-eqb (countOf (now (c .before .before .before .args .line))) 1 (λ e. c .if1 .left (c .before .count .ensures ∙ e)))
 

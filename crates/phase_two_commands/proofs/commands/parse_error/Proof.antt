@@ -2,45 +2,31 @@ use mathlib.Core.Path.{sym, _∙_}
 use borrow.Author.Needs.{needs}
 use Rattle.phase_two_commands.proofs.commands.parse_error.Statement.{statement}
 use Rattle.phase_two_commands.proofs.commands.parse_error.Tie as tie
-use Rattle.phase_two_commands.proofs.commands.parse_error.Reads as reads
-use Rattle.phase_two_commands.proofs.commands.parse_error.Lts as lts
-use Rattle.phase_two_commands.proofs.commands.error_at.Reads as error-at-reads
-use Rattle.phase_two_commands.proofs.commands.is_kind.Reads as is-kind-reads
-use Rattle.phase_two_commands.proofs.commands.parse_own_error.Reads as parse-own-error-reads
 
--- src/commands.rt:224:22
 slice-aggregate-is-kind : tie.Need-slice-aggregate-is-kind
 slice-aggregate-is-kind c = search needs
 
--- src/commands.rt:224:8
 is-kind-requires : tie.Need-is-kind-requires
 is-kind-requires c κs = search needs
 
--- src/commands.rt:225:9
 returns : tie.Need-returns
 returns c = rw (sym (c .before .is-kind .ensures) ∙ c .if1 .taken)
 
--- src/commands.rt:227:22
 slice-aggregate-is-kind-2 : tie.Need-slice-aggregate-is-kind-2
 slice-aggregate-is-kind-2 c = search needs
 
--- src/commands.rt:227:8
 is-kind-requires-2 : tie.Need-is-kind-requires-2
 is-kind-requires-2 c κs = search needs
 
--- src/commands.rt:228:9
 error-at-requires : tie.Need-error-at-requires
 error-at-requires c κs = search needs
 
--- src/commands.rt:228:9
 returns-2 : tie.Need-returns-2
 returns-2 c = rw (sym (c .before .before .before .before .before .is-kind .ensures) ∙ c .before .before .before .before .if1 .left, sym (c .before .before .is-kind2 .ensures) ∙ c .before .if2 .taken) (c .error-at .ensures)
 
--- src/commands.rt:230:5
 parse-own-error-requires : tie.Need-parse-own-error-requires
 parse-own-error-requires c κs = search needs
 
--- src/commands.rt:221:1
 returns-3 : tie.Need-returns-3
 returns-3 c = rw (sym (c .before .before .before .before .before .is-kind .ensures) ∙ c .before .before .before .before .if1 .left, sym (c .before .before .is-kind2 .ensures) ∙ c .before .if2 .left) (c .parse-own-error .ensures)
 

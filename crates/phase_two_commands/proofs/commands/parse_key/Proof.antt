@@ -6,45 +6,31 @@ use Rattle.stanza.specs.Index.{readIndex, indexSaid}
 use borrow.Author.Needs.{needs}
 use Rattle.phase_two_commands.proofs.commands.parse_key.Statement.{statement}
 use Rattle.phase_two_commands.proofs.commands.parse_key.Tie as tie
-use Rattle.phase_two_commands.proofs.commands.parse_key.Reads as reads
-use Rattle.phase_two_commands.proofs.commands.parse_key.Lts as lts
-use Rattle.stanza.proofs.argument.Reads as argument-reads
-use Rattle.stanza.proofs.count.Reads as count-reads
-use Rattle.stanza.proofs.read_index.Reads as read-index-reads
 
--- src/commands.rt:272:8
 count-requires : tie.Need-count-requires
 count-requires c κs = search needs
 
--- src/commands.rt:273:9
 returns : tie.Need-returns
 returns c = rw (ne-eqb (countOf (now (c .before .before .before .args .line))) 2 (λ e. c .if1 .taken (c .before .count .ensures ∙ e)))
 
--- src/commands.rt:276:9
 returns-2 : tie.Need-returns-2
 returns-2 c = rw (eq-eqb (countOf (now (c .before .before .before .before .args .line))) 2 (sym (c .before .before .count .ensures) ∙ c .before .if1 .left), ne-eqb (c .before .before .before .before .args .body) 16 (c .if2 .taken))
 
--- src/commands.rt:278:9
 argument-requires : tie.Need-argument-requires
 argument-requires c κs = search needs
 
--- src/commands.rt:279:9
 read-index-requires : tie.Need-read-index-requires
 read-index-requires c κs = search needs
 
--- src/commands.rt:281:23
 enum-known-index : tie.Need-enum-known-index
 enum-known-index c = search needs
 
--- src/commands.rt:282:24
 enum-known-index-2 : tie.Need-enum-known-index-2
 enum-known-index-2 c = search needs
 
--- src/commands.rt:269:1
 returns-3 : tie.Need-returns-3
 returns-3 c = rw (eq-eqb (countOf (now (c .before .before .before .before .before .before .before .before .before .args .line))) 2 (sym (c .before .before .before .before .before .before .before .count .ensures) ∙ c .before .before .before .before .before .before .if1 .left), eq-eqb (c .before .before .before .before .before .before .before .before .before .args .body) 16 (c .before .before .before .before .before .if2 .left), ap readIndex (sym (c .before .before .before .before .argument .ensures)) ∙ sym (c .before .before .before .read-index .ensures) ∙ ap indexSaid (c .before .index .given .1))
 
--- src/commands.rt:269:1
 returns-4 : tie.Need-returns-4
 returns-4 c = rw (eq-eqb (countOf (now (c .before .before .before .before .before .before .before .before .before .args .line))) 2 (sym (c .before .before .before .before .before .before .before .count .ensures) ∙ c .before .before .before .before .before .before .if1 .left), eq-eqb (c .before .before .before .before .before .before .before .before .before .args .body) 16 (c .before .before .before .before .before .if2 .left), ap readIndex (sym (c .before .before .before .before .argument .ensures)) ∙ sym (c .before .before .before .read-index .ensures) ∙ ap indexSaid (c .before .index2 .given .1))
 

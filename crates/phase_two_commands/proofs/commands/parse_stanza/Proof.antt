@@ -7,41 +7,28 @@ use Rattle.stanza.specs.Index.{readIndex, indexSaid}
 use borrow.Author.Needs.{needs}
 use Rattle.phase_two_commands.proofs.commands.parse_stanza.Statement.{statement}
 use Rattle.phase_two_commands.proofs.commands.parse_stanza.Tie as tie
-use Rattle.phase_two_commands.proofs.commands.parse_stanza.Reads as reads
-use Rattle.phase_two_commands.proofs.commands.parse_stanza.Lts as lts
-use Rattle.stanza.proofs.argument.Reads as argument-reads
-use Rattle.stanza.proofs.count.Reads as count-reads
-use Rattle.stanza.proofs.read_index.Reads as read-index-reads
 
--- src/commands.rt:257:8
 count-requires : tie.Need-count-requires
 count-requires c κs = search needs
 
--- src/commands.rt:258:9
 returns : tie.Need-returns
 returns c = rw (lt-leb 3 (countOf (now (c .before .before .before .args .line))) (omega (arith, c .before .count .ensures)))
 
--- src/commands.rt:260:9
 argument-requires : tie.Need-argument-requires
 argument-requires c κs = search needs
 
--- src/commands.rt:261:9
 read-index-requires : tie.Need-read-index-requires
 read-index-requires c κs = search needs
 
--- src/commands.rt:263:23
 enum-known-index : tie.Need-enum-known-index
 enum-known-index c = search needs
 
--- src/commands.rt:264:24
 enum-known-index-2 : tie.Need-enum-known-index-2
 enum-known-index-2 c = search needs
 
--- src/commands.rt:254:1
 returns-2 : tie.Need-returns-2
 returns-2 c = rw (le-leb 3 (countOf (now (c .before .before .before .before .before .before .before .before .args .line))) (omega (arith, c .before .before .before .before .before .before .count .ensures)), ap readIndex (sym (c .before .before .before .before .argument .ensures)) ∙ sym (c .before .before .before .read-index .ensures) ∙ ap indexSaid (c .before .index .given .1))
 
--- src/commands.rt:254:1
 returns-3 : tie.Need-returns-3
 returns-3 c = rw (le-leb 3 (countOf (now (c .before .before .before .before .before .before .before .before .args .line))) (omega (arith, c .before .before .before .before .before .before .count .ensures)), ap readIndex (sym (c .before .before .before .before .argument .ensures)) ∙ sym (c .before .before .before .read-index .ensures) ∙ ap indexSaid (c .before .index2 .given .1))
 

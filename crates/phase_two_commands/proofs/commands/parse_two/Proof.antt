@@ -3,126 +3,88 @@ use Rattle.conversation.specs.CommandsTwo.{wordTwo}
 use borrow.Author.Needs.{needs}
 use Rattle.phase_two_commands.proofs.commands.parse_two.Statement.{statement}
 use Rattle.phase_two_commands.proofs.commands.parse_two.Tie as tie
-use Rattle.phase_two_commands.proofs.commands.parse_two.Reads as reads
-use Rattle.phase_two_commands.proofs.commands.parse_two.Lts as lts
-use Rattle.phase_two_commands.proofs.commands.parse_ask.Reads as parse-ask-reads
-use Rattle.phase_two_commands.proofs.commands.parse_confirm.Reads as parse-confirm-reads
-use Rattle.phase_two_commands.proofs.commands.parse_done.Reads as parse-done-reads
-use Rattle.phase_two_commands.proofs.commands.parse_error.Reads as parse-error-reads
-use Rattle.phase_two_commands.proofs.commands.parse_key.Reads as parse-key-reads
-use Rattle.phase_two_commands.proofs.commands.parse_stanza.Reads as parse-stanza-reads
-use Rattle.phase_two_commands.proofs.commands.word_two.Reads as word-two-reads
-use Rattle.stanza.proofs.argument.Reads as argument-reads
 
--- src/commands.rt:303:9
 argument-requires : tie.Need-argument-requires
 argument-requires c κs = search needs
 
--- src/commands.rt:304:9
 word-two-requires : tie.Need-word-two-requires
 word-two-requires c κs = search needs
 
--- src/commands.rt:306:25
 enum-told : tie.Need-enum-told
 enum-told c = search needs
 
--- src/commands.rt:306:25
 parse-ask-requires : tie.Need-parse-ask-requires
 parse-ask-requires c κs = search needs
 
--- src/commands.rt:307:29
 enum-told-2 : tie.Need-enum-told-2
 enum-told-2 c = search needs
 
--- src/commands.rt:307:29
 parse-confirm-requires : tie.Need-parse-confirm-requires
 parse-confirm-requires c κs = search needs
 
--- src/commands.rt:308:35
 enum-told-3 : tie.Need-enum-told-3
 enum-told-3 c = search needs
 
--- src/commands.rt:308:35
 parse-ask-requires-2 : tie.Need-parse-ask-requires-2
 parse-ask-requires-2 c κs = search needs
 
--- src/commands.rt:309:35
 enum-told-4 : tie.Need-enum-told-4
 enum-told-4 c = search needs
 
--- src/commands.rt:309:35
 parse-ask-requires-3 : tie.Need-parse-ask-requires-3
 parse-ask-requires-3 c κs = search needs
 
--- src/commands.rt:310:37
 enum-told-5 : tie.Need-enum-told-5
 enum-told-5 c = search needs
 
--- src/commands.rt:310:37
 parse-stanza-requires : tie.Need-parse-stanza-requires
 parse-stanza-requires c κs = search needs
 
--- src/commands.rt:311:29
 enum-told-6 : tie.Need-enum-told-6
 enum-told-6 c = search needs
 
--- src/commands.rt:311:29
 parse-key-requires : tie.Need-parse-key-requires
 parse-key-requires c κs = search needs
 
--- src/commands.rt:312:27
 enum-told-7 : tie.Need-enum-told-7
 enum-told-7 c = search needs
 
--- src/commands.rt:312:27
 parse-error-requires : tie.Need-parse-error-requires
 parse-error-requires c κs = search needs
 
--- src/commands.rt:313:27
 enum-told-8 : tie.Need-enum-told-8
 enum-told-8 c = search needs
 
--- src/commands.rt:314:26
 enum-told-9 : tie.Need-enum-told-9
 enum-told-9 c = search needs
 
--- src/commands.rt:314:26
 parse-done-requires : tie.Need-parse-done-requires
 parse-done-requires c κs = search needs
 
--- src/commands.rt:300:1
 returns : tie.Need-returns
 returns c = rw (ap (wordTwo (c .before .before .before .before .before .before .args .machine)) (sym (c .before .before .before .before .argument .ensures)) ∙ sym (c .before .before .before .word-two .ensures) ∙ c .before .enum-told .given .1) (rw (c .before .enum-told .given .1) at (c .parse-ask .ensures))
 
--- src/commands.rt:300:1
 returns-2 : tie.Need-returns-2
 returns-2 c = rw (ap (wordTwo (c .before .before .before .before .before .before .args .machine)) (sym (c .before .before .before .before .argument .ensures)) ∙ sym (c .before .before .before .word-two .ensures) ∙ c .before .enum-told2 .given .1) (c .parse-confirm .ensures)
 
--- src/commands.rt:300:1
 returns-3 : tie.Need-returns-3
 returns-3 c = rw (ap (wordTwo (c .before .before .before .before .before .before .args .machine)) (sym (c .before .before .before .before .argument .ensures)) ∙ sym (c .before .before .before .word-two .ensures) ∙ c .before .enum-told3 .given .1) (rw (c .before .enum-told3 .given .1) at (c .parse-ask2 .ensures))
 
--- src/commands.rt:300:1
 returns-4 : tie.Need-returns-4
 returns-4 c = rw (ap (wordTwo (c .before .before .before .before .before .before .args .machine)) (sym (c .before .before .before .before .argument .ensures)) ∙ sym (c .before .before .before .word-two .ensures) ∙ c .before .enum-told4 .given .1) (rw (c .before .enum-told4 .given .1) at (c .parse-ask3 .ensures))
 
--- src/commands.rt:300:1
 returns-5 : tie.Need-returns-5
 returns-5 c = rw (ap (wordTwo (c .before .before .before .before .before .before .args .machine)) (sym (c .before .before .before .before .argument .ensures)) ∙ sym (c .before .before .before .word-two .ensures) ∙ c .before .enum-told5 .given .1) (c .parse-stanza .ensures)
 
--- src/commands.rt:300:1
 returns-6 : tie.Need-returns-6
 returns-6 c = rw (ap (wordTwo (c .before .before .before .before .before .before .args .machine)) (sym (c .before .before .before .before .argument .ensures)) ∙ sym (c .before .before .before .word-two .ensures) ∙ c .before .enum-told6 .given .1) (c .parse-key .ensures)
 
--- src/commands.rt:300:1
 returns-7 : tie.Need-returns-7
 returns-7 c = rw (ap (wordTwo (c .before .before .before .before .before .before .args .machine)) (sym (c .before .before .before .before .argument .ensures)) ∙ sym (c .before .before .before .word-two .ensures) ∙ c .before .enum-told7 .given .1) (c .parse-error .ensures)
 
--- src/commands.rt:300:1
 returns-8 : tie.Need-returns-8
 returns-8 c = rw (ap (wordTwo (c .before .before .before .before .before .args .machine)) (sym (c .before .before .before .argument .ensures)) ∙ sym (c .before .before .word-two .ensures) ∙ c .enum-told8 .given .1)
 
--- src/commands.rt:300:1
 returns-9 : tie.Need-returns-9
 returns-9 c = rw (ap (wordTwo (c .before .before .before .before .before .before .args .machine)) (sym (c .before .before .before .before .argument .ensures)) ∙ sym (c .before .before .before .word-two .ensures) ∙ c .before .enum-told9 .given .1) (c .parse-done .ensures)
 

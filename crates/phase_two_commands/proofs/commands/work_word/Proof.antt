@@ -2,47 +2,34 @@ use mathlib.Core.Path.{sym, _∙_}
 use borrow.Author.Needs.{needs}
 use Rattle.phase_two_commands.proofs.commands.work_word.Statement.{statement}
 use Rattle.phase_two_commands.proofs.commands.work_word.Tie as tie
-use Rattle.phase_two_commands.proofs.commands.work_word.Reads as reads
-use Rattle.phase_two_commands.proofs.commands.work_word.Lts as lts
-use Rattle.stanza.proofs.is_same.Reads as is-same-reads
 
--- src/commands.rt:74:38
 enum-told : tie.Need-enum-told
 enum-told c = search needs
 
--- src/commands.rt:74:38
 slice-aggregate-is-same : tie.Need-slice-aggregate-is-same
 slice-aggregate-is-same c = search needs
 
--- src/commands.rt:74:16
 is-same-requires : tie.Need-is-same-requires
 is-same-requires c κs = search needs
 
--- src/commands.rt:75:17
 returns : tie.Need-returns
 returns c = rw (c .before .before .before .enum-told .given .1, sym (c .before .is-same .ensures) ∙ c .if1 .taken)
 
--- src/commands.rt:80:38
 enum-told-2 : tie.Need-enum-told-2
 enum-told-2 c = search needs
 
--- src/commands.rt:80:38
 slice-aggregate-is-same-2 : tie.Need-slice-aggregate-is-same-2
 slice-aggregate-is-same-2 c = search needs
 
--- src/commands.rt:80:16
 is-same-requires-2 : tie.Need-is-same-requires-2
 is-same-requires-2 c κs = search needs
 
--- src/commands.rt:81:17
 returns-2 : tie.Need-returns-2
 returns-2 c = rw (c .before .before .before .enum-told2 .given .1, sym (c .before .is-same2 .ensures) ∙ c .if2 .taken)
 
--- src/commands.rt:69:1
 returns-3 : tie.Need-returns-3
 returns-3 c = rw (c .before .before .before .enum-told .given .1, sym (c .before .is-same .ensures) ∙ c .if1 .left)
 
--- src/commands.rt:69:1
 returns-4 : tie.Need-returns-4
 returns-4 c = rw (c .before .before .before .enum-told2 .given .1, sym (c .before .is-same2 .ensures) ∙ c .if2 .left)
 

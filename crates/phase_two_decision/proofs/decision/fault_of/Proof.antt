@@ -2,8 +2,6 @@
 use borrow.Author.Needs.{needs}
 use Rattle.phase_two_decision.proofs.decision.fault_of.Statement.{statement}
 use Rattle.phase_two_decision.proofs.decision.fault_of.Tie as tie
-use Rattle.phase_two_decision.proofs.decision.fault_of.Reads as reads
-use Rattle.phase_two_decision.proofs.decision.fault_of.Lts as lts
 
 enum-known-command : tie.Need-enum-known-command
 enum-known-command c = search needs

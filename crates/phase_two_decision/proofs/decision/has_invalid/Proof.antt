@@ -3,10 +3,6 @@ use mathlib.Core.Path.{sym, _∙_}
 use borrow.Author.Needs.{needs}
 use Rattle.phase_two_decision.proofs.decision.has_invalid.Statement.{statement}
 use Rattle.phase_two_decision.proofs.decision.has_invalid.Tie as tie
-use Rattle.phase_two_decision.proofs.decision.has_invalid.Reads as reads
-use Rattle.phase_two_decision.proofs.decision.has_invalid.Lts as lts
-use Rattle.phase_two_decision.proofs.questions.any_invalid.Reads as any-invalid-reads
-use Rattle.session.proofs.span_of.Reads as span-of-reads
 
 span-of-requires : tie.Need-span-of-requires
 span-of-requires c κs = search needs

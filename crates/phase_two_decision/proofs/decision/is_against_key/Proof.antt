@@ -2,10 +2,6 @@
 use borrow.Author.Needs.{needs}
 use Rattle.phase_two_decision.proofs.decision.is_against_key.Statement.{statement}
 use Rattle.phase_two_decision.proofs.decision.is_against_key.Tie as tie
-use Rattle.phase_two_decision.proofs.decision.is_against_key.Reads as reads
-use Rattle.phase_two_decision.proofs.decision.is_against_key.Lts as lts
-use Rattle.look_up.proofs.has_key.Reads as has-key-reads
-use Rattle.phase_one.proofs.wide.Reads as wide-reads
 
 enum-told : tie.Need-enum-told
 enum-told c = search needs

@@ -3,9 +3,6 @@ use borrow.Author.Tests.{lt-ltb, le-ltb}
 use borrow.Author.Needs.{needs}
 use Rattle.phase_two_decision.proofs.decision.is_against_work.Statement.{statement}
 use Rattle.phase_two_decision.proofs.decision.is_against_work.Tie as tie
-use Rattle.phase_two_decision.proofs.decision.is_against_work.Reads as reads
-use Rattle.phase_two_decision.proofs.decision.is_against_work.Lts as lts
-use Rattle.phase_two_decision.proofs.decision.is_against_key.Reads as is-against-key-reads
 
 returns : tie.Need-returns
 returns c = λ hs. rw (lt-ltb _ _ (c .if1 .taken))

@@ -5,9 +5,6 @@ use mathlib.Core.Path.{ap}
 use borrow.Author.Needs.{needs}
 use Rattle.phase_two_decision.proofs.decision.is_beyond.Statement.{statement}
 use Rattle.phase_two_decision.proofs.decision.is_beyond.Tie as tie
-use Rattle.phase_two_decision.proofs.decision.is_beyond.Reads as reads
-use Rattle.phase_two_decision.proofs.decision.is_beyond.Lts as lts
-use Rattle.phase_one.proofs.wide.Reads as wide-reads
 
 wide-requires : tie.Need-wide-requires
 wide-requires c κs = search needs

@@ -3,11 +3,6 @@ use denote.Ref.{now}
 use borrow.Author.Needs.{needs}
 use Rattle.phase_two_decision.proofs.decision.is_clashing.Statement.{statement}
 use Rattle.phase_two_decision.proofs.decision.is_clashing.Tie as tie
-use Rattle.phase_two_decision.proofs.decision.is_clashing.Reads as reads
-use Rattle.phase_two_decision.proofs.decision.is_clashing.Lts as lts
-use Rattle.phase_one.proofs.wide.Reads as wide-reads
-use Rattle.phase_two_decision.proofs.decision.is_against_work.Reads as is-against-work-reads
-use Rattle.phase_two_decision.proofs.questions.has_error_for.Reads as has-error-for-reads
 
 enum-told : tie.Need-enum-told
 enum-told c = search needs

@@ -2,10 +2,6 @@
 use borrow.Author.Needs.{needs}
 use Rattle.phase_two_decision.proofs.decision.is_for_unknown.Statement.{statement}
 use Rattle.phase_two_decision.proofs.decision.is_for_unknown.Tie as tie
-use Rattle.phase_two_decision.proofs.decision.is_for_unknown.Reads as reads
-use Rattle.phase_two_decision.proofs.decision.is_for_unknown.Lts as lts
-use Rattle.phase_one.proofs.wide.Reads as wide-reads
-use Rattle.phase_two_decision.proofs.questions.is_unknown_at.Reads as is-unknown-at-reads
 
 enum-told : tie.Need-enum-told
 enum-told c = search needs

@@ -5,8 +5,6 @@ use native.Mathlib.Omega.{arith}
 use borrow.Author.Tests.{le-leb, lt-leb}
 use Rattle.phase_two_decision.proofs.decision.is_full.Statement.{statement}
 use Rattle.phase_two_decision.proofs.decision.is_full.Tie as tie
-use Rattle.phase_two_decision.proofs.decision.is_full.Reads as reads
-use Rattle.phase_two_decision.proofs.decision.is_full.Lts as lts
 
 returns : tie.Need-returns
 returns c = sym (lt-leb (c .before .args .recipients + c .before .args .identities) (c .before .args .n) (omega arith))

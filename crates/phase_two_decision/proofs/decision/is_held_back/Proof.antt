@@ -5,13 +5,6 @@ use mathlib.Core.Path.{ap}
 use borrow.Author.Needs.{needs}
 use Rattle.phase_two_decision.proofs.decision.is_held_back.Statement.{statement}
 use Rattle.phase_two_decision.proofs.decision.is_held_back.Tie as tie
-use Rattle.phase_two_decision.proofs.decision.is_held_back.Reads as reads
-use Rattle.phase_two_decision.proofs.decision.is_held_back.Lts as lts
-use Rattle.phase_one.proofs.wide.Reads as wide-reads
-use Rattle.phase_two_decision.proofs.decision.has_invalid.Reads as has-invalid-reads
-use Rattle.phase_two_decision.proofs.decision.is_for_unknown.Reads as is-for-unknown-reads
-use Rattle.phase_two_decision.proofs.decision.is_key_held_back.Reads as is-key-held-back-reads
-use Rattle.phase_two_decision.proofs.questions.all_reported.Reads as all-reported-reads
 
 enum-told : tie.Need-enum-told
 enum-told c = search needs

@@ -2,9 +2,6 @@
 use borrow.Author.Needs.{needs}
 use Rattle.phase_two_decision.proofs.decision.is_held_by.Statement.{statement}
 use Rattle.phase_two_decision.proofs.decision.is_held_by.Tie as tie
-use Rattle.phase_two_decision.proofs.decision.is_held_by.Reads as reads
-use Rattle.phase_two_decision.proofs.decision.is_held_by.Lts as lts
-use Rattle.phase_two_decision.proofs.decision.is_held_back.Reads as is-held-back-reads
 
 is-held-back-requires : tie.Need-is-held-back-requires
 is-held-back-requires c κs = search needs

@@ -4,11 +4,6 @@ use mathlib.Core.Path.{sym, _∙_}
 use borrow.Author.Needs.{needs}
 use Rattle.phase_two_decision.proofs.decision.is_key_held_back.Statement.{statement}
 use Rattle.phase_two_decision.proofs.decision.is_key_held_back.Tie as tie
-use Rattle.phase_two_decision.proofs.decision.is_key_held_back.Reads as reads
-use Rattle.phase_two_decision.proofs.decision.is_key_held_back.Lts as lts
-use Rattle.phase_two_decision.proofs.decision.has_invalid.Reads as has-invalid-reads
-use Rattle.phase_two_decision.proofs.questions.has_labelled.Reads as has-labelled-reads
-use Rattle.session.proofs.span_of.Reads as span-of-reads
 
 has-invalid-requires : tie.Need-has-invalid-requires
 has-invalid-requires c κs = search needs

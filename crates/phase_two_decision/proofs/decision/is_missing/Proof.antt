@@ -4,13 +4,6 @@ use mathlib.Core.Path.{ap}
 use borrow.Author.Needs.{needs}
 use Rattle.phase_two_decision.proofs.decision.is_missing.Statement.{statement}
 use Rattle.phase_two_decision.proofs.decision.is_missing.Tie as tie
-use Rattle.phase_two_decision.proofs.decision.is_missing.Reads as reads
-use Rattle.phase_two_decision.proofs.decision.is_missing.Lts as lts
-use Rattle.look_up.proofs.has_file.Reads as has-file-reads
-use Rattle.phase_one.proofs.wide.Reads as wide-reads
-use Rattle.phase_two_decision.proofs.decision.is_beyond.Reads as is-beyond-reads
-use Rattle.phase_two_decision.proofs.decision.is_nameless.Reads as is-nameless-reads
-use Rattle.session.proofs.span_of.Reads as span-of-reads
 
 enum-known-command : tie.Need-enum-known-command
 enum-known-command c = search needs

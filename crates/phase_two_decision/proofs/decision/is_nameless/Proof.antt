@@ -4,11 +4,6 @@ use mathlib.Core.Path.{ap}
 use borrow.Author.Needs.{needs}
 use Rattle.phase_two_decision.proofs.decision.is_nameless.Statement.{statement}
 use Rattle.phase_two_decision.proofs.decision.is_nameless.Tie as tie
-use Rattle.phase_two_decision.proofs.decision.is_nameless.Reads as reads
-use Rattle.phase_two_decision.proofs.decision.is_nameless.Lts as lts
-use Rattle.phase_one.proofs.wide.Reads as wide-reads
-use Rattle.phase_two_decision.proofs.decision.is_beyond.Reads as is-beyond-reads
-use Rattle.phase_two_decision.proofs.questions.belongs_to.Reads as belongs-to-reads
 
 enum-told : tie.Need-enum-told
 enum-told c = search needs

@@ -5,11 +5,6 @@ use mathlib.Core.Path.{ap, _∙_}
 use borrow.Author.Needs.{needs}
 use Rattle.phase_two_decision.proofs.decision.is_too_many.Statement.{statement}
 use Rattle.phase_two_decision.proofs.decision.is_too_many.Tie as tie
-use Rattle.phase_two_decision.proofs.decision.is_too_many.Reads as reads
-use Rattle.phase_two_decision.proofs.decision.is_too_many.Lts as lts
-use Rattle.look_up.proofs.count_stanzas.Reads as count-stanzas-reads
-use Rattle.phase_one.proofs.wide.Reads as wide-reads
-use Rattle.phase_two_decision.proofs.decision.is_full.Reads as is-full-reads
 
 enum-known-command : tie.Need-enum-known-command
 enum-known-command c = search needs

@@ -6,14 +6,6 @@ use Rattle.refusal.proofs.Laws.Number.{number-not-zero}
 use borrow.Author.Needs.{needs}
 use Rattle.phase_two_decision.proofs.decision.rule_two.Statement.{statement}
 use Rattle.phase_two_decision.proofs.decision.rule_two.Tie as tie
-use Rattle.phase_two_decision.proofs.decision.rule_two.Reads as reads
-use Rattle.phase_two_decision.proofs.decision.rule_two.Lts as lts
-use Rattle.phase_two_decision.proofs.decision.fault_of.Reads as fault-of-reads
-use Rattle.phase_two_decision.proofs.decision.is_clashing.Reads as is-clashing-reads
-use Rattle.phase_two_decision.proofs.decision.is_held_by.Reads as is-held-by-reads
-use Rattle.phase_two_decision.proofs.decision.is_missing.Reads as is-missing-reads
-use Rattle.phase_two_decision.proofs.decision.is_second_key.Reads as is-second-key-reads
-use Rattle.phase_two_decision.proofs.decision.is_too_many.Reads as is-too-many-reads
 
 fault-of-requires : tie.Need-fault-of-requires
 fault-of-requires c κs = search needs

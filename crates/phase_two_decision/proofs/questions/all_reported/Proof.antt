@@ -4,10 +4,6 @@ use mathlib.Core.Path.{sym, _∙_}
 use borrow.Author.Needs.{needs}
 use Rattle.phase_two_decision.proofs.questions.all_reported.Statement.{statement}
 use Rattle.phase_two_decision.proofs.questions.all_reported.Tie as tie
-use Rattle.phase_two_decision.proofs.questions.all_reported.Reads as reads
-use Rattle.phase_two_decision.proofs.questions.all_reported.Lts as lts
-use Rattle.phase_two_decision.proofs.questions.are_reported.Reads as are-reported-reads
-use Rattle.session.proofs.span_of.Reads as span-of-reads
 
 span-of-requires : tie.Need-span-of-requires
 span-of-requires c κs = search needs

@@ -12,10 +12,6 @@ use mathlib.Core.Bool.{not}
 use Rattle.conversation.specs.PhaseTwo.{howMany, labels, labelOf, isInvalid}
 use Rattle.phase_two_decision.proofs.questions.any_invalid.Statement.{statement}
 use Rattle.phase_two_decision.proofs.questions.any_invalid.Tie as tie
-use Rattle.phase_two_decision.proofs.questions.any_invalid.Reads as reads
-use Rattle.phase_two_decision.proofs.questions.any_invalid.Lts as lts
-use Rattle.look_up.proofs.count_entries.Reads as count-entries-reads
-use Rattle.tables.proofs.entry_at.Reads as entry-at-reads
 
 abbrev Inv-loop : tie.InvT-loop
 Inv-loop table span slots i₀ i = (left isInvalid (tableIn span table slots) i ≡ howMany isInvalid (labels (tableIn span table slots))) × (i ≤ length (labels (tableIn span table slots)))

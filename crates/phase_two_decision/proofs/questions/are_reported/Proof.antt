@@ -14,12 +14,6 @@ use Rattle.conversation.specs.PhaseTwo.{Label, labels, labelOf, isAny, isInvali
 use Rattle.phase_two_decision.proofs.Laws.Questions.{reported, reported-not, reported-on, reported-all}
 use Rattle.phase_two_decision.proofs.questions.are_reported.Statement.{statement}
 use Rattle.phase_two_decision.proofs.questions.are_reported.Tie as tie
-use Rattle.phase_two_decision.proofs.questions.are_reported.Reads as reads
-use Rattle.phase_two_decision.proofs.questions.are_reported.Lts as lts
-use Rattle.look_up.proofs.count_entries.Reads as count-entries-reads
-use Rattle.phase_two_decision.proofs.questions.is_owing.Reads as is-owing-reads
-use Rattle.phase_two_decision.proofs.questions.is_settled.Reads as is-settled-reads
-use Rattle.tables.proofs.entry_at.Reads as entry-at-reads
 
 abbrev Inv-loop : tie.InvT-loop
 Inv-loop header table span own errors mark slots i₀ i = (reported (pick header isNonconforming isInvalid) mark (tableIn span table own) (labels (tableIn (spanOf the.Errors) errors slots)) i ≡ reported (pick header isNonconforming isInvalid) mark (tableIn span table own) (labels (tableIn (spanOf the.Errors) errors slots)) 0) × (i ≤ length (labels (tableIn span table own)))

@@ -8,11 +8,6 @@ use Rattle.phase_two_decision.proofs.Laws.Questions.{passes-at, passes-
 use borrow.Author.Needs.{needs}
 use Rattle.phase_two_decision.proofs.questions.belongs_to.Statement.{statement}
 use Rattle.phase_two_decision.proofs.questions.belongs_to.Tie as tie
-use Rattle.phase_two_decision.proofs.questions.belongs_to.Reads as reads
-use Rattle.phase_two_decision.proofs.questions.belongs_to.Lts as lts
-use Rattle.look_up.proofs.count_entries.Reads as count-entries-reads
-use Rattle.session.proofs.span_of.Reads as span-of-reads
-use Rattle.tables.proofs.entry_at.Reads as entry-at-reads
 
 span-of-requires : tie.Need-span-of-requires
 span-of-requires c κs = search needs

@@ -12,12 +12,6 @@ use Rattle.look_up.proofs.Laws.Labels.{left}
 use Rattle.phase_two_decision.proofs.Laws.Questions.{any-here, any-on, any-none}
 use Rattle.phase_two_decision.proofs.questions.has_error_for.Statement.{statement}
 use Rattle.phase_two_decision.proofs.questions.has_error_for.Tie as tie
-use Rattle.phase_two_decision.proofs.questions.has_error_for.Reads as reads
-use Rattle.phase_two_decision.proofs.questions.has_error_for.Lts as lts
-use Rattle.look_up.proofs.count_entries.Reads as count-entries-reads
-use Rattle.phase_two_decision.proofs.questions.is_about.Reads as is-about-reads
-use Rattle.session.proofs.span_of.Reads as span-of-reads
-use Rattle.tables.proofs.entry_at.Reads as entry-at-reads
 
 abbrev Inv-loop : tie.InvT-loop
 Inv-loop headers errors file slots header-slots span i₀ i = (left (isAbout (labels (tableIn (spanOf the.Headers) headers header-slots)) file) (tableIn span errors slots) i ≡ howMany (isAbout (labels (tableIn (spanOf the.Headers) headers header-slots)) file) (labels (tableIn span errors slots))) × (i ≤ length (labels (tableIn span errors slots)))

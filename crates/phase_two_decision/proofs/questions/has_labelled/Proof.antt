@@ -10,11 +10,6 @@ use Rattle.phase_two_decision.proofs.Laws.Questions.{any-here, any-on, 
 use Rattle.conversation.specs.PhaseTwo.{howMany, labels, labelOf, isNaming}
 use Rattle.phase_two_decision.proofs.questions.has_labelled.Statement.{statement}
 use Rattle.phase_two_decision.proofs.questions.has_labelled.Tie as tie
-use Rattle.phase_two_decision.proofs.questions.has_labelled.Reads as reads
-use Rattle.phase_two_decision.proofs.questions.has_labelled.Lts as lts
-use Rattle.look_up.proofs.count_entries.Reads as count-entries-reads
-use Rattle.phase_two_decision.proofs.questions.is_labelled.Reads as is-labelled-reads
-use Rattle.tables.proofs.entry_at.Reads as entry-at-reads
 
 abbrev Inv-loop : tie.InvT-loop
 Inv-loop table span mark index slots i₀ i = (left (isNaming mark index) (tableIn span table slots) i ≡ howMany (isNaming mark index) (labels (tableIn span table slots))) × (i ≤ length (labels (tableIn span table slots)))

@@ -3,9 +3,6 @@ use borrow.Author.Tests.{eq-eqb, ne-eqb}
 use borrow.Author.Needs.{needs}
 use Rattle.phase_two_decision.proofs.questions.is_about.Statement.{statement}
 use Rattle.phase_two_decision.proofs.questions.is_about.Tie as tie
-use Rattle.phase_two_decision.proofs.questions.is_about.Reads as reads
-use Rattle.phase_two_decision.proofs.questions.is_about.Lts as lts
-use Rattle.phase_two_decision.proofs.questions.belongs_to.Reads as belongs-to-reads
 
 returns : tie.Need-returns
 returns c = rw (ne-eqb _ _ (c .if1 .taken))

@@ -2,8 +2,6 @@
 use borrow.Author.Tests.{eq-eqb, ne-eqb}
 use Rattle.phase_two_decision.proofs.questions.is_labelled.Statement.{statement}
 use Rattle.phase_two_decision.proofs.questions.is_labelled.Tie as tie
-use Rattle.phase_two_decision.proofs.questions.is_labelled.Reads as reads
-use Rattle.phase_two_decision.proofs.questions.is_labelled.Lts as lts
 
 returns : tie.Need-returns
 returns c = rw (ne-eqb _ _ (c .if1 .taken))

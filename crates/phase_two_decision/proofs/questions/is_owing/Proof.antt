@@ -1,8 +1,6 @@
 -- The test says which of the two questions it is.
 use Rattle.phase_two_decision.proofs.questions.is_owing.Statement.{statement}
 use Rattle.phase_two_decision.proofs.questions.is_owing.Tie as tie
-use Rattle.phase_two_decision.proofs.questions.is_owing.Reads as reads
-use Rattle.phase_two_decision.proofs.questions.is_owing.Lts as lts
 
 returns : tie.Need-returns
 returns c = rw (c .before .if1 .taken)

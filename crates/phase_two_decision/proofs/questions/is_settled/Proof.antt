@@ -2,10 +2,6 @@
 use borrow.Author.Needs.{needs}
 use Rattle.phase_two_decision.proofs.questions.is_settled.Statement.{statement}
 use Rattle.phase_two_decision.proofs.questions.is_settled.Tie as tie
-use Rattle.phase_two_decision.proofs.questions.is_settled.Reads as reads
-use Rattle.phase_two_decision.proofs.questions.is_settled.Lts as lts
-use Rattle.phase_two_decision.proofs.questions.has_labelled.Reads as has-labelled-reads
-use Rattle.session.proofs.span_of.Reads as span-of-reads
 
 span-of-requires : tie.Need-span-of-requires
 span-of-requires c κs = search needs

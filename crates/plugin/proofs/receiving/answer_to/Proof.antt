@@ -2,9 +2,6 @@
 use borrow.Author.Needs.{needs}
 use Rattle.plugin.proofs.receiving.answer_to.Statement.{statement}
 use Rattle.plugin.proofs.receiving.answer_to.Tie as tie
-use Rattle.plugin.proofs.receiving.answer_to.Reads as reads
-use Rattle.plugin.proofs.receiving.answer_to.Lts as lts
-use Rattle.phase_one.proofs.word_of.Reads as word-of-reads
 use mathlib.Core.Path.{ap}
 use Rattle.refusal.proofs.Laws.Number.{number-not-zero}
 use Rattle.conversation.specs.Receiving.{took}

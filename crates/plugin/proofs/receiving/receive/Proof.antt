@@ -2,14 +2,7 @@
 use borrow.Author.Needs.{needs}
 use Rattle.plugin.proofs.receiving.receive.Statement.{statement}
 use Rattle.plugin.proofs.receiving.receive.Tie as tie
-use Rattle.plugin.proofs.receiving.receive.Reads as reads
-use Rattle.plugin.proofs.receiving.receive.Lts as lts
-use Rattle.phase_one.proofs.turn_one.Reads as turn-one-reads
-use Rattle.plugin.proofs.receiving.receive_stanza.Reads as receive-stanza-reads
-use Rattle.session.proofs.phase_refused.Reads as phase-refused-reads
-use Rattle.session.proofs.sessions.Session.moved.Reads as moved-reads
-use Rattle.stanza.proofs.read.Reads as read-reads
-use mathlib.Core.Path.{_≡_, sym, ap, _∙_}
+use mathlib.Core.Path.{sym, ap, _∙_}
 use denote.Ref.{now}
 use Rattle.refusal.specs.Number.{numberOf}
 use Rattle.refusal.specs.Verdict.{verdictSaid}

@@ -2,15 +2,6 @@
 use borrow.Author.Needs.{needs}
 use Rattle.plugin.proofs.receiving.receive_stanza.Statement.{statement}
 use Rattle.plugin.proofs.receiving.receive_stanza.Tie as tie
-use Rattle.plugin.proofs.receiving.receive_stanza.Reads as reads
-use Rattle.plugin.proofs.receiving.receive_stanza.Lts as lts
-use Rattle.phase_one.proofs.step_one.Reads as step-one-reads
-use Rattle.phase_one.proofs.phase_received.Reads as phase-received-reads
-use Rattle.plugin.proofs.receiving.answer_to.Reads as answer-to-reads
-use Rattle.session.proofs.front.Reads as front-reads
-use Rattle.session.proofs.sessions.Session.moved.Reads as moved-reads
-use Rattle.stanza.proofs.arguments_of.Reads as arguments-of-reads
-use Rattle.stanza.proofs.lines_of.Reads as lines-of-reads
 use mathlib.Core.Path.{ap}
 use Rattle.base64.specs.Lines.{bodyOf}
 use lib.ListN.{length}
@@ -21,11 +12,10 @@ use Rattle.tables.specs.Bodies.{bodyFrom}
 use Rattle.tables.specs.declared.copying.Coding.the-variants.{Lines}
 use Rattle.session.specs.Opening.{nameOf}
 use Rattle.session.specs.Tables.{tablesIn}
-use Rattle.session.specs.Session.{sessionOf}
 use Rattle.phase_one.specs.Commands.{commandSaid}
 use Rattle.phase_one.specs.PhaseOne.{buffersOf}
 use Rattle.conversation.proofs.Laws.Receiving.{received-from}
-use Rattle.plugin.specs.Receiving.{takingSaid, receivedSaid}
+use Rattle.plugin.specs.Receiving.{takingSaid}
 
 slice-aggregate-front : tie.Need-slice-aggregate-front
 slice-aggregate-front c = search needs

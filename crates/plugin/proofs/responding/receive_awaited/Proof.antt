@@ -2,20 +2,11 @@
 use borrow.Author.Needs.{needs}
 use Rattle.plugin.proofs.responding.receive_awaited.Statement.{statement}
 use Rattle.plugin.proofs.responding.receive_awaited.Tie as tie
-use Rattle.plugin.proofs.responding.receive_awaited.Reads as reads
-use Rattle.plugin.proofs.responding.receive_awaited.Lts as lts
-use Rattle.plugin.proofs.responding.receive_fitting.Reads as receive-fitting-reads
-use Rattle.plugin.proofs.responding.unfit.Reads as unfit-reads
-use Rattle.responses.proofs.read_line.Reads as read-line-reads
-use Rattle.session.proofs.phase_refused.Reads as phase-refused-reads
-use Rattle.session.proofs.sessions.Session.moved.Reads as moved-reads
-use Rattle.stanza.proofs.arguments_of.Reads as arguments-of-reads
-use Rattle.stanza.proofs.read.Reads as read-reads
 use mathlib.Core.Path.{_≡_, sym, ap, _∙_}
 use denote.Ref.{now}
 use Rattle.refusal.specs.Number.{numberOf}
 use Rattle.stanza.specs.Parts.{argumentsIn, bodyIn}
-use Rattle.stanza.specs.Reading.{readFirst, readSaid}
+use Rattle.stanza.specs.Reading.{readSaid}
 use Rattle.responses.specs.Responses.{responseOf, readingSaid}
 use Rattle.session.specs.Opening.{nameOf}
 use Rattle.session.specs.Tables.{tablesIn}

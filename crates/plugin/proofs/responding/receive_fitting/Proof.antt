@@ -2,12 +2,6 @@
 use borrow.Author.Needs.{needs}
 use Rattle.plugin.proofs.responding.receive_fitting.Statement.{statement}
 use Rattle.plugin.proofs.responding.receive_fitting.Tie as tie
-use Rattle.plugin.proofs.responding.receive_fitting.Reads as reads
-use Rattle.plugin.proofs.responding.receive_fitting.Lts as lts
-use Rattle.plugin.proofs.responding.unfit.Reads as unfit-reads
-use Rattle.responses.proofs.fits_whole.Reads as fits-whole-reads
-use Rattle.session.proofs.sessions.Session.moved.Reads as moved-reads
-use Rattle.stanza.proofs.body_of.Reads as body-of-reads
 use mathlib.Core.Path.{_≡_, sym, ap, _∙_}
 use mathlib.Core.Bool.{true, false, _&&_, _||_}
 use lib.Dec.{eqb}

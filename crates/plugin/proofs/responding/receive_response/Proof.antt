@@ -2,10 +2,6 @@
 use borrow.Author.Needs.{needs}
 use Rattle.plugin.proofs.responding.receive_response.Statement.{statement}
 use Rattle.plugin.proofs.responding.receive_response.Tie as tie
-use Rattle.plugin.proofs.responding.receive_response.Reads as reads
-use Rattle.plugin.proofs.responding.receive_response.Lts as lts
-use Rattle.phase_two.proofs.answer_due.Reads as answer-due-reads
-use Rattle.plugin.proofs.responding.receive_awaited.Reads as receive-awaited-reads
 use Prim.Native.Nat.{ℕ}
 use mathlib.Core.Path.{_≡_, sym, ap, _∙_}
 use mathlib.Core.Bool.{false}

@@ -2,9 +2,6 @@
 use borrow.Author.Needs.{needs}
 use Rattle.plugin.proofs.responding.unfit.Statement.{statement}
 use Rattle.plugin.proofs.responding.unfit.Tie as tie
-use Rattle.plugin.proofs.responding.unfit.Reads as reads
-use Rattle.plugin.proofs.responding.unfit.Lts as lts
-use Rattle.session.proofs.sessions.Session.moved.Reads as moved-reads
 
 moved-requires : tie.Need-moved-requires
 moved-requires c κs = search needs

@@ -2,10 +2,6 @@
 use borrow.Author.Needs.{needs}
 use Rattle.plugin.proofs.sending.send.Statement.{statement}
 use Rattle.plugin.proofs.sending.send.Tie as tie
-use Rattle.plugin.proofs.sending.send.Reads as reads
-use Rattle.plugin.proofs.sending.send.Lts as lts
-use Rattle.phase_two.proofs.turn_two.Reads as turn-two-reads
-use Rattle.plugin.proofs.sending.send_due.Reads as send-due-reads
 use mathlib.Core.Path.{sym, ap, _∙_}
 use denote.Ref.{now}
 use Rattle.refusal.specs.Number.{numberOf}

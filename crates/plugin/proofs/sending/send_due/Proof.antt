@@ -2,9 +2,6 @@
 use borrow.Author.Needs.{needs}
 use Rattle.plugin.proofs.sending.send_due.Statement.{statement}
 use Rattle.plugin.proofs.sending.send_due.Tie as tie
-use Rattle.plugin.proofs.sending.send_due.Reads as reads
-use Rattle.plugin.proofs.sending.send_due.Lts as lts
-use Rattle.plugin.proofs.sending.send_in.Reads as send-in-reads
 use Prim.Native.Nat.{ℕ, _+_, _≤_}
 use mathlib.Core.Bool.{Bool, true, false}
 use mathlib.Core.List.{List, _∷_, _++_}

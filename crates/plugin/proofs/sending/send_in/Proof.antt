@@ -2,18 +2,6 @@
 use borrow.Author.Needs.{needs}
 use Rattle.plugin.proofs.sending.send_in.Statement.{statement}
 use Rattle.plugin.proofs.sending.send_in.Tie as tie
-use Rattle.plugin.proofs.sending.send_in.Reads as reads
-use Rattle.plugin.proofs.sending.send_in.Lts as lts
-use Rattle.phase_two.proofs.step_two.Reads as step-two-reads
-use Rattle.phase_two.proofs.phase_sent_two.Reads as phase-sent-two-reads
-use Rattle.phase_two_commands.proofs.parse_two.Reads as parse-two-reads
-use Rattle.phase_two_commands.proofs.put_line_two.Reads as put-line-two-reads
-use Rattle.phase_two_decision.proofs.rule_two.Reads as rule-two-reads
-use Rattle.session.proofs.check_output.Reads as check-output-reads
-use Rattle.session.proofs.compose.Reads as compose-reads
-use Rattle.session.proofs.front.Reads as front-reads
-use Rattle.session.proofs.write_judged.Reads as write-judged-reads
-use Rattle.session.proofs.sessions.Session.moved.Reads as moved-reads
 use mathlib.Core.Path.{_≡_, sym, ap, _∙_}
 use lib.Dec.{ltb}
 use lib.ListN.{length}

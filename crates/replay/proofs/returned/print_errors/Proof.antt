@@ -1,11 +1,5 @@
 use Rattle.replay.proofs.returned.print_errors.Statement.{statement}
 use Rattle.replay.proofs.returned.print_errors.Tie as tie
-use Rattle.replay.proofs.returned.print_errors.Reads as reads
-use Rattle.replay.proofs.returned.print_errors.Lts as lts
-use Rattle.look_up.proofs.count_errors.Reads as count-errors-reads
-use Rattle.look_up.proofs.error_message.Reads as error-message-reads
-use Rattle.look_up.proofs.error_named.Reads as error-named-reads
-use Rattle.replay.proofs.returned.print_error.Reads as print-error-reads
 use Prim.Native.Nat.{_-_, _≤_}
 use borrow.Author.Needs.{needs}
 

@@ -1,10 +1,5 @@
 use Rattle.replay.proofs.returned.print_file.Statement.{statement}
 use Rattle.replay.proofs.returned.print_file.Tie as tie
-use Rattle.replay.proofs.returned.print_file.Reads as reads
-use Rattle.replay.proofs.returned.print_file.Lts as lts
-use Rattle.look_up.proofs.count_stanzas.Reads as count-stanzas-reads
-use Rattle.look_up.proofs.stanza_of.Reads as stanza-of-reads
-use Rattle.replay.proofs.returned.print_stanza.Reads as print-stanza-reads
 use Prim.Native.Nat.{_-_, _≤_}
 use borrow.Author.Needs.{needs}
 

@@ -1,9 +1,5 @@
 use Rattle.replay.proofs.returned.print_keys.Statement.{statement}
 use Rattle.replay.proofs.returned.print_keys.Tie as tie
-use Rattle.replay.proofs.returned.print_keys.Reads as reads
-use Rattle.replay.proofs.returned.print_keys.Lts as lts
-use Rattle.replay.proofs.returned.print_key.Reads as print-key-reads
-use Rattle.look_up.proofs.find.Reads as find-reads
 use Prim.Native.Nat.{_-_, _≤_}
 use borrow.Author.Needs.{needs}
 

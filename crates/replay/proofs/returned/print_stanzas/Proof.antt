@@ -1,8 +1,5 @@
 use Rattle.replay.proofs.returned.print_stanzas.Statement.{statement}
 use Rattle.replay.proofs.returned.print_stanzas.Tie as tie
-use Rattle.replay.proofs.returned.print_stanzas.Reads as reads
-use Rattle.replay.proofs.returned.print_stanzas.Lts as lts
-use Rattle.replay.proofs.returned.print_file.Reads as print-file-reads
 use Prim.Native.Nat.{_-_, _≤_}
 use borrow.Author.Needs.{needs}
 

@@ -1,10 +1,5 @@
 use Rattle.replay.proofs.show.print_table.Statement.{statement}
 use Rattle.replay.proofs.show.print_table.Tie as tie
-use Rattle.replay.proofs.show.print_table.Reads as reads
-use Rattle.replay.proofs.show.print_table.Lts as lts
-use Rattle.replay.proofs.show.print_slot.Reads as print-slot-reads
-use Rattle.look_up.proofs.find.Reads as find-reads
-use Rattle.tables.proofs.payload.Reads as payload-reads
 use Prim.Native.Nat.{_-_, _≤_}
 use borrow.Author.Needs.{needs}
 

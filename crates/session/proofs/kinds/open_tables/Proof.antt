@@ -3,9 +3,6 @@ use mathlib.Core.Path.{refl}
 use borrow.Author.Needs.{needs}
 use Rattle.session.proofs.kinds.open_tables.Statement.{statement}
 use Rattle.session.proofs.kinds.open_tables.Tie as tie
-use Rattle.session.proofs.kinds.open_tables.Reads as reads
-use Rattle.session.proofs.kinds.open_tables.Lts as lts
-use Rattle.tables.proofs.tables.Table.open.Reads as open-reads
 
 open-requires : tie.Need-open-requires
 open-requires c κs = search needs

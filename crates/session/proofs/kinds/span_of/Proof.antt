@@ -2,8 +2,6 @@
 use borrow.Author.Needs.{needs}
 use Rattle.session.proofs.kinds.span_of.Statement.{statement}
 use Rattle.session.proofs.kinds.span_of.Tie as tie
-use Rattle.session.proofs.kinds.span_of.Reads as reads
-use Rattle.session.proofs.kinds.span_of.Lts as lts
 
 enum-told : tie.Need-enum-told
 enum-told c = search needs

@@ -6,10 +6,6 @@ use Rattle.stanza.specs.Writing.{sized}
 use borrow.Author.Needs.{needs}
 use Rattle.session.proofs.output.compose.Statement.{statement}
 use Rattle.session.proofs.output.compose.Tie as tie
-use Rattle.session.proofs.output.compose.Reads as reads
-use Rattle.session.proofs.output.compose.Lts as lts
-use Rattle.session.proofs.output.front.Reads as front-reads
-use Rattle.stanza.proofs.size.Reads as size-reads
 
 enum-told : tie.Need-enum-told
 enum-told c = search needs

@@ -6,8 +6,6 @@ use native.Mathlib.Omega.{arith}
 use borrow.Author.Needs.{needs}
 use Rattle.session.proofs.output.front.Statement.{statement}
 use Rattle.session.proofs.output.front.Tie as tie
-use Rattle.session.proofs.output.front.Reads as reads
-use Rattle.session.proofs.output.front.Lts as lts
 
 slice-aggregate-result : tie.Need-slice-aggregate-result
 slice-aggregate-result c = sym (length-take-le (c .before .before .args .length) (now (c .before .before .args .bytes)) (omega arith))

@@ -2,9 +2,6 @@
 use borrow.Author.Needs.{needs}
 use Rattle.symbols.proofs.charset.look_up.Statement.{statement}
 use Rattle.symbols.proofs.charset.look_up.Tie as tie
-use Rattle.symbols.proofs.charset.look_up.Reads as reads
-use Rattle.symbols.proofs.charset.look_up.Lts as lts
-use Rattle.symbols.proofs.charset.wide.Reads as wide-reads
 
 wide-requires : tie.Need-wide-requires
 wide-requires c κs = search needs

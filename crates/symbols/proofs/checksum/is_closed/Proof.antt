@@ -14,11 +14,6 @@ use Rattle.symbols.specs.Steps.{valueIn}
 use Rattle.symbols.proofs.Laws.Folds.{closes-at, closes-end}
 use Rattle.symbols.proofs.checksum.is_closed.Statement.{statement}
 use Rattle.symbols.proofs.checksum.is_closed.Tie as tie
-use Rattle.symbols.proofs.checksum.is_closed.Reads as reads
-use Rattle.symbols.proofs.checksum.is_closed.Lts as lts
-use Rattle.symbols.proofs.charset.look_up.Reads as look-up-reads
-use Rattle.symbols.proofs.checksum.step.Reads as step-reads
-use Rattle.symbols.proofs.checksum.wide.Reads as wide-reads
 
 abbrev Inv-loop : tie.InvT-loop
 Inv-loop table text from state₀ i₀ state i =

@@ -10,10 +10,6 @@ use Rattle.symbols.proofs.Laws.Groups.{bytes-length}
 use borrow.Author.Needs.{needs}
 use Rattle.symbols.proofs.regroup.decode.Statement.{statement}
 use Rattle.symbols.proofs.regroup.decode.Tie as tie
-use Rattle.symbols.proofs.regroup.decode.Reads as reads
-use Rattle.symbols.proofs.regroup.decode.Lts as lts
-use Rattle.symbols.proofs.regroup.bytes_length.Reads as bytes-length-reads
-use Rattle.symbols.proofs.regroup.decode_into.Reads as decode-into-reads
 
 bytes-length-requires : tie.Need-bytes-length-requires
 bytes-length-requires c κs = search needs

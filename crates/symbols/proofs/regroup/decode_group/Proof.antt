@@ -9,14 +9,6 @@ use Rattle.symbols.proofs.Laws.Groups.{bytes-eight}
 use borrow.Author.Needs.{needs}
 use Rattle.symbols.proofs.regroup.decode_group.Statement.{statement}
 use Rattle.symbols.proofs.regroup.decode_group.Tie as tie
-use Rattle.symbols.proofs.regroup.decode_group.Reads as reads
-use Rattle.symbols.proofs.regroup.decode_group.Lts as lts
-use Rattle.symbols.proofs.regroup.fifth.Reads as fifth-reads
-use Rattle.symbols.proofs.regroup.first.Reads as first-reads
-use Rattle.symbols.proofs.regroup.fourth.Reads as fourth-reads
-use Rattle.symbols.proofs.regroup.second.Reads as second-reads
-use Rattle.symbols.proofs.regroup.symbol.Reads as symbol-reads
-use Rattle.symbols.proofs.regroup.third.Reads as third-reads
 
 symbol-requires : tie.Need-symbol-requires
 symbol-requires c κs = search needs

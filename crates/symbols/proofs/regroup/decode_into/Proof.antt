@@ -12,10 +12,6 @@ use Rattle.symbols.specs.Steps.{symbolIn}
 use Rattle.symbols.proofs.Laws.Groups.{bytes-turn, bytes-ended}
 use Rattle.symbols.proofs.regroup.decode_into.Statement.{statement}
 use Rattle.symbols.proofs.regroup.decode_into.Tie as tie
-use Rattle.symbols.proofs.regroup.decode_into.Reads as reads
-use Rattle.symbols.proofs.regroup.decode_into.Lts as lts
-use Rattle.symbols.proofs.regroup.decode_group.Reads as decode-group-reads
-use Rattle.symbols.proofs.regroup.decode_rest.Reads as decode-rest-reads
 
 abbrev Inv-loop : tie.InvT-loop
 Inv-loop table text out₀ n i₀ out i =

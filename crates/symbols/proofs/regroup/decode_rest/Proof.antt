@@ -9,13 +9,6 @@ use Rattle.symbols.proofs.Laws.Groups.{bytes-none, bytes-two, bytes-fou
 use borrow.Author.Needs.{needs}
 use Rattle.symbols.proofs.regroup.decode_rest.Statement.{statement}
 use Rattle.symbols.proofs.regroup.decode_rest.Tie as tie
-use Rattle.symbols.proofs.regroup.decode_rest.Reads as reads
-use Rattle.symbols.proofs.regroup.decode_rest.Lts as lts
-use Rattle.symbols.proofs.regroup.first.Reads as first-reads
-use Rattle.symbols.proofs.regroup.fourth.Reads as fourth-reads
-use Rattle.symbols.proofs.regroup.second.Reads as second-reads
-use Rattle.symbols.proofs.regroup.symbol.Reads as symbol-reads
-use Rattle.symbols.proofs.regroup.third.Reads as third-reads
 
 returns : tie.Need-returns
 returns c = rw (bytes-none (symbolIn (now (c .before .before .before .args .table))) (now (c .before .before .before .args .text)) (c .if1 .taken))

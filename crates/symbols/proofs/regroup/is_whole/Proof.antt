@@ -7,10 +7,6 @@ use Rattle.symbols.proofs.Laws.Groups.{whole-none, whole-last}
 use borrow.Author.Needs.{needs}
 use Rattle.symbols.proofs.regroup.is_whole.Statement.{statement}
 use Rattle.symbols.proofs.regroup.is_whole.Tie as tie
-use Rattle.symbols.proofs.regroup.is_whole.Reads as reads
-use Rattle.symbols.proofs.regroup.is_whole.Lts as lts
-use Rattle.symbols.proofs.charset.look_up.Reads as look-up-reads
-use Rattle.symbols.proofs.regroup.is_clear.Reads as is-clear-reads
 
 returns : tie.Need-returns
 returns c = sym (whole-none (valueIn (now (c .before .before .args .table))) (now (c .before .before .args .text)) (c .if1 .taken))

@@ -5,9 +5,6 @@ use native.Mathlib.Omega.{arith}
 use borrow.Author.Needs.{needs}
 use Rattle.symbols.proofs.regroup.symbol.Statement.{statement}
 use Rattle.symbols.proofs.regroup.symbol.Tie as tie
-use Rattle.symbols.proofs.regroup.symbol.Reads as reads
-use Rattle.symbols.proofs.regroup.symbol.Lts as lts
-use Rattle.symbols.proofs.charset.look_up.Reads as look-up-reads
 
 shared-slice-read-look-up : tie.Need-shared-slice-read-look-up
 shared-slice-read-look-up c = search needs

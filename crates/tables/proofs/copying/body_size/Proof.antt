@@ -10,9 +10,6 @@ use Rattle.base64.proofs.Laws.Lines.{body-length}
 use borrow.Author.Needs.{needs}
 use Rattle.tables.proofs.copying.body_size.Statement.{statement}
 use Rattle.tables.proofs.copying.body_size.Tie as tie
-use Rattle.tables.proofs.copying.body_size.Reads as reads
-use Rattle.tables.proofs.copying.body_size.Lts as lts
-use Rattle.base64.proofs.body_length.Reads as body-length-reads
 
 enum-told : tie.Need-enum-told
 enum-told c = search needs

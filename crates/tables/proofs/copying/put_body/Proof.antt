@@ -1,17 +1,8 @@
 -- A body is copied, or decoded where it fits, which it does.
-use mathlib.Core.Path.{refl, sym, _∙_, subst}
-use native.Mathlib.Omega.{arith}
 use borrow.Author.Tests.{le-ltb}
-use denote.Ref.{now}
-use lib.ListN.{length}
-use Rattle.base64.specs.Lines.{bodyOf}
 use borrow.Author.Needs.{needs}
 use Rattle.tables.proofs.copying.put_body.Statement.{statement}
 use Rattle.tables.proofs.copying.put_body.Tie as tie
-use Rattle.tables.proofs.copying.put_body.Reads as reads
-use Rattle.tables.proofs.copying.put_body.Lts as lts
-use Rattle.base64.proofs.decode_lines.Reads as decode-lines-reads
-use Rattle.tables.proofs.copying.copy.Reads as copy-reads
 
 enum-told : tie.Need-enum-told
 enum-told c = search needs

@@ -10,10 +10,6 @@ use Rattle.tables.specs.Bodies.{bodyFrom}
 use borrow.Author.Needs.{needs}
 use Rattle.tables.proofs.copying.put_lines.Statement.{statement}
 use Rattle.tables.proofs.copying.put_lines.Tie as tie
-use Rattle.tables.proofs.copying.put_lines.Reads as reads
-use Rattle.tables.proofs.copying.put_lines.Lts as lts
-use Rattle.tables.proofs.copying.copy.Reads as copy-reads
-use Rattle.tables.proofs.copying.put_body.Reads as put-body-reads
 
 copy-requires : tie.Need-copy-requires
 copy-requires c κs = search needs

@@ -1,17 +1,12 @@
 -- A number beyond the span's slots has none; any other is read where it stands.
 use mathlib.Core.Path.{sym, subst}
-use Prim.Native.Nat.{_+_, _<_, _≤_}
+use Prim.Native.Nat.{_<_, _≤_}
 use native.Mathlib.Omega.{arith}
 use denote.Ref.{now}
-use lib.ListN.{length}
-use Rattle.tables.specs.Slots.{slotsOf}
 use Rattle.tables.proofs.Laws.Slots.{slot-at, slot-none, slot-there}
 use borrow.Author.Needs.{needs}
 use Rattle.tables.proofs.slots.entry_at.Statement.{statement}
 use Rattle.tables.proofs.slots.entry_at.Tie as tie
-use Rattle.tables.proofs.slots.entry_at.Reads as reads
-use Rattle.tables.proofs.slots.entry_at.Lts as lts
-use Rattle.tables.proofs.slots.slots_in.Reads as slots-in-reads
 
 slots-in-requires : tie.Need-slots-in-requires
 slots-in-requires c κs = search needs

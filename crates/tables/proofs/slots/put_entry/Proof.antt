@@ -1,15 +1,11 @@
 -- The slot is set where the span has it; a slot beyond the array's end is none.
 use mathlib.Core.Path.{sym}
-use Prim.Native.Nat.{_+_}
 use native.Mathlib.Omega.{arith}
 use denote.Ref.{now}
-use lib.ListN.{length}
 use lib.Seq.{set-out}
 use borrow.Author.Needs.{needs}
 use Rattle.tables.proofs.slots.put_entry.Statement.{statement}
 use Rattle.tables.proofs.slots.put_entry.Tie as tie
-use Rattle.tables.proofs.slots.put_entry.Reads as reads
-use Rattle.tables.proofs.slots.put_entry.Lts as lts
 
 returns : tie.Need-returns
 returns c = sym (set-out (now (c .before .before .args .slots)) _ _ (omega (arith, c .if1 .taken)))

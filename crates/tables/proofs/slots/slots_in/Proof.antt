@@ -1,11 +1,8 @@
 -- The three tests are the three cases of how a span and an array overlap.
-use native.Mathlib.Omega.{arith}
 use denote.Ref.{now}
 use Rattle.tables.proofs.Laws.Slots.{slots-before, slots-behind, slots-all}
 use Rattle.tables.proofs.slots.slots_in.Statement.{statement}
 use Rattle.tables.proofs.slots.slots_in.Tie as tie
-use Rattle.tables.proofs.slots.slots_in.Reads as reads
-use Rattle.tables.proofs.slots.slots_in.Lts as lts
 
 returns : tie.Need-returns
 returns c = slots-before (c .before .before .args .span) (now (c .before .before .args .slots)) (c .if1 .taken)

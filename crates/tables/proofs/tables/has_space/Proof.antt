@@ -3,8 +3,6 @@ use native.Mathlib.Omega.{arith}
 use Rattle.tables.proofs.Laws.Tables.{no-slot, no-capacity, space-is}
 use Rattle.tables.proofs.tables.has_space.Statement.{statement}
 use Rattle.tables.proofs.tables.has_space.Tie as tie
-use Rattle.tables.proofs.tables.has_space.Reads as reads
-use Rattle.tables.proofs.tables.has_space.Lts as lts
 
 returns : tie.Need-returns
 returns c = no-slot (c .before .args .count) (c .before .args .width) (c .before .args .used) (c .before .args .n) (c .before .args .capacity) (c .if1 .taken)

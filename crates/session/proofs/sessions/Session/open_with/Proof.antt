@@ -3,11 +3,6 @@ use mathlib.Core.Path.{sym}
 use borrow.Author.Needs.{needs}
 use Rattle.session.proofs.sessions.Session.open_with.Statement.{statement}
 use Rattle.session.proofs.sessions.Session.open_with.Tie as tie
-use Rattle.session.proofs.sessions.Session.open_with.Reads as reads
-use Rattle.session.proofs.sessions.Session.open_with.Lts as lts
-use Rattle.session.proofs.kinds.open_tables.Reads as open-tables-reads
-use Rattle.session.proofs.opening.read_settings.Reads as read-settings-reads
-use Rattle.session.proofs.phases.phase_opened.Reads as phase-opened-reads
 
 read-settings-requires : tie.Need-read-settings-requires
 read-settings-requires c κs = search needs

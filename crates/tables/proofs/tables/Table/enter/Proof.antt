@@ -2,24 +2,19 @@
 use mathlib.Core.List.{[], _∷_}
 use mathlib.Core.Path.{_≡_, refl, sym, ap, _∙_}
 use mathlib.Core.Bool.{true, false}
-use Prim.Native.Nat.{_+_, _<_, _≤_}
+use Prim.Native.Nat.{_+_}
 use lib.Dec.{ltb, leb}
-use lib.ListN.{set}
 use native.Mathlib.Omega.{arith}
 use borrow.Author.Tests.{ltb-true, leb-true, not-true, not-false}
 use denote.Ref.{now}
 use Rattle.refusal.proofs.Laws.Booleans.{and-true}
 use Rattle.refusal.proofs.Laws.Number.{number-not-zero}
 use Rattle.tables.specs.Slots.{slotsOf}
-use Rattle.tables.specs.Tables.{tableIn, fits, storing}
+use Rattle.tables.specs.Tables.{tableIn, fits}
 use Rattle.tables.proofs.Laws.Slots.{slot-set, slot-other}
 use borrow.Author.Needs.{needs}
 use Rattle.tables.proofs.tables.Table.enter.Statement.{statement}
 use Rattle.tables.proofs.tables.Table.enter.Tie as tie
-use Rattle.tables.proofs.tables.Table.enter.Reads as reads
-use Rattle.tables.proofs.tables.Table.enter.Lts as lts
-use Rattle.tables.proofs.slots.put_entry.Reads as put-entry-reads
-use Rattle.tables.proofs.tables.has_space.Reads as has-space-reads
 
 has-space-requires : tie.Need-has-space-requires
 has-space-requires c κs = search needs

@@ -7,9 +7,6 @@ use Rattle.tables.proofs.Laws.LookUp.{find-none, find-beyond, find-ther
 use borrow.Author.Needs.{needs}
 use Rattle.tables.proofs.tables.Table.find.Statement.{statement}
 use Rattle.tables.proofs.tables.Table.find.Tie as tie
-use Rattle.tables.proofs.tables.Table.find.Reads as reads
-use Rattle.tables.proofs.tables.Table.find.Lts as lts
-use Rattle.tables.proofs.slots.entry_at.Reads as entry-at-reads
 
 returns : tie.Need-returns
 returns c = find-none (tableIn (c .before .before .args .span) (c .before .before .args .self) (now (c .before .before .args .slots))) (c .before .before .args .n) (c .if1 .taken)

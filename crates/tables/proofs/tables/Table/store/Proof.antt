@@ -1,8 +1,7 @@
 -- The slot is entered or refused; the payload is put behind the others only where it is entered, and then it lies within the buffer.
 use Rattle.tables.proofs.Laws.Copying.{placed-is, kept-placed}
-use mathlib.Core.Path.{_≡_, refl, sym, ap, _∙_}
-use Prim.Native.Nat.{_+_, _-_, _≤_}
-use lib.Dec.{eqb}
+use mathlib.Core.Path.{_≡_, sym, ap, _∙_}
+use Prim.Native.Nat.{_-_}
 use lib.ListN.{length, length-drop}
 use native.Mathlib.Omega.{arith}
 use denote.Ref.{now}
@@ -10,16 +9,11 @@ use Rattle.refusal.specs.Verdict.{verdictSaid}
 use Rattle.refusal.proofs.Laws.Lists.{part-rest}
 use Rattle.refusal.proofs.Laws.Number.{number-not-zero}
 use Rattle.tables.specs.Bodies.{bodyFrom}
-use Rattle.tables.specs.Tables.{tableIn, fits, storing}
-use Rattle.tables.proofs.Laws.Tables.{storing-fits, storing-within}
+use Rattle.tables.specs.Tables.{tableIn, storing}
+use Rattle.tables.proofs.Laws.Tables.{storing-within}
 use borrow.Author.Needs.{needs}
 use Rattle.tables.proofs.tables.Table.store.Statement.{statement}
 use Rattle.tables.proofs.tables.Table.store.Tie as tie
-use Rattle.tables.proofs.tables.Table.store.Reads as reads
-use Rattle.tables.proofs.tables.Table.store.Lts as lts
-use Rattle.tables.proofs.copying.body_size.Reads as body-size-reads
-use Rattle.tables.proofs.copying.put_body.Reads as put-body-reads
-use Rattle.tables.proofs.tables.Table.enter.Reads as enter-reads
 
 body-size-requires : tie.Need-body-size-requires
 body-size-requires c κs = search needs

@@ -1,8 +1,8 @@
 -- As store, with a line and an LF before the body.
-use mathlib.Core.Path.{_≡_, refl, sym, ap, _∙_}
+use mathlib.Core.Path.{_≡_, sym, ap, _∙_}
 use mathlib.Core.List.{_∷_, _++_}
-use Prim.Native.Nat.{_+_, _-_, _≤_}
-use lib.ListN.{length, length-append, length-drop}
+use Prim.Native.Nat.{_+_, _-_}
+use lib.ListN.{length, length-drop}
 use native.Mathlib.Omega.{arith}
 use denote.Ref.{now}
 use Rattle.refusal.specs.Verdict.{verdictSaid}
@@ -15,11 +15,6 @@ use Rattle.tables.proofs.Laws.Tables.{storing-within}
 use borrow.Author.Needs.{needs}
 use Rattle.tables.proofs.tables.Table.store_lines.Statement.{statement}
 use Rattle.tables.proofs.tables.Table.store_lines.Tie as tie
-use Rattle.tables.proofs.tables.Table.store_lines.Reads as reads
-use Rattle.tables.proofs.tables.Table.store_lines.Lts as lts
-use Rattle.tables.proofs.copying.body_size.Reads as body-size-reads
-use Rattle.tables.proofs.copying.put_lines.Reads as put-lines-reads
-use Rattle.tables.proofs.tables.Table.enter.Reads as enter-reads
 
 add-n : tie.Need-add-n
 add-n c = search needs
