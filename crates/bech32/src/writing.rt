@@ -3,7 +3,7 @@ ghost use mathlib.Core.Path.{_≡_};
 ghost use mathlib.Core.Bool.{true};
 ghost use mathlib.Core.List.{[], _∷_, _++_, map};
 ghost use Prim.Native.Nat.{_+_, _≤_};
-ghost use lib.ListN.{length, drop, take};
+ghost use lib.ListN.{length, drop};
 ghost use Rattle.refusal.specs.Output.{said};
 ghost use Rattle.symbols.specs.Charset.{characterOf};
 ghost use Rattle.symbols.specs.Checksum.{polymod, checksum, areSymbols};

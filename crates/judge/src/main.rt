@@ -11,7 +11,7 @@ use judging::Progress;
 use libc::STDERR_FILENO;
 use output::print;
 use session::Session;
-ghost use Prim.Native.Nat.{_+_, _<_, _≤_};
+ghost use Prim.Native.Nat.{_<_, _≤_};
 ghost use mathlib.Core.Path.{_≡_};
 ghost use mathlib.Core.Bool.{true};
 ghost use lib.ListN.{length, take, drop};

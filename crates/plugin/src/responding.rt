@@ -2,9 +2,9 @@
 ghost use mathlib.Core.Path.{_≡_};
 ghost use mathlib.Core.List.{List};
 ghost use Prim.Native.Nat.{ℕ};
-ghost use Rattle.stanza.specs.Parts.{argumentsIn, bodyIn};
+ghost use Rattle.stanza.specs.Parts.{bodyIn};
 ghost use Rattle.stanza.specs.Reading.{readFirst, stanza};
-ghost use Rattle.responses.specs.Responses.{response, responseOf};
+ghost use Rattle.responses.specs.Responses.{response};
 ghost use Rattle.session.specs.Session.{sessionOf};
 ghost use Rattle.conversation.specs.Responding.{responded, respondedText, respondedAs, refusedResponse};
 ghost use Rattle.plugin.specs.Responding.{respondedSaid};
