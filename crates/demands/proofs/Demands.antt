@@ -1,5 +1,5 @@
 -- The user's three demands (document 00), stated over the definitions that the public contracts cite. `outcome` is what a call of either end does to a session and
--- its buffers: `client::Session` (send, receive, reply) and `plugin::Session` (receive, send, receive_response) are proved equal to it, for every session value.
+-- its buffers: `client` (send, receive, reply) and `plugin` (receive, send, receive_response) are proved equal to it, for every session value.
 use Prim.Native.Nat.{ℕ}
 use mathlib.Core.Path.{_≡_}
 use mathlib.Core.Bool.{Bool, true, false}

@@ -2,9 +2,9 @@
 ghost use mathlib.Core.Path.{_≡_};
 ghost use mathlib.Core.List.{List};
 ghost use Prim.Native.Nat.{ℕ};
-ghost use Rattle.stanza.specs.Parts.{bodyIn};
+ghost use Rattle.stanza.specs.Parts.{argumentsIn, bodyIn};
 ghost use Rattle.stanza.specs.Reading.{readFirst, stanza};
-ghost use Rattle.responses.specs.Responses.{response};
+ghost use Rattle.responses.specs.Responses.{response, responseOf};
 ghost use Rattle.session.specs.Session.{sessionOf};
 ghost use Rattle.conversation.specs.Responding.{responded, respondedText, respondedAs, refusedResponse};
 ghost use Rattle.plugin.specs.Responding.{respondedSaid};
@@ -68,6 +68,24 @@ fn receive_fitting(
     }
 }
 
+// A whole stanza while a command awaits its response.
+fn receive_stanza(
+    session: Session,
+    word: WordTwo,
+    text: &[u8],
+    s: Stanza,
+    out: &mut [u8],
+) -> Responded
+    requires { ⌜ readFirst (now text) ≡ stanza (s .line) (s .body) (s .taken) ⌝ }
+    ensures { λ r. ⌜ ((xs hs : List (List ℕ)) → respondedSaid r xs hs (now (out .exit)) ≡ respondedAs word (sessionOf session xs hs) (responseOf (argumentsIn (now (text .entry)) s)) (bodyIn (now (text .entry)) s) (s .taken) (now (out .entry))) ⌝ }
+{
+    let reading = responses::read_line(stanza::arguments_of(text, s));
+    match reading {
+        ReadResponse::Response(found) => receive_fitting(session, word, found, text, s, out),
+        ReadResponse::Nothing => unfit(session),
+    }
+}
+
 // A text while a command awaits its response.
 fn receive_awaited(session: Session, word: WordTwo, text: &[u8], out: &mut [u8]) -> Responded
     ensures { λ r. ⌜ ((xs hs : List (List ℕ)) → respondedSaid r xs hs (now (out .exit)) ≡ respondedText (readFirst (now (text .entry))) word (sessionOf session xs hs) (now (text .entry)) (now (out .entry))) ⌝ }
@@ -79,15 +97,7 @@ fn receive_awaited(session: Session, word: WordTwo, text: &[u8], out: &mut [u8])
             answer: Answering::Refused(r),
             session: session.moved(session::phase_refused(phase, r), session.tables),
         },
-        First::Stanza(s) => {
-            let reading = responses::read_line(stanza::arguments_of(text, s));
-            match reading {
-                ReadResponse::Response(found) => {
-                    receive_fitting(session, word, found, text, s, out)
-                }
-                ReadResponse::Nothing => unfit(session),
-            }
-        }
+        First::Stanza(s) => receive_stanza(session, word, text, s, out),
     }
 }
 

@@ -1,18 +1,16 @@
--- By what the text reads as: 1 to 3; a response; or none.
+-- By what the text reads as: 1 to 3, or a stanza.
 use borrow.Author.Needs.{needs}
 use Rattle.plugin.proofs.responding.receive_awaited.Statement.{statement}
 use Rattle.plugin.proofs.responding.receive_awaited.Tie as tie
-use mathlib.Core.Path.{_≡_, sym, ap, _∙_}
+use mathlib.Core.Path.{sym, ap, _∙_}
 use denote.Ref.{now}
 use Rattle.refusal.specs.Number.{numberOf}
-use Rattle.stanza.specs.Parts.{argumentsIn, bodyIn}
 use Rattle.stanza.specs.Reading.{readSaid}
-use Rattle.responses.specs.Responses.{responseOf, readingSaid}
 use Rattle.session.specs.Opening.{nameOf}
 use Rattle.session.specs.Tables.{tablesIn}
 use Rattle.session.specs.Session.{sessionOf}
-use Rattle.conversation.specs.Responding.{respondedText, respondedAs}
-use Rattle.conversation.proofs.Laws.Responding.{response-refused, responded-nothing}
+use Rattle.conversation.specs.Responding.{respondedText}
+use Rattle.conversation.proofs.Laws.Responding.{response-refused}
 
 read-requires : tie.Need-read-requires
 read-requires c κs = search needs
@@ -29,23 +27,8 @@ moved-requires c κs = search needs
 enum-known-first-2 : tie.Need-enum-known-first-2
 enum-known-first-2 c = search needs
 
-arguments-of-requires : tie.Need-arguments-of-requires
-arguments-of-requires c κs = search needs
-
-read-line-requires : tie.Need-read-line-requires
-read-line-requires c κs = search needs
-
-enum-known-reading : tie.Need-enum-known-reading
-enum-known-reading c = search needs
-
-receive-fitting-requires : tie.Need-receive-fitting-requires
-receive-fitting-requires c κs = sym (c .before .before .before .before .before .before .before .before .before .read .ensures) ∙ ap readSaid (c .before .before .before .before .before .before .before .first2 .given .1)
-
-enum-told : tie.Need-enum-told
-enum-told c = search needs
-
-unfit-requires : tie.Need-unfit-requires
-unfit-requires c κs = search needs
+receive-stanza-requires : tie.Need-receive-stanza-requires
+receive-stanza-requires c κs = sym (c .before .before .before .before .read .ensures) ∙ ap readSaid (c .before .before .first2 .given .1)
 
 returns : tie.Need-returns
 returns c =
@@ -59,23 +42,9 @@ same-length c = search needs
 returns-2 : tie.Need-returns-2
 returns-2 c =
     λ xs hs.
-    let a = c .before .before .before .before .before .before .before .before .before .before .before .before .before .before .before .args in
-    let s = c .before .before .before .before .before .before .before .before .before .before .first2 .given .0 .0 in
-    let e : readingSaid (c .before .before .before .before .before .before .before .read-line .result) ≡ responseOf (argumentsIn (now (a .text)) s) = c .before .before .before .before .before .before .before .read-line .ensures ∙ ap responseOf (c .before .before .before .before .before .before .before .before .arguments-of .ensures) in
-    c .before .before .receive-fitting .ensures xs hs
-    ∙ ap (λ r. respondedAs (a .word) (sessionOf (a .session) xs hs) r (bodyIn (now (a .text)) s) (s .taken) (now (a .out))) (sym (ap readingSaid (c .before .before .before .before .before .reading .given .1)) ∙ e)
-    ∙ ap (λ r. respondedText r (a .word) (sessionOf (a .session) xs hs) (now (a .text)) (now (a .out))) (sym (ap readSaid (c .before .before .before .before .before .before .before .before .before .before .first2 .given .1)) ∙ c .before .before .before .before .before .before .before .before .before .before .before .before .read .ensures)
-
-returns-3 : tie.Need-returns-3
-returns-3 c =
-    λ xs hs.
-    let a = c .before .before .before .before .before .before .before .before .before .before .before .args in
-    let s = c .before .before .before .before .before .before .first2 .given .0 .0 in
-    let e : readingSaid (c .before .before .before .read-line .result) ≡ responseOf (argumentsIn (now (a .text)) s) = c .before .before .before .read-line .ensures ∙ ap responseOf (c .before .before .before .before .arguments-of .ensures) in
-    c .unfit .ensures xs hs (now (a .out))
-    ∙ responded-nothing (a .session .machine) (nameOf (a .session .name)) (a .session .screen) (a .session .phase) (tablesIn (a .session .tables) xs hs) (a .word) (bodyIn (now (a .text)) s) (s .taken) (now (a .out))
-    ∙ ap (λ r. respondedAs (a .word) (sessionOf (a .session) xs hs) r (bodyIn (now (a .text)) s) (s .taken) (now (a .out))) (sym (ap readingSaid (c .before .enum-told .given .1)) ∙ e)
-    ∙ ap (λ r. respondedText r (a .word) (sessionOf (a .session) xs hs) (now (a .text)) (now (a .out))) (sym (ap readSaid (c .before .before .before .before .before .before .first2 .given .1)) ∙ c .before .before .before .before .before .before .before .before .read .ensures)
+    let a = c .before .before .before .before .before .before .before .before .before .before .args in
+    c .before .before .receive-stanza .ensures xs hs
+    ∙ ap (λ r. respondedText r (a .word) (sessionOf (a .session) xs hs) (now (a .text)) (now (a .out))) (sym (ap readSaid (c .before .before .before .before .before .first2 .given .1)) ∙ c .before .before .before .before .before .before .before .read .ensures)
 
 pub receive-awaited-spec : {M : Type 1} → statement M
 receive-awaited-spec =
@@ -86,13 +55,7 @@ receive-awaited-spec =
     phase-refused-requires
     moved-requires
     enum-known-first-2
-    arguments-of-requires
-    read-line-requires
-    enum-known-reading
-    receive-fitting-requires
-    enum-told
-    unfit-requires
+    receive-stanza-requires
     returns
     same-length
-    returns-2
-    returns-3)
+    returns-2)
