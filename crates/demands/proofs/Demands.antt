@@ -17,6 +17,7 @@ use Rattle.conversation.specs.Allowed.{Allowed, AllowedTwo, Exchange, isDoneSen
 use Rattle.conversation.specs.Answers.{events, Paired}
 use Rattle.conversation.specs.Calls.{Call, send, receive-two, reply, send-two, outcome, writtenBy, State, stateOf, after, acceptedRows, Accepted}
 use Rattle.conversation.specs.CommandsTwo.{lineSent}
+use Rattle.conversation.specs.Given.{GivenBack}
 use Rattle.conversation.specs.Kinds.{AnyKind, Buffers, viewOf}
 use Rattle.conversation.specs.Phases.{All, Part, one-part, two-part, Phase, blocksOf, IsPhase, Supply, callsOf, LongEnough, Starts, JustDone, SameStart, Rearranged, SameOutcome, commandIn}
 use Rattle.conversation.specs.ReceivingTwo.{writes, atOnce}
@@ -25,6 +26,7 @@ use Rattle.conversation.proofs.Laws.AllowedOne as one-accepted
 use Rattle.conversation.proofs.Laws.AllowedOne.{textsOf}
 use Rattle.conversation.proofs.Laws.AllowedSent as sent-accepted
 use Rattle.conversation.proofs.Laws.Answers as answering
+use Rattle.conversation.proofs.Laws.Given as giving
 use Rattle.conversation.proofs.Laws.Order as ordering
 use Rattle.conversation.proofs.Laws.OrderTwo as two-accepted
 use Rattle.conversation.proofs.Laws.OrderTwo.{leftOf, capacityOf}
@@ -90,6 +92,11 @@ demand-2-again = written-read.received-again
 pub demand-2-answers : (machine name : List ℕ) (screen : Bool) (b : Buffers) (cs : List Call) →
     let s = opened machine name screen .session in after s b cs .session .phase ≡ Ended → Paired (events s b cs)
 demand-2-answers = answering.answers-opened
+
+-- "how many bytes that was", "gives back which it was": a command received with the word that its text names, the bytes taken and the bytes written; a response with
+-- the one that its text is, the bytes taken and its body's length; a sending or a reply with the bytes written; a refused call nothing
+pub demand-2-given : (s : Session) (b : Buffers) (c : Call) → GivenBack s b c
+demand-2-given = giving.given
 
 -- ---- Demand 3: "Order between strangers means nothing." One theorem about two lists of calls, for both phases and both machines
 
