@@ -1,9 +1,9 @@
 -- What an end gives back: of an accepted call what its text and its arguments say, of a refused one nothing. For every session value.
 use Prim.Native.Nat.{ℕ}
-use mathlib.Core.Path.{_≡_, refl, sym, ap, _∙_, subst}
+use mathlib.Core.Path.{_≡_, refl, sym, ap, subst}
 use mathlib.Core.Bool.{Bool, true, false, _&&_}
 use mathlib.Core.Logic.{⊎-elim}
-use mathlib.Core.List.{List, []}
+use mathlib.Core.List.{List}
 use lib.Dec.{eqb, leb}
 use lib.ListN.{length}
 use native.Mathlib.Omega.{arith}
@@ -49,7 +49,7 @@ use Rattle.conversation.specs.ReceivingTwo as receiving-two
 use Rattle.conversation.specs.Replying as replying
 use Rattle.conversation.specs.SendingTwo as sending-two
 use Rattle.conversation.specs.Responding as responding
-use Rattle.conversation.specs.Calls.{Call, receive, send, receive-two, reply, send-two, respond, Given, command-one, command-two, wrote, nothing, takingNumber, sentNumber, takingTwoNumber, respondedNumber, takingGiven, sentGiven, takingTwoGiven, respondedGiven, outcome, lineRead, bodyRead}
+use Rattle.conversation.specs.Calls.{Call, receive, send, receive-two, reply, send-two, respond, command-one, command-two, wrote, nothing, takingNumber, sentNumber, takingTwoNumber, respondedNumber, takingGiven, sentGiven, takingTwoGiven, respondedGiven, outcome, lineRead, bodyRead}
 use Rattle.conversation.specs.Given.{takenBy, responseGiven, givenBy, GivenBack}
 use Rattle.conversation.proofs.Laws.Accepted.{text-number, branch}
 

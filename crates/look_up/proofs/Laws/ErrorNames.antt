@@ -2,10 +2,10 @@
 -- keeps a header stanza's number alone: the stanza belonged to the file when the error was accepted, and phase two leaves the header stanzas as they are.
 use Prim.Native.Nat.{ℕ, zero, suc, _+_, _<_, _≤_}
 use mathlib.Core.Path.{_≡_, refl, sym, ap, ap₂, subst, _∙_}
-use mathlib.Core.Bool.{Bool, true, false, not, _&&_, false≢true}
+use mathlib.Core.Bool.{Bool, true, false, false≢true}
 use mathlib.Core.List.{List, [], _∷_, _++_, append-nil, append-assoc}
 use lib.Dec.{eqb, ltb, leb}
-use lib.ListN.{length, set, getD, length-append}
+use lib.ListN.{length, getD, length-append}
 use lib.Seq.{getD-set-same, getD-set-other}
 use native.Mathlib.Decide.{decLt}
 use native.Mathlib.Omega.{arith}
@@ -13,9 +13,8 @@ use borrow.Author.Tests.{eqb-true, eqb-false, ltb-true, not-false}
 use Rattle.refusal.specs.Pick.{pick}
 use Rattle.refusal.proofs.Laws.Booleans.{and-true, cases}
 use Rattle.tables.specs.declared.slots.Entry.{Entry}
-use Rattle.tables.specs.declared.tables.Found.{Found}
 use Rattle.tables.specs.declared.tables.Found.the-variants as the-found
-use Rattle.tables.specs.Tables.{Table, empty, fits, appended, entered, found}
+use Rattle.tables.specs.Tables.{Table, empty, fits, appended, found}
 use Rattle.tables.proofs.Laws.Tables.{Kept}
 use Rattle.tables.proofs.Laws.LookUp.{find-none, find-there}
 use Rattle.session.specs.Session.{Session, opened}
@@ -37,7 +36,7 @@ use Rattle.conversation.proofs.Laws.ViewsTwo.{kept-two, one-leaves}
 use Rattle.look_up.specs.declared.look_up.ErrorNamed.the-variants as the
 use Rattle.look_up.specs.ErrorNames.{nameOf, namesOf, namesBrought, namesIn, nameAt}
 use Rattle.look_up.specs.LookUp.{headerNamed, namedBy, namedIn, errorNamed}
-use Rattle.look_up.proofs.Laws.Labels.{slotLabel, labels-count, label-is}
+use Rattle.look_up.proofs.Laws.Labels.{labels-count, label-is}
 
 -- ---- names by number
 
@@ -73,7 +72,9 @@ header-found t f i k e =
     let r = passes-at (isFile f) (labels t) i (labelOf empty) e in
     let c = labels-count t in
     let l = label-is t i (r .0) in
-    ap (headerNamed i) (sym (find-there t i (omega arith) (omega (arith, k .counted)))) ∙ ap (λ x. the.Header x i) (eqb-true (getD (t .slots) i empty .index) f (sym (ap (isFile f) l) ∙ r .1))
+    let own : getD (t .slots) i empty .index ≡ f = eqb-true (getD (t .slots) i empty .index) f (sym (ap (isFile f) l) ∙ r .1) in
+    let both : headerNamed i (the-found.Entry (getD (t .slots) i empty)) ≡ the.Header f i = ap (λ x. the.Header x i) own in
+    ap (headerNamed i) (sym (find-there t i (omega arith) (omega (arith, k .counted)))) ∙ both
 
 -- what it names is there, so its entry gives it back
 named-last : (t : Tables) (n : Named) (start size : ℕ) → Kept (t .headers) → isMissing t (error n) ≡ false → namedBy (t .headers) (record { start = start; length = size; index = indexOf n; mark = markOf n }) ≡ nameOf n
