@@ -131,17 +131,17 @@ more-names t u n size ns w v h m e d r =
     record {
       counted = ap (λ x. x .count) e ∙ omega arith;
       named = λ k. ap₂ (λ x y. namedIn x (found y k)) d e
-      ∙ elim (decLt k (t .errors .count)) [
-        | yes g ↦ ap (namedIn (t .headers)) (more-before (t .errors) size (indexOf n) (markOf n) h w k g) ∙ r .named k ∙ sym (name-before ns (n ∷ []) k (omega arith))
-        | no g ↦
-            elim (decLt (t .errors .count) k) [
-              | yes j ↦ ap (namedIn (t .headers)) (more-beyond (t .errors) size (indexOf n) (markOf n) h w k j) ∙ name-beyond (ns ++ (n ∷ [])) k (omega arith)
-              | no j ↦
-                  let i : k ≡ t .errors .count = omega arith in
-                  ap (λ x. namedIn (t .headers) (found after x)) i ∙ ap (namedIn (t .headers)) (more-here (t .errors) size (indexOf n) (markOf n) h w)
-                  ∙ named-last t n (t .errors .used) size v m ∙ sym (name-here ns n) ∙ ap (nameAt (ns ++ (n ∷ []))) (sym (i ∙ c))
-            ]
-      ];
+          ∙ elim (decLt k (t .errors .count)) [
+            | yes g ↦ ap (namedIn (t .headers)) (more-before (t .errors) size (indexOf n) (markOf n) h w k g) ∙ r .named k ∙ sym (name-before ns (n ∷ []) k (omega arith))
+            | no g ↦
+                elim (decLt (t .errors .count) k) [
+                  | yes j ↦ ap (namedIn (t .headers)) (more-beyond (t .errors) size (indexOf n) (markOf n) h w k j) ∙ name-beyond (ns ++ (n ∷ [])) k (omega arith)
+                  | no j ↦
+                      let i : k ≡ t .errors .count = omega arith in
+                      ap (λ x. namedIn (t .headers) (found after x)) i ∙ ap (namedIn (t .headers)) (more-here (t .errors) size (indexOf n) (markOf n) h w)
+                      ∙ named-last t n (t .errors .used) size v m ∙ sym (name-here ns n) ∙ ap (nameAt (ns ++ (n ∷ []))) (sym (i ∙ c))
+                ]
+          ];
     }
 
 -- an accepted error
