@@ -2,7 +2,7 @@
 -- keeps a header stanza's number alone: the stanza belonged to the file when the error was accepted, and phase two leaves the header stanzas as they are.
 use Prim.Native.Nat.{ℕ, zero, suc, _+_, _<_, _≤_}
 use mathlib.Core.Path.{_≡_, refl, sym, ap, ap₂, subst, _∙_}
-use mathlib.Core.Bool.{Bool, true, false, false≢true}
+use mathlib.Core.Bool.{Bool, true, false, _&&_, false≢true, true≢false}
 use mathlib.Core.List.{List, [], _∷_, _++_, append-nil, append-assoc}
 use lib.Dec.{eqb, ltb, leb}
 use lib.ListN.{length, getD, length-append}
@@ -11,7 +11,11 @@ use native.Mathlib.Decide.{decLt}
 use native.Mathlib.Omega.{arith}
 use borrow.Author.Tests.{eqb-true, eqb-false, ltb-true, not-false}
 use Rattle.refusal.specs.Pick.{pick}
+use Rattle.refusal.specs.Same.{same}
 use Rattle.refusal.proofs.Laws.Booleans.{and-true, cases}
+use Rattle.refusal.proofs.Laws.Same.{same-eq}
+use Rattle.stanza.specs.Arguments.{countOf, argumentOf}
+use Rattle.stanza.specs.Index.{ReadIndex, number, refused, readIndex}
 use Rattle.tables.specs.declared.slots.Entry.{Entry}
 use Rattle.tables.specs.declared.tables.Found.the-variants as the-found
 use Rattle.tables.specs.Tables.{Table, empty, fits, appended, found}
@@ -20,23 +24,165 @@ use Rattle.tables.proofs.Laws.LookUp.{find-none, find-there}
 use Rattle.session.specs.Session.{Session, opened}
 use Rattle.session.specs.Tables.{Tables, openedTables}
 use Rattle.session.specs.declared.phases.Phase.{Phase}
+use Rattle.session.specs.declared.opening.Machine.{Machine}
+use Rattle.session.specs.declared.opening.Machine.the-variants.{RecipientV1, IdentityV1}
+use Rattle.session.specs.declared.words.WordTwo.{WordTwo}
+use Rattle.session.specs.declared.words.WordTwo.the-variants.{Msg, Confirm, RequestPublic, RequestSecret, RecipientStanza, FileKey, Error, Other, Done}
+use Rattle.phase_one.specs.Commands.{recipientStanza, doneWord, isBare}
 use Rattle.phase_one.specs.PhaseOne as one
 use Rattle.phase_one.specs.PhaseOne.{commandIn, payloadIn}
 use Rattle.phase_one.specs.Views.{headers}
 use Rattle.phase_one.proofs.Laws.Views.{Reached}
-use Rattle.conversation.specs.Calls.{Call, receive, send, receive-two, reply, send-two, respond, Outcome, broughtBy, outcome, after}
-use Rattle.conversation.specs.CommandsTwo.{Named, internal, identity, recipient, header, CommandTwo, ask, stanza, key, error, done, other, bad}
+use Rattle.conversation.specs.Calls.{Call, receive, send, receive-two, reply, send-two, respond, Outcome, in-two, broughtBy, outcome, after}
+use Rattle.conversation.specs.CommandsTwo.{Named, internal, identity, recipient, header, CommandTwo, ask, stanza, key, error, done, other, bad, msgWord, confirmWord, requestPublic, requestSecret, fileKeyWord, errorWord, internalWord, identityWord, recipientWord, stanzaWord, workWord, wordTwo, areLabels, stanzaAt, keyAt, errorAt, headerAt, errorOf, errorCommand, rowTwo, commandTwo}
 use Rattle.conversation.specs.Kinds.{Buffers}
-use Rattle.conversation.specs.PhaseTwo.{BuffersTwo, Label, labelOf, labels, passes, isFile, markOf, indexOf, isMissing, decided, applied, errors}
+use Rattle.conversation.specs.PhaseTwo.{BuffersTwo, Label, labelOf, labels, passes, isFile, markOf, indexOf, isMissing, faultOf, decided, applied, errors}
 use Rattle.conversation.proofs.Laws.Accepted.{Applied, AppliedTwo, commandAt, payloadAt, AcceptedBy, accepted}
 use Rattle.conversation.proofs.Laws.DecidedTwo.{decided-iff}
 use Rattle.conversation.proofs.Laws.Reached.{ReachedSession, opening-reached, call-reached}
 use Rattle.conversation.proofs.Laws.Refusals.{refusal}
 use Rattle.conversation.proofs.Laws.ViewsTwo.{kept-two, one-leaves}
 use Rattle.look_up.specs.declared.look_up.ErrorNamed.the-variants as the
-use Rattle.look_up.specs.ErrorNames.{nameOf, namesOf, namesBrought, namesIn, nameAt}
+use Rattle.look_up.specs.ErrorNames.{nameOf, nameRead, headerRead, errorRead, namesBrought, namesIn, nameAt}
 use Rattle.look_up.specs.LookUp.{headerNamed, namedBy, namedIn, errorNamed}
 use Rattle.look_up.proofs.Laws.Labels.{labels-count, label-is}
+
+-- ---- what an accepted command names is what its text says
+
+-- what a command that was read names
+abbrev namesOf : CommandTwo → List Named
+namesOf (ask w) = []
+namesOf (stanza f) = []
+namesOf (key f) = []
+namesOf (error n) = n ∷ []
+namesOf done = []
+namesOf other = []
+namesOf (bad n) = []
+
+-- a command names these if it has no fault; it has one
+abbrev Says : List Named → CommandTwo → Type 0
+Says ns c = faultOf c ≡ 0 → namesOf c ≡ ns
+
+abbrev Faulty : CommandTwo → Type 0
+Faulty c = faultOf c ≡ 0 → ⊥
+
+four : Faulty (bad 4)
+four e = omega arith
+
+-- no word but the one that is tested first
+skip : (f g : Bool) (c d : CommandTwo) → f ≡ false → Faulty d → Faulty (pick (f && g) c d)
+skip true g c d e h = absurd (true≢false e)
+skip false g c d e h = h
+
+says-either : (f g : Bool) (c d : CommandTwo) (ns ms : List Named) → Says ns c → (f ≡ true → Faulty d) → (f ≡ false → Says ms d) → Says (pick f ns ms) (pick (f && g) c d)
+says-either true true c d ns ms p q r = p
+says-either true false c d ns ms p q r = λ e. absurd (q refl e)
+says-either false g c d ns ms p q r = r refl
+
+-- a text that is one word is not another
+differs : (t v w : List ℕ) → same v w ≡ false → same t v ≡ true → same t w ≡ false
+differs t v w e h = ap (λ x. same x w) (same-eq t v h) ∙ e
+
+name-says : (name : ℕ → Named) (i : ReadIndex) → Says (nameRead name i) (errorAt name i)
+name-says name (number i) = λ e. refl
+name-says name (refused n) = λ e. refl
+
+header-says : (f i : ReadIndex) → Says (headerRead f i) (headerAt f i)
+header-says (number f) (number i) = λ e. refl
+header-says (number f) (refused n) = λ e. refl
+header-says (refused n) i = λ e. refl
+
+module _ (line : List ℕ) where
+  abbrev kind : List ℕ
+  kind = argumentOf line 1
+
+  abbrev is : List ℕ → Bool
+  is w = same kind w
+
+  -- behind "internal" and "identity"
+  last-faulty : (m : Machine) → is recipientWord ≡ false → is stanzaWord ≡ false → Faulty (errorOf m line)
+  last-faulty RecipientV1 r s = skip (is recipientWord) (eqb (countOf line) 3) _ (bad 4) r four
+  last-faulty IdentityV1 r s = skip (is stanzaWord) (eqb (countOf line) 4) _ (bad 4) s four
+
+  last-says : (m : Machine) →
+      Says (pick (is recipientWord) (nameRead recipient (readIndex (argumentOf line 2))) (pick (is stanzaWord) (headerRead (readIndex (argumentOf line 2)) (readIndex (argumentOf line 3))) [])) (errorOf m line)
+  unfolding same
+  last-says RecipientV1 =
+      says-either (is recipientWord) (eqb (countOf line) 3) _ (bad 4) _ _ (name-says recipient (readIndex (argumentOf line 2))) (λ e. four) (λ e z. absurd (four z))
+  last-says IdentityV1 =
+      cases (is recipientWord) (λ e z. absurd (last-faulty-stanza e z))
+      (λ e. rw e (says-either (is stanzaWord) (eqb (countOf line) 4) _ (bad 4) _ _ (header-says (readIndex (argumentOf line 2)) (readIndex (argumentOf line 3))) (λ e. four) (λ e z. absurd (four z))))
+    where
+      last-faulty-stanza : is recipientWord ≡ true → Faulty (errorOf IdentityV1 line)
+      last-faulty-stanza e = skip (is stanzaWord) (eqb (countOf line) 4) _ (bad 4) (differs kind recipientWord stanzaWord refl e) four
+
+  error-says : (m : Machine) → Says (errorRead line) (errorCommand m line)
+  unfolding same
+  error-says m =
+      says-either (is internalWord) (eqb (countOf line) 2) (error internal) _ _ _ (λ e. refl)
+      (λ e. skip (is identityWord) (eqb (countOf line) 3) _ _ (differs kind internalWord identityWord refl e) (last-faulty m (differs kind internalWord recipientWord refl e) (differs kind internalWord stanzaWord refl e)))
+      (λ e. says-either (is identityWord) (eqb (countOf line) 3) _ _ _ _ (name-says identity (readIndex (argumentOf line 2)))
+      (λ e. last-faulty m (differs kind identityWord recipientWord refl e) (differs kind identityWord stanzaWord refl e)) (λ e. last-says m))
+
+  -- any other word's command names nothing
+  none-either : (f : Bool) (c d : CommandTwo) → namesOf c ≡ [] → namesOf d ≡ [] → namesOf (pick f c d) ≡ []
+  none-either true c d p q = p
+  none-either false c d p q = q
+
+  stanza-none : (i : ReadIndex) → namesOf (stanzaAt i) ≡ []
+  stanza-none (number f) = refl
+  stanza-none (refused n) = refl
+
+  key-none : (i : ReadIndex) → namesOf (keyAt i) ≡ []
+  key-none (number f) = refl
+  key-none (refused n) = refl
+
+  row-none : (w : WordTwo) (m : Machine) (n : ℕ) → (w ≡ Error → ⊥) → namesOf (rowTwo w m line n) ≡ []
+  row-none Msg m n h = none-either (eqb (countOf line) 1) (ask Msg) (bad 4) refl refl
+  row-none Confirm m n h = none-either (areLabels line) (ask Confirm) (bad 4) refl refl
+  row-none RequestPublic m n h = none-either (eqb (countOf line) 1) (ask RequestPublic) (bad 4) refl refl
+  row-none RequestSecret m n h = none-either (eqb (countOf line) 1) (ask RequestSecret) (bad 4) refl refl
+  row-none RecipientStanza m n h = none-either (leb 3 (countOf line)) _ (bad 4) (stanza-none (readIndex (argumentOf line 1))) refl
+  row-none FileKey m n h = none-either (eqb (countOf line) 2 && eqb n 16) _ (bad 4) (key-none (readIndex (argumentOf line 1))) refl
+  row-none Error m n h = absurd (h refl)
+  row-none Other m n h = refl
+  row-none Done m n h = none-either (isBare line n 0) done (bad 4) refl refl
+
+-- the word error alone names an error
+pass : (f : Bool) (v w : WordTwo) {X : Type 0} → (v ≡ Error → X) → (w ≡ Error → X) → pick f v w ≡ Error → X
+pass true v w p q = p
+pass false v w p q = q
+
+named-error : (m : Machine) (w : List ℕ) → same w errorWord ≡ false → wordTwo m w ≡ Error → ⊥
+named-error m w h =
+    pass (same w msgWord) Msg _ (λ e. zero-one (cc))
+    (pass (same w confirmWord) Confirm _ (λ e. zero-one (cc))
+    (pass (same w requestPublic) RequestPublic _ (λ e. zero-one (cc))
+    (pass (same w requestSecret) RequestSecret _ (λ e. zero-one (cc))
+    (λ e. pass (same w doneWord) Done _ (λ e. zero-one (cc)) (work m) (sym (ap (λ f. pick f Error (pick (same w doneWord) Done (workWord m w))) h) ∙ e)))))
+  where
+    zero-one : _≡_ {A = ℕ} 0 1 → ⊥
+    zero-one e = omega arith
+
+    work : (m : Machine) → workWord m w ≡ Error → ⊥
+    work RecipientV1 = pass (same w recipientStanza) RecipientStanza Other (λ e. zero-one (cc)) (λ e. zero-one (cc))
+    work IdentityV1 = pass (same w fileKeyWord) FileKey Other (λ e. zero-one (cc)) (λ e. zero-one (cc))
+
+error-word : (m : Machine) → wordTwo m errorWord ≡ Error
+unfolding same
+error-word m = refl
+
+command-says : (m : Machine) (line body : List ℕ) → Says (namesBrought (in-two line body)) (commandTwo m line body)
+unfolding commandTwo
+command-says m line body =
+    let word = argumentOf line 0 in
+    cases (same word errorWord)
+    (λ e. by e (subst (λ w. Says (errorRead line) (rowTwo w m line (length body))) (sym (ap (wordTwo m) (same-eq word errorWord e) ∙ error-word m)) (error-says line m)))
+    (λ e. by e (λ z. row-none line (wordTwo m word) m (length body) (named-error m word e)))
+  where
+    by : {f : Bool} → same (argumentOf line 0) errorWord ≡ f → Says (pick f (errorRead line) []) (rowTwo (wordTwo m (argumentOf line 0)) m line (length body)) →
+        Says (pick (same (argumentOf line 0) errorWord) (errorRead line) []) (rowTwo (wordTwo m (argumentOf line 0)) m line (length body))
+    by e p = subst (λ f. Says (pick f (errorRead line) []) (rowTwo (wordTwo m (argumentOf line 0)) m line (length body))) (sym e) p
 
 -- ---- names by number
 
@@ -181,16 +327,19 @@ module _ (s : Session) (b : Buffers) (r : ReachedSession s) (ns : List Named) (w
       (ap (λ x. x .count) (r .later (a .turn) .0)) w)
 
   -- .. of phase two
-  two-so : (own : Bool) (line body : List ℕ) (phase : Phase) (text out : List ℕ) (o : Outcome) → AppliedTwo own s b line body phase text out o → Names (o .session .tables) (ns ++ namesOf (commandAt s line body))
+  two-so : (own : Bool) (line body : List ℕ) (phase : Phase) (text out : List ℕ) (o : Outcome) → AppliedTwo own s b line body phase text out o → Names (o .session .tables) (ns ++ namesBrought (in-two line body))
   two-so own line body phase text out o a =
-      subst (λ x. Names (x .tables) (ns ++ namesOf (commandAt s line body))) (sym (a .session))
-      (two-names own (s .tables) (b .second) (commandAt s line body) (payloadAt s line body) ns (a .faultless) (kept-two (s .tables) (r .later-tables) errors) headers-kept w)
+      let c = commandAt s line body in
+      let says = command-says (s .machine) line body (decided-iff own (s .tables) (b .second) c (length (payloadAt s line body)) .0 (a .faultless) .right) in
+      subst (λ x. Names (x .tables) (ns ++ namesBrought (in-two line body))) (sym (a .session))
+      (subst (λ l. Names (applied (s .tables) (b .second) c (payloadAt s line body)) (ns ++ l)) says
+      (two-names own (s .tables) (b .second) c (payloadAt s line body) ns (a .faultless) (kept-two (s .tables) (r .later-tables) errors) headers-kept w))
 
   -- .. an answer
   same-so : (u : Tables) → u ≡ s .tables → Names u (ns ++ [])
   same-so u e = rw (append-nil, e) w
 
-  accepted-so : (c : Call) → AcceptedBy s b c → Names (outcome s b c .session .tables) (ns ++ namesBrought (s .machine) (broughtBy c))
+  accepted-so : (c : Call) → AcceptedBy s b c → Names (outcome s b c .session .tables) (ns ++ namesBrought (broughtBy c))
   accepted-so (receive text) a = one-so _ _ (outcome s b (receive text) .buffers .first) _ (a .applied)
   accepted-so (send word arguments body out) a = one-so _ _ (outcome s b (send word arguments body out) .buffers .first) _ (a .applied)
   accepted-so (receive-two text out) a = two-so false _ _ _ _ _ (outcome s b (receive-two text out)) a
@@ -199,7 +348,7 @@ module _ (s : Session) (b : Buffers) (r : ReachedSession s) (ns : List Named) (w
   accepted-so (respond text out) a = same-so _ (ap (λ x. x .tables) (a .1 .session))
 
   -- any call, accepted or refused
-  call-names : (c : Call) → Names (outcome s b c .session .tables) (ns ++ pick (eqb (outcome s b c .number) 0) (namesBrought (s .machine) (broughtBy c)) [])
+  call-names : (c : Call) → Names (outcome s b c .session .tables) (ns ++ pick (eqb (outcome s b c .number) 0) (namesBrought (broughtBy c)) [])
   call-names c =
       cases (eqb (outcome s b c .number) 0) (λ f. rw f (accepted-so c (accepted s b c (eqb-true (outcome s b c .number) 0 f))))
       (λ f. rw f (same-so _ (refusal s b c (eqb-false (outcome s b c .number) 0 f) .tables)))
