@@ -49,9 +49,19 @@ isClient (reply r body out) = true
 isClient (send-two word arguments body out) = false
 isClient (respond text out) = false
 
--- the number of a call, 0 where it is accepted; the session, the buffers and the output buffer afterwards, and how many bytes were written there
+-- what an end gives back beside the number: of a command received in phase one, which it was and the bytes taken; in phase two, also the bytes written; of a
+-- response, which it was, the bytes taken and its body's length; of a sending or a reply, the bytes written; of a refusal, nothing
+pub data Given : Type 0 where
+  command-one : WordOne → ℕ → Given
+  command-two : WordTwo → ℕ → ℕ → Given
+  response : Response → ℕ → ℕ → Given
+  wrote : ℕ → Given
+  nothing : Given
+
+-- the number of a call, 0 where it is accepted, and what it gives back; the session, the buffers and the output buffer afterwards, and how many bytes were written there
 pub record Outcome : Type 0 where
   pub number : ℕ
+  pub given : Given
   pub session : Session
   pub buffers : Buffers
   pub output : List ℕ
@@ -92,29 +102,49 @@ abbrev pub respondedSize : responding.Answering → ℕ
 respondedSize (responding.took-response r k n) = n
 respondedSize (responding.declined-response n) = 0
 
+-- what it gives back: a receiving in phase one
+abbrev pub takingGiven : receiving.Taking → Given
+takingGiven (receiving.took w k) = command-one w k
+takingGiven (receiving.declined n) = nothing
+
+-- a sending or a reply
+abbrev pub sentGiven : Answer → Given
+sentGiven (bytes n) = wrote n
+sentGiven (refused n) = nothing
+
+-- a receiving in phase two
+abbrev pub takingTwoGiven : receiving-two.Taking → Given
+takingTwoGiven (receiving-two.took w k n) = command-two w k n
+takingTwoGiven (receiving-two.declined n) = nothing
+
+-- a response
+abbrev pub respondedGiven : responding.Answering → Given
+respondedGiven (responding.took-response r k n) = response r k n
+respondedGiven (responding.declined-response n) = nothing
+
 -- what each definition gives, as an outcome
 abbrev pub receivedOutcome : two.BuffersTwo → receiving.Received → Outcome
-receivedOutcome c r = record { number = takingNumber (r .answer); session = r .session; buffers = buffersOf (r .buffers) c; output = []; size = 0 }
+receivedOutcome c r = record { number = takingNumber (r .answer); given = takingGiven (r .answer); session = r .session; buffers = buffersOf (r .buffers) c; output = []; size = 0 }
 
 -- .. of a sending in phase one
 abbrev pub sentOutcome : two.BuffersTwo → sending.Sent → Outcome
-sentOutcome c r = record { number = sentNumber (r .answer); session = r .session; buffers = buffersOf (r .buffers) c; output = r .output; size = sentSize (r .answer) }
+sentOutcome c r = record { number = sentNumber (r .answer); given = sentGiven (r .answer); session = r .session; buffers = buffersOf (r .buffers) c; output = r .output; size = sentSize (r .answer) }
 
 -- .. of a receiving in phase two
 abbrev pub receivedTwoOutcome : one.BuffersOne → receiving-two.Received → Outcome
-receivedTwoOutcome b r = record { number = takingTwoNumber (r .answer); session = r .session; buffers = buffersOf b (r .buffers); output = r .output; size = takingTwoSize (r .answer) }
+receivedTwoOutcome b r = record { number = takingTwoNumber (r .answer); given = takingTwoGiven (r .answer); session = r .session; buffers = buffersOf b (r .buffers); output = r .output; size = takingTwoSize (r .answer) }
 
 -- .. of a reply
 abbrev pub repliedOutcome : Buffers → replying.Replied → Outcome
-repliedOutcome b r = record { number = sentNumber (r .answer); session = r .session; buffers = b; output = r .output; size = sentSize (r .answer) }
+repliedOutcome b r = record { number = sentNumber (r .answer); given = sentGiven (r .answer); session = r .session; buffers = b; output = r .output; size = sentSize (r .answer) }
 
 -- .. of a sending in phase two
 abbrev pub sentTwoOutcome : one.BuffersOne → sending-two.Sent → Outcome
-sentTwoOutcome b r = record { number = sentNumber (r .answer); session = r .session; buffers = buffersOf b (r .buffers); output = r .output; size = sentSize (r .answer) }
+sentTwoOutcome b r = record { number = sentNumber (r .answer); given = sentGiven (r .answer); session = r .session; buffers = buffersOf b (r .buffers); output = r .output; size = sentSize (r .answer) }
 
 -- .. of a response
 abbrev pub respondedOutcome : Buffers → responding.Responded → Outcome
-respondedOutcome b r = record { number = respondedNumber (r .answer); session = r .session; buffers = b; output = r .output; size = respondedSize (r .answer) }
+respondedOutcome b r = record { number = respondedNumber (r .answer); given = respondedGiven (r .answer); session = r .session; buffers = b; output = r .output; size = respondedSize (r .answer) }
 
 -- a call: phase one's take the four buffers of phase one, phase two's the three of phase two
 abbrev pub outcome : Session → Buffers → Call → Outcome

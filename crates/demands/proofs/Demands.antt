@@ -17,14 +17,18 @@ use Rattle.conversation.specs.Allowed.{Allowed, AllowedTwo, Exchange, isDoneSen
 use Rattle.conversation.specs.Answers.{events, Paired}
 use Rattle.conversation.specs.Calls.{Call, send, receive-two, reply, send-two, outcome, writtenBy, State, stateOf, after, acceptedRows, Accepted}
 use Rattle.conversation.specs.CommandsTwo.{lineSent}
+use Rattle.conversation.specs.Given.{GivenBack}
 use Rattle.conversation.specs.Kinds.{AnyKind, Buffers, viewOf}
 use Rattle.conversation.specs.Phases.{All, Part, one-part, two-part, Phase, blocksOf, IsPhase, Supply, callsOf, LongEnough, Starts, JustDone, SameStart, Rearranged, SameOutcome, commandIn}
 use Rattle.conversation.specs.ReceivingTwo.{writes, atOnce}
 use Rattle.session.specs.Session.{Session, openedSession, opened}
+use Rattle.look_up.specs.ErrorNames.{namesIn, nameAt}
+use Rattle.look_up.specs.LookUp.{errorNamed}
 use Rattle.conversation.proofs.Laws.AllowedOne as one-accepted
 use Rattle.conversation.proofs.Laws.AllowedOne.{textsOf}
 use Rattle.conversation.proofs.Laws.AllowedSent as sent-accepted
 use Rattle.conversation.proofs.Laws.Answers as answering
+use Rattle.conversation.proofs.Laws.Given as giving
 use Rattle.conversation.proofs.Laws.Order as ordering
 use Rattle.conversation.proofs.Laws.OrderTwo as two-accepted
 use Rattle.conversation.proofs.Laws.OrderTwo.{leftOf, capacityOf}
@@ -34,6 +38,7 @@ use Rattle.conversation.proofs.Laws.Refusals.{Refused}
 use Rattle.conversation.proofs.Laws.Tables as tables
 use Rattle.conversation.proofs.Laws.WrittenRead as written-read
 use Rattle.conversation.proofs.Laws.WrittenRead.{OneReadsBack, TwoReadsBack, ResponseReadsBack, ReceivedAgain}
+use Rattle.look_up.proofs.Laws.ErrorNames as error-names
 
 -- ---- Demand 1: "Any bytes and any calls are survived .. a refused call changes no table and no lent room, and at most closes the session."
 
@@ -48,6 +53,11 @@ demand-1 = refusals.refusal
 pub demand-2-tables : (k : AnyKind) (machine name : List ℕ) (screen : Bool) (b : Buffers) (cs : List Call) →
     let s = opened machine name screen .session in viewOf k (after s b cs .session .tables) (after s b cs .buffers) ≡ acceptedRows k s b cs
 demand-2-tables = tables.tables-opened
+
+-- ".. and what an error names": the look-up of error k gives what the k-th accepted error of the list names, of a header stanza its file and its number; nothing beyond
+pub demand-2-errors : (machine name : List ℕ) (screen : Bool) (b : Buffers) (cs : List Call) (k : ℕ) →
+    let s = opened machine name screen .session in errorNamed (after s b cs .session .tables) k ≡ nameAt (namesIn s b cs) k
+demand-2-errors = error-names.names-opened
 
 -- "The transcripts allowed are the ones accepted": phase one, received by a session just opened
 pub demand-2-phase-one : (machine : Machine) (name : List ℕ) (screen : Bool) (b : Buffers) (outs : Supply) (p : Phase) → IsPhase one-part p →
@@ -90,6 +100,11 @@ demand-2-again = written-read.received-again
 pub demand-2-answers : (machine name : List ℕ) (screen : Bool) (b : Buffers) (cs : List Call) →
     let s = opened machine name screen .session in after s b cs .session .phase ≡ Ended → Paired (events s b cs)
 demand-2-answers = answering.answers-opened
+
+-- "how many bytes that was", "gives back which it was": a command received with the word that its text names, the bytes taken and the bytes written; a response with
+-- the one that its text is, the bytes taken and its body's length; a sending or a reply with the bytes written; a refused call nothing
+pub demand-2-given : (s : Session) (b : Buffers) (c : Call) → GivenBack s b c
+demand-2-given = giving.given
 
 -- ---- Demand 3: "Order between strangers means nothing." One theorem about two lists of calls, for both phases and both machines
 

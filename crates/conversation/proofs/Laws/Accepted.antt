@@ -136,7 +136,7 @@ read-number m w short h = number (ltb m 8192) h
     number false h = let z : _≡_ {A = ℕ} 0 3 = cc in omega arith
 read-number m w (whole k) h = let z : _≡_ {A = ℕ} 0 1 = cc in omega arith
 
-text-number : (text : List ℕ) (n : ℕ) → readFirst text ≡ refused n → n ≡ 0 → ⊥
+pub text-number : (text : List ℕ) (n : ℕ) → readFirst text ≡ refused n → n ≡ 0 → ⊥
 text-number text n q h = read-number (length text) (take 8192 text) (scan start 0 (take 8192 text)) (q ∙ ap refused h)
 
 -- No. 17 is not given, and then no fault is found
