@@ -32,3 +32,5 @@ pub mod SumsTwo
 pub mod Tables
 pub mod ViewsTwo
 pub mod WrittenRead
+pub mod Shapes
+pub mod ShapesOne

@@ -4,7 +4,7 @@ use Prim.Native.Nat.{ℕ}
 use mathlib.Core.Path.{_≡_}
 use mathlib.Core.Bool.{Bool, true, false}
 use mathlib.Core.Logic.{_↔_}
-use mathlib.Core.List.{List, [], _∷_, _++_}
+use mathlib.Core.List.{List, [], _∷_, _++_, map}
 use lib.Pow.{areBytes}
 use Rattle.stanza.specs.Reading.{readFirst, stanza}
 use Rattle.responses.specs.declared.Response.{Response}
@@ -12,14 +12,16 @@ use Rattle.session.specs.declared.words.WordTwo.{WordTwo}
 use Rattle.phase_one.specs.Commands as one
 use Rattle.phase_one.specs.Commands.{WordOne}
 use Rattle.session.specs.declared.opening.Machine.{Machine}
-use Rattle.session.specs.declared.phases.Phase.the-variants.{Ended}
+use Rattle.session.specs.declared.phases.Phase.{Phase as SessionPhase}
+use Rattle.session.specs.declared.phases.Phase.the-variants.{One, Two, Ended}
 use Rattle.conversation.specs.Allowed.{Allowed, AllowedTwo, Exchange, isDoneSent, sendingCalls, AllowedSent}
 use Rattle.conversation.specs.Answers.{events, Paired}
-use Rattle.conversation.specs.Calls.{Call, send, receive-two, reply, send-two, outcome, writtenBy, State, stateOf, after, acceptedRows, Accepted}
+use Rattle.conversation.specs.Calls.{Call, receive, send, receive-two, reply, send-two, outcome, writtenBy, State, stateOf, after, acceptedRows, Accepted}
 use Rattle.conversation.specs.CommandsTwo.{lineSent}
 use Rattle.conversation.specs.Kinds.{AnyKind, Buffers, viewOf}
 use Rattle.conversation.specs.Phases.{All, Part, one-part, two-part, Phase, blocksOf, IsPhase, Supply, callsOf, LongEnough, Starts, JustDone, SameStart, Rearranged, SameOutcome, commandIn}
 use Rattle.conversation.specs.ReceivingTwo.{writes, atOnce}
+use Rattle.conversation.specs.Shapes.{AcceptedTo, FrontOne, ShapedOne}
 use Rattle.session.specs.Session.{Session, openedSession, opened}
 use Rattle.conversation.proofs.Laws.AllowedOne as one-accepted
 use Rattle.conversation.proofs.Laws.AllowedOne.{textsOf}
@@ -31,6 +33,7 @@ use Rattle.conversation.proofs.Laws.OrderTwo.{leftOf, capacityOf}
 use Rattle.conversation.proofs.Laws.Reached.{JustReached, just-done}
 use Rattle.conversation.proofs.Laws.Refusals as refusals
 use Rattle.conversation.proofs.Laws.Refusals.{Refused}
+use Rattle.conversation.proofs.Laws.ShapesOne as one-shaped
 use Rattle.conversation.proofs.Laws.Tables as tables
 use Rattle.conversation.proofs.Laws.WrittenRead as written-read
 use Rattle.conversation.proofs.Laws.WrittenRead.{OneReadsBack, TwoReadsBack, ResponseReadsBack, ReceivedAgain}
@@ -53,6 +56,16 @@ demand-2-tables = tables.tables-opened
 pub demand-2-phase-one : (machine : Machine) (name : List ℕ) (screen : Bool) (b : Buffers) (outs : Supply) (p : Phase) → IsPhase one-part p →
     Accepted (openedSession machine name screen) b (callsOf one-part outs (blocksOf p)) ↔ Allowed machine name (b .first) (textsOf p)
 demand-2-phase-one = one-accepted.accepted-iff
+
+-- .. of any texts at all: accepted to the end of the phase exactly those that have its shape and are allowed
+pub demand-2-phase-one-exact : (machine : Machine) (name : List ℕ) (screen : Bool) (b : Buffers) (ts : List (List ℕ)) →
+    AcceptedTo Two (openedSession machine name screen) b (map receive ts) ↔ (ShapedOne ts × Allowed machine name (b .first) ts)
+demand-2-phase-one-exact = one-shaped.shaped-one-iff
+
+-- .. and accepted but not to its end, exactly those cut before done that are allowed so far; it is then still phase one
+pub demand-2-phase-one-so-far : (machine : Machine) (name : List ℕ) (screen : Bool) (b : Buffers) (ts : List (List ℕ)) (q : SessionPhase) → (q ≡ Two → ⊥) →
+    AcceptedTo q (openedSession machine name screen) b (map receive ts) ↔ ((q ≡ One) × FrontOne ts × Allowed machine name (b .first) ts)
+demand-2-phase-one-so-far = one-shaped.front-one-iff
 
 -- phase two at the client end, commands with replies, received by a session that has just sent done
 pub demand-2-client : (s : Session) (b : Buffers) → JustDone s → (p : Phase) → IsPhase two-part p → (outs : Supply) → LongEnough s b (callsOf two-part outs (blocksOf p)) →
