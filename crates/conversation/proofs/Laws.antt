@@ -34,3 +34,4 @@ pub mod ViewsTwo
 pub mod WrittenRead
 pub mod Shapes
 pub mod ShapesOne
+pub mod ShapesTwo

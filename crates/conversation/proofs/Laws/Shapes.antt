@@ -1,6 +1,6 @@
--- A call takes the first stanza of its text: it does what it does with that stanza alone.
-use Prim.Native.Nat.{ℕ, _+_, _≤_}
-use mathlib.Core.Path.{_≡_, refl, sym, ap, ap₂, _∙_, subst, subst₂}
+-- Lists of calls of any shape. A call takes the first stanza of its text: it does what it does with that stanza alone. Behind the end nothing is accepted.
+use Prim.Native.Nat.{ℕ, zero, suc, _+_, _≤_}
+use mathlib.Core.Path.{_≡_, refl, sym, ap, ap₂, _∙_, subst, subst₂, fun-ext}
 use mathlib.Core.Bool.{Bool, true, false, false≢true}
 use mathlib.Core.Logic.{_↔_}
 use mathlib.Core.List.{List, [], _∷_, _++_, map, append-nil}
@@ -8,6 +8,9 @@ use lib.Dec.{eqb}
 use lib.ListN.{length, take, drop}
 use lib.Pow.{areBytes}
 use Rattle.base64.specs.Lines.{bodyOf}
+use native.Mathlib.Nat.{add-zero, add-suc}
+use native.Mathlib.Numerals.{add-one}
+use native.Mathlib.Omega.{arith}
 use Rattle.refusal.specs.Pick.{pick}
 use Rattle.refusal.specs.Output.{filled}
 use Rattle.refusal.specs.Verdict.{firstOf}
@@ -21,18 +24,20 @@ use Rattle.stanza.proofs.Laws.RoundTrip.{read-written, read-arguments, read-bod
 use Rattle.phase_one.specs.Commands as one-command
 use Rattle.phase_one.specs.PhaseOne.{numberOne}
 use Rattle.phase_one.specs.Turns.{turnOne}
+use Rattle.session.specs.declared.phases.Phase.the-variants.{Ended}
 use Rattle.session.specs.Session.{Session}
 use Rattle.conversation.specs.Calls.{Call, receive, send, receive-two, reply, send-two, respond, receivedOutcome, receivedTwoOutcome, Outcome, outcome, outputIn, writtenBy, after, numbers, AllZero, Accepted, lineRead, bodyRead}
 use Rattle.conversation.specs.CommandsTwo.{commandTwo}
 use Rattle.conversation.specs.Kinds.{Buffers}
 use Rattle.conversation.specs.PhaseTwo as two
-use Rattle.conversation.specs.Phases.{Whole, lineIn, bodyIn, lending, LongEnough}
+use Rattle.conversation.specs.Phases.{Whole, lineIn, bodyIn, Supply, skip, lending, LongEnough}
 use Rattle.conversation.specs.Receiving as receiving
 use Rattle.conversation.specs.ReceivingTwo as receiving-two
 use Rattle.conversation.specs.ReceivingTwo.{textOf, atOnce}
 use Rattle.conversation.specs.Sending.{shortness}
 use Rattle.conversation.specs.Shapes.{BeginsWhole}
 use Rattle.conversation.specs.TurnsTwo.{turnTwo}
+use Rattle.conversation.proofs.Laws.Accepted.{accepted}
 use Rattle.conversation.proofs.Laws.WrittenRead.{received-again}
 
 -- ---- the first stanza of a text
@@ -217,3 +222,42 @@ same-enough s b (c ∷ cs) l = (
   λ big. subst₂ (λ m n. m ≤ n) (ap length (sym (ap (λ o. take (o .size) (o .output)) (ap (outcome s b) (same-lending big c) ∙ same-outcome s b (lending big c))))) (ap length (sym (same-output c))) (l .0 big),
   subst (λ o. LongEnough (o .session) (o .buffers) (map alone-call cs)) (sym (same-outcome s b c)) (same-enough (outcome s b c .session) (outcome s b c .buffers) cs (l .1)),
 )
+
+-- ---- behind the end
+
+-- an accepted call is a call of the phase that it is in, and the end has none
+ended-refuses : (s : Session) (b : Buffers) (c : Call) → s .phase ≡ Ended → outcome s b c .number ≡ 0 → ⊥
+ended-refuses s b (receive text) e z = let q = accepted s b (receive text) z .applied .turn in let n : _≡_ {A = ℕ} 0 1 = cc in omega arith
+ended-refuses s b (send word arguments body out) e z = let q = accepted s b (send word arguments body out) z .applied .turn in let n : _≡_ {A = ℕ} 0 1 = cc in omega arith
+ended-refuses s b (receive-two text out) e z = let q = accepted s b (receive-two text out) z .turn in let n : _≡_ {A = ℕ} 0 1 = cc in omega arith
+ended-refuses s b (reply r body out) e z = let q = accepted s b (reply r body out) z .turn in let n : _≡_ {A = ℕ} 0 1 = cc in omega arith
+ended-refuses s b (send-two word arguments body out) e z = let q = accepted s b (send-two word arguments body out) z .turn in let n : _≡_ {A = ℕ} 0 1 = cc in omega arith
+ended-refuses s b (respond text out) e z = let q = accepted s b (respond text out) z .1 .turn in let n : _≡_ {A = ℕ} 0 1 = cc in omega arith
+
+pub ended-none : (s : Session) (b : Buffers) (cs : List Call) → s .phase ≡ Ended → Accepted s b cs → cs ≡ []
+unfolding AllZero numbers
+ended-none s b [] e a = refl
+ended-none s b (c ∷ cs) e a = absurd (ended-refuses s b c e (a .0))
+
+pub append-none : {X : Type 0} (xs ys : List X) → xs ++ ys ≡ [] → (xs ≡ []) × (ys ≡ [])
+append-none [] ys e = (refl, e)
+append-none (x ∷ xs) ys e = let n : _≡_ {A = ℕ} 0 1 = cc in absurd (omega arith)
+
+-- ---- output buffers, one for each call
+
+-- one more in front
+unfoldable pub lentFirst : List ℕ → Supply → Supply
+lentFirst out outs zero = out
+lentFirst out outs (suc i) = outs i
+
+module _ (out : List ℕ) (outs : Supply) where
+  pub lent-one : skip 1 (lentFirst out outs) ≡ outs
+  unfolding lentFirst
+  lent-one = fun-ext (λ i. ap (lentFirst out outs) (add-one i))
+
+  pub lent-more : (n : ℕ) → skip (suc n) (lentFirst out outs) ≡ skip n outs
+  unfolding lentFirst
+  lent-more n = fun-ext (λ i. ap (lentFirst out outs) (add-suc i n))
+
+pub skip-none : (outs : Supply) → skip 0 outs ≡ outs
+skip-none outs = fun-ext (λ i. ap outs (add-zero i))
