@@ -16,12 +16,12 @@ use Rattle.session.specs.declared.phases.Phase.{Phase as SessionPhase}
 use Rattle.session.specs.declared.phases.Phase.the-variants.{One, Two, Ended}
 use Rattle.conversation.specs.Allowed.{Allowed, AllowedTwo, Exchange, isDoneSent, sendingCalls, AllowedSent}
 use Rattle.conversation.specs.Answers.{events, Paired}
-use Rattle.conversation.specs.Calls.{Call, receive, send, receive-two, reply, send-two, outcome, writtenBy, State, stateOf, after, acceptedRows, Accepted}
+use Rattle.conversation.specs.Calls.{Call, receive, send, receive-two, reply, send-two, isClient, outcome, writtenBy, State, stateOf, after, acceptedRows, Accepted}
 use Rattle.conversation.specs.CommandsTwo.{lineSent}
 use Rattle.conversation.specs.Kinds.{AnyKind, Buffers, viewOf}
 use Rattle.conversation.specs.Phases.{All, Part, one-part, two-part, Phase, blocksOf, IsPhase, Supply, callsOf, LongEnough, Starts, JustDone, SameStart, Rearranged, SameOutcome, commandIn}
 use Rattle.conversation.specs.ReceivingTwo.{writes, atOnce}
-use Rattle.conversation.specs.Shapes.{AcceptedTo, FrontOne, ShapedOne}
+use Rattle.conversation.specs.Shapes.{AcceptedTo, FrontOne, ShapedOne, FrontTwo, ShapedTwo, AllowedTwoSoFar}
 use Rattle.session.specs.Session.{Session, openedSession, opened}
 use Rattle.conversation.proofs.Laws.AllowedOne as one-accepted
 use Rattle.conversation.proofs.Laws.AllowedOne.{textsOf}
@@ -34,6 +34,7 @@ use Rattle.conversation.proofs.Laws.Reached.{JustReached, just-done}
 use Rattle.conversation.proofs.Laws.Refusals as refusals
 use Rattle.conversation.proofs.Laws.Refusals.{Refused}
 use Rattle.conversation.proofs.Laws.ShapesOne as one-shaped
+use Rattle.conversation.proofs.Laws.ShapesTwo as two-shaped
 use Rattle.conversation.proofs.Laws.Tables as tables
 use Rattle.conversation.proofs.Laws.WrittenRead as written-read
 use Rattle.conversation.proofs.Laws.WrittenRead.{OneReadsBack, TwoReadsBack, ResponseReadsBack, ReceivedAgain}
@@ -71,6 +72,16 @@ demand-2-phase-one-so-far = one-shaped.front-one-iff
 pub demand-2-client : (s : Session) (b : Buffers) → JustDone s → (p : Phase) → IsPhase two-part p → (outs : Supply) → LongEnough s b (callsOf two-part outs (blocksOf p)) →
     Accepted s b (callsOf two-part outs (blocksOf p)) ↔ AllowedTwo (s .machine) (s .screen) (leftOf (stateOf s b)) (capacityOf b) (blocksOf p)
 demand-2-client s b j p h outs l = two-accepted.accepted-two-iff s b (just-done s j) p h outs l
+
+-- .. of any calls of the client end at all: accepted to the end of the phase exactly those that have its shape and are allowed
+pub demand-2-client-exact : (s : Session) (b : Buffers) → JustDone s → (cs : List Call) → All (λ c. isClient c ≡ true) cs → LongEnough s b cs →
+    AcceptedTo Ended s b cs ↔ ((p : ShapedTwo cs) × AllowedTwo (s .machine) (s .screen) (leftOf (stateOf s b)) (capacityOf b) (blocksOf (p .phase)))
+demand-2-client-exact s b j cs k l = two-shaped.shaped-two-iff s b (just-done s j) cs k l
+
+-- .. and accepted but not to its end, exactly those cut before done that are allowed so far; `q` is the phase then, two or that of waiting for a reply
+pub demand-2-client-so-far : (s : Session) (b : Buffers) → JustDone s → (cs : List Call) → All (λ c. isClient c ≡ true) cs → LongEnough s b cs → (q : SessionPhase) → (q ≡ Ended → ⊥) →
+    AcceptedTo q s b cs ↔ ((p : FrontTwo cs) × AllowedTwoSoFar (s .machine) (s .screen) (leftOf (stateOf s b)) (capacityOf b) q (p .blocks))
+demand-2-client-so-far s b j cs k l q n = two-shaped.front-two-iff s b (just-done s j) cs k l q n
 
 -- phase two at the plugin end, sendings with the responses received, behind phase one
 pub demand-2-plugin : (s : Session) (b : Buffers) → JustReached s → (outs : Supply) (xs : List Exchange) (y : Exchange) → All (λ x. isDoneSent x ≡ false) xs → isDoneSent y ≡ true →
