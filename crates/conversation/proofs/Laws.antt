@@ -26,12 +26,13 @@ pub mod Responding
 pub mod Runs
 pub mod Sending
 pub mod SendingTwo
+pub mod Shapes
+pub mod ShapesOne
+pub mod ShapesSent
+pub mod ShapesTwo
 pub mod Steps
 pub mod StepsTwo
 pub mod SumsTwo
 pub mod Tables
 pub mod ViewsTwo
 pub mod WrittenRead
-pub mod Shapes
-pub mod ShapesOne
-pub mod ShapesTwo

@@ -21,7 +21,7 @@ use Rattle.conversation.specs.CommandsTwo.{lineSent}
 use Rattle.conversation.specs.Kinds.{AnyKind, Buffers, viewOf}
 use Rattle.conversation.specs.Phases.{All, Part, one-part, two-part, Phase, blocksOf, IsPhase, Supply, callsOf, LongEnough, Starts, JustDone, SameStart, Rearranged, SameOutcome, commandIn}
 use Rattle.conversation.specs.ReceivingTwo.{writes, atOnce}
-use Rattle.conversation.specs.Shapes.{AcceptedTo, FrontOne, ShapedOne, FrontTwo, ShapedTwo, AllowedTwoSoFar}
+use Rattle.conversation.specs.Shapes.{AcceptedTo, FrontOne, ShapedOne, FrontTwo, ShapedTwo, AllowedTwoSoFar, FrontSent, ShapedSent, AllowedSentSoFar}
 use Rattle.session.specs.Session.{Session, openedSession, opened}
 use Rattle.conversation.proofs.Laws.AllowedOne as one-accepted
 use Rattle.conversation.proofs.Laws.AllowedOne.{textsOf}
@@ -34,6 +34,7 @@ use Rattle.conversation.proofs.Laws.Reached.{JustReached, just-done}
 use Rattle.conversation.proofs.Laws.Refusals as refusals
 use Rattle.conversation.proofs.Laws.Refusals.{Refused}
 use Rattle.conversation.proofs.Laws.ShapesOne as one-shaped
+use Rattle.conversation.proofs.Laws.ShapesSent as sent-shaped
 use Rattle.conversation.proofs.Laws.ShapesTwo as two-shaped
 use Rattle.conversation.proofs.Laws.Tables as tables
 use Rattle.conversation.proofs.Laws.WrittenRead as written-read
@@ -88,6 +89,16 @@ pub demand-2-plugin : (s : Session) (b : Buffers) → JustReached s → (outs : 
     LongEnough s b (sendingCalls outs (xs ++ (y ∷ []))) →
     Accepted s b (sendingCalls outs (xs ++ (y ∷ []))) ↔ AllowedSent (s .machine) (leftOf (stateOf s b)) (capacityOf b) (xs ++ (y ∷ []))
 demand-2-plugin = sent-accepted.accepted-sent-iff
+
+-- .. of any calls of the plugin end at all: accepted to the end of the phase exactly those that have its shape and are allowed
+pub demand-2-plugin-exact : (s : Session) (b : Buffers) → JustReached s → (cs : List Call) → All (λ c. isClient c ≡ false) cs → LongEnough s b cs →
+    AcceptedTo Ended s b cs ↔ ((p : ShapedSent cs) × AllowedSent (s .machine) (leftOf (stateOf s b)) (capacityOf b) (p .ahead ++ (p .last ∷ [])))
+demand-2-plugin-exact = sent-shaped.shaped-sent-iff
+
+-- .. and accepted but not to its end, exactly those cut before done that are allowed so far; `q` is the phase then, two or that of awaiting a response
+pub demand-2-plugin-so-far : (s : Session) (b : Buffers) → JustReached s → (cs : List Call) → All (λ c. isClient c ≡ false) cs → LongEnough s b cs → (q : SessionPhase) → (q ≡ Ended → ⊥) →
+    AcceptedTo q s b cs ↔ ((p : FrontSent cs) × AllowedSentSoFar (s .machine) (leftOf (stateOf s b)) (capacityOf b) q (p .exchanges))
+demand-2-plugin-so-far = sent-shaped.front-sent-iff
 
 -- "What is written reads back": a command of phase one, a command of phase two, a response at once, a reply
 pub demand-2-sent-one : (s : Session) (b : Buffers) (word : WordOne) (arguments body out : List ℕ) → areBytes body ≡ true → outcome s b (send word arguments body out) .number ≡ 0 →

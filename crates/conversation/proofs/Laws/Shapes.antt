@@ -2,7 +2,6 @@
 use Prim.Native.Nat.{ℕ, zero, suc, _+_, _≤_}
 use mathlib.Core.Path.{_≡_, refl, sym, ap, ap₂, _∙_, subst, subst₂, fun-ext}
 use mathlib.Core.Bool.{Bool, true, false, false≢true}
-use mathlib.Core.Logic.{_↔_}
 use mathlib.Core.List.{List, [], _∷_, _++_, map, append-nil}
 use lib.Dec.{eqb}
 use lib.ListN.{length, take, drop}
@@ -12,7 +11,6 @@ use native.Mathlib.Nat.{add-zero, add-suc}
 use native.Mathlib.Numerals.{add-one}
 use native.Mathlib.Omega.{arith}
 use Rattle.refusal.specs.Pick.{pick}
-use Rattle.refusal.specs.Output.{filled}
 use Rattle.refusal.specs.Verdict.{firstOf}
 use Rattle.refusal.proofs.Laws.Booleans.{and-true}
 use Rattle.stanza.specs.Arguments.{isLine}
@@ -21,15 +19,13 @@ use Rattle.stanza.specs.Reading.{Reading, stanza, refused, readFirst}
 use Rattle.stanza.specs.Writing.{isWritable}
 use Rattle.stanza.proofs.Laws.Arguments.{line-nil}
 use Rattle.stanza.proofs.Laws.RoundTrip.{read-written, read-arguments, read-body}
-use Rattle.phase_one.specs.Commands as one-command
 use Rattle.phase_one.specs.PhaseOne.{numberOne}
 use Rattle.phase_one.specs.Turns.{turnOne}
 use Rattle.session.specs.declared.phases.Phase.the-variants.{Ended}
 use Rattle.session.specs.Session.{Session}
-use Rattle.conversation.specs.Calls.{Call, receive, send, receive-two, reply, send-two, respond, receivedOutcome, receivedTwoOutcome, Outcome, outcome, outputIn, writtenBy, after, numbers, AllZero, Accepted, lineRead, bodyRead}
+use Rattle.conversation.specs.Calls.{Call, receive, send, receive-two, reply, send-two, respond, receivedOutcome, receivedTwoOutcome, Outcome, outcome, outputIn, after, numbers, AllZero, Accepted, lineRead, bodyRead}
 use Rattle.conversation.specs.CommandsTwo.{commandTwo}
 use Rattle.conversation.specs.Kinds.{Buffers}
-use Rattle.conversation.specs.PhaseTwo as two
 use Rattle.conversation.specs.Phases.{Whole, lineIn, bodyIn, Supply, skip, lending, LongEnough}
 use Rattle.conversation.specs.Receiving as receiving
 use Rattle.conversation.specs.ReceivingTwo as receiving-two

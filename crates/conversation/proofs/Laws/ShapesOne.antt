@@ -11,12 +11,11 @@ use Rattle.refusal.specs.Same.{same}
 use Rattle.refusal.proofs.Laws.Booleans.{cases}
 use Rattle.refusal.proofs.Laws.Same.{same-eq}
 use Rattle.stanza.specs.Arguments.{argumentOf}
-use Rattle.tables.specs.Tables.{Row}
 use Rattle.phase_one.specs.Commands.{CommandOne, done, bad, doneWord, wordIn, isBare, rowCommand}
 use Rattle.phase_one.specs.PhaseOne as one
 use Rattle.phase_one.specs.Turns.{phaseAfter}
 use Rattle.phase_one.specs.Views as one-kind
-use Rattle.phase_one.specs.Views.{KindOne, recipients, identities, keys, headers}
+use Rattle.phase_one.specs.Views.{KindOne, headers}
 use Rattle.session.specs.Tables.{Tables}
 use Rattle.session.specs.declared.opening.Machine.{Machine}
 use Rattle.session.specs.declared.opening.Machine.the-variants.{RecipientV1, IdentityV1}
@@ -25,7 +24,7 @@ use Rattle.session.specs.declared.phases.Phase.the-variants.{One, Two}
 use Rattle.session.specs.Session.{Session, openedSession}
 use Rattle.conversation.specs.Calls.{receive, outcome, after, numbers, AllZero, Accepted}
 use Rattle.conversation.specs.Kinds.{Buffers}
-use Rattle.conversation.specs.Phases.{All, Whole, lineIn, bodyIn, isDone, commandOf, rowsFrom}
+use Rattle.conversation.specs.Phases.{All, Whole, lineIn, bodyIn, isDone, commandOf}
 use Rattle.conversation.specs.Allowed.{isRight, rowsIn, bytesOf, Rising, slotsOf, Allowed}
 use Rattle.conversation.specs.Shapes.{AcceptedTo, BeginsWhole, FrontOne, ShapedOne}
 use Rattle.conversation.proofs.Laws.Accepted.{accepted}

@@ -286,7 +286,7 @@ module _ (machine : Machine) where
 -- ---- blocks of which none is done
 
 -- a phase awaits nothing, or the answer to a command
-settled-or : (p : SessionPhase) → Settled p ⊎ ((w : WordTwo) × (p ≡ Awaiting w))
+pub settled-or : (p : SessionPhase) → Settled p ⊎ ((w : WordTwo) × (p ≡ Awaiting w))
 settled-or One = inl tt
 settled-or Two = inl tt
 settled-or (Awaiting w) = inr (w, refl)
