@@ -41,11 +41,11 @@ use Rattle.conversation.proofs.Laws.SumsTwo.{With}
 
 -- ---- the client end's calls behind phase one are replies and then blocks
 
-pub record Parsed (cs : List Call) : Type 0 where
-  pub replies : List Reply
-  pub blocks : List Block
-  pub outs : Supply
-  pub calls : cs ≡ replyCalls outs replies ++ callsOf two-part (skip (length replies) outs) blocks
+record Parsed (cs : List Call) : Type 0 where
+  replies : List Reply
+  blocks : List Block
+  outs : Supply
+  calls : cs ≡ replyCalls outs replies ++ callsOf two-part (skip (length replies) outs) blocks
 
 -- one reply more in front
 parsed-reply : (r : Reply) (out : List ℕ) (cs : List Call) → Parsed cs → Parsed (reply (r .response) (r .body) out ∷ cs)
