@@ -27,6 +27,10 @@ pub mod Responding
 pub mod Runs
 pub mod Sending
 pub mod SendingTwo
+pub mod Shapes
+pub mod ShapesOne
+pub mod ShapesSent
+pub mod ShapesTwo
 pub mod Steps
 pub mod StepsTwo
 pub mod SumsTwo

@@ -4,7 +4,7 @@ use Prim.Native.Nat.{ℕ}
 use mathlib.Core.Path.{_≡_}
 use mathlib.Core.Bool.{Bool, true, false}
 use mathlib.Core.Logic.{_↔_}
-use mathlib.Core.List.{List, [], _∷_, _++_}
+use mathlib.Core.List.{List, [], _∷_, _++_, map}
 use lib.Pow.{areBytes}
 use Rattle.stanza.specs.Reading.{readFirst, stanza}
 use Rattle.responses.specs.declared.Response.{Response}
@@ -12,15 +12,17 @@ use Rattle.session.specs.declared.words.WordTwo.{WordTwo}
 use Rattle.phase_one.specs.Commands as one
 use Rattle.phase_one.specs.Commands.{WordOne}
 use Rattle.session.specs.declared.opening.Machine.{Machine}
-use Rattle.session.specs.declared.phases.Phase.the-variants.{Ended}
+use Rattle.session.specs.declared.phases.Phase.{Phase as SessionPhase}
+use Rattle.session.specs.declared.phases.Phase.the-variants.{One, Two, Ended}
 use Rattle.conversation.specs.Allowed.{Allowed, AllowedTwo, Exchange, isDoneSent, sendingCalls, AllowedSent}
 use Rattle.conversation.specs.Answers.{events, Paired}
-use Rattle.conversation.specs.Calls.{Call, send, receive-two, reply, send-two, outcome, writtenBy, State, stateOf, after, acceptedRows, Accepted}
+use Rattle.conversation.specs.Calls.{Call, receive, send, receive-two, reply, send-two, isClient, outcome, writtenBy, State, stateOf, after, acceptedRows, Accepted}
 use Rattle.conversation.specs.CommandsTwo.{lineSent}
 use Rattle.conversation.specs.Given.{GivenBack}
 use Rattle.conversation.specs.Kinds.{AnyKind, Buffers, viewOf}
 use Rattle.conversation.specs.Phases.{All, Part, one-part, two-part, Phase, blocksOf, IsPhase, Supply, callsOf, LongEnough, Starts, JustDone, SameStart, Rearranged, SameOutcome, commandIn}
 use Rattle.conversation.specs.ReceivingTwo.{writes, atOnce}
+use Rattle.conversation.specs.Shapes.{AcceptedTo, FrontOne, ShapedOne, FrontTwo, ShapedTwo, AllowedTwoSoFar, FrontSent, ShapedSent, AllowedSentSoFar}
 use Rattle.session.specs.Session.{Session, openedSession, opened}
 use Rattle.look_up.specs.ErrorNames.{namesIn, nameAt}
 use Rattle.look_up.specs.LookUp.{errorNamed}
@@ -35,6 +37,9 @@ use Rattle.conversation.proofs.Laws.OrderTwo.{leftOf, capacityOf}
 use Rattle.conversation.proofs.Laws.Reached.{JustReached, just-done}
 use Rattle.conversation.proofs.Laws.Refusals as refusals
 use Rattle.conversation.proofs.Laws.Refusals.{Refused}
+use Rattle.conversation.proofs.Laws.ShapesOne as one-shaped
+use Rattle.conversation.proofs.Laws.ShapesSent as sent-shaped
+use Rattle.conversation.proofs.Laws.ShapesTwo as two-shaped
 use Rattle.conversation.proofs.Laws.Tables as tables
 use Rattle.conversation.proofs.Laws.WrittenRead as written-read
 use Rattle.conversation.proofs.Laws.WrittenRead.{OneReadsBack, TwoReadsBack, ResponseReadsBack, ReceivedAgain}
@@ -64,16 +69,46 @@ pub demand-2-phase-one : (machine : Machine) (name : List ℕ) (screen : Bool) (
     Accepted (openedSession machine name screen) b (callsOf one-part outs (blocksOf p)) ↔ Allowed machine name (b .first) (textsOf p)
 demand-2-phase-one = one-accepted.accepted-iff
 
+-- .. of any texts at all: accepted to the end of the phase exactly those that have its shape and are allowed
+pub demand-2-phase-one-exact : (machine : Machine) (name : List ℕ) (screen : Bool) (b : Buffers) (ts : List (List ℕ)) →
+    AcceptedTo Two (openedSession machine name screen) b (map receive ts) ↔ (ShapedOne ts × Allowed machine name (b .first) ts)
+demand-2-phase-one-exact = one-shaped.shaped-one-iff
+
+-- .. and accepted but not to its end, exactly those cut before done that are allowed so far; it is then still phase one
+pub demand-2-phase-one-so-far : (machine : Machine) (name : List ℕ) (screen : Bool) (b : Buffers) (ts : List (List ℕ)) (q : SessionPhase) → (q ≡ Two → ⊥) →
+    AcceptedTo q (openedSession machine name screen) b (map receive ts) ↔ ((q ≡ One) × FrontOne ts × Allowed machine name (b .first) ts)
+demand-2-phase-one-so-far = one-shaped.front-one-iff
+
 -- phase two at the client end, commands with replies, received by a session that has just sent done
 pub demand-2-client : (s : Session) (b : Buffers) → JustDone s → (p : Phase) → IsPhase two-part p → (outs : Supply) → LongEnough s b (callsOf two-part outs (blocksOf p)) →
     Accepted s b (callsOf two-part outs (blocksOf p)) ↔ AllowedTwo (s .machine) (s .screen) (leftOf (stateOf s b)) (capacityOf b) (blocksOf p)
 demand-2-client s b j p h outs l = two-accepted.accepted-two-iff s b (just-done s j) p h outs l
+
+-- .. of any calls of the client end at all: accepted to the end of the phase exactly those that have its shape and are allowed
+pub demand-2-client-exact : (s : Session) (b : Buffers) → JustDone s → (cs : List Call) → All (λ c. isClient c ≡ true) cs → LongEnough s b cs →
+    AcceptedTo Ended s b cs ↔ ((p : ShapedTwo cs) × AllowedTwo (s .machine) (s .screen) (leftOf (stateOf s b)) (capacityOf b) (blocksOf (p .phase)))
+demand-2-client-exact s b j cs k l = two-shaped.shaped-two-iff s b (just-done s j) cs k l
+
+-- .. and accepted but not to its end, exactly those cut before done that are allowed so far; `q` is the phase then, two or that of waiting for a reply
+pub demand-2-client-so-far : (s : Session) (b : Buffers) → JustDone s → (cs : List Call) → All (λ c. isClient c ≡ true) cs → LongEnough s b cs → (q : SessionPhase) → (q ≡ Ended → ⊥) →
+    AcceptedTo q s b cs ↔ ((p : FrontTwo cs) × AllowedTwoSoFar (s .machine) (s .screen) (leftOf (stateOf s b)) (capacityOf b) q (p .blocks))
+demand-2-client-so-far s b j cs k l q n = two-shaped.front-two-iff s b (just-done s j) cs k l q n
 
 -- phase two at the plugin end, sendings with the responses received, behind phase one
 pub demand-2-plugin : (s : Session) (b : Buffers) → JustReached s → (outs : Supply) (xs : List Exchange) (y : Exchange) → All (λ x. isDoneSent x ≡ false) xs → isDoneSent y ≡ true →
     LongEnough s b (sendingCalls outs (xs ++ (y ∷ []))) →
     Accepted s b (sendingCalls outs (xs ++ (y ∷ []))) ↔ AllowedSent (s .machine) (leftOf (stateOf s b)) (capacityOf b) (xs ++ (y ∷ []))
 demand-2-plugin = sent-accepted.accepted-sent-iff
+
+-- .. of any calls of the plugin end at all: accepted to the end of the phase exactly those that have its shape and are allowed
+pub demand-2-plugin-exact : (s : Session) (b : Buffers) → JustReached s → (cs : List Call) → All (λ c. isClient c ≡ false) cs → LongEnough s b cs →
+    AcceptedTo Ended s b cs ↔ ((p : ShapedSent cs) × AllowedSent (s .machine) (leftOf (stateOf s b)) (capacityOf b) (p .ahead ++ (p .last ∷ [])))
+demand-2-plugin-exact = sent-shaped.shaped-sent-iff
+
+-- .. and accepted but not to its end, exactly those cut before done that are allowed so far; `q` is the phase then, two or that of awaiting a response
+pub demand-2-plugin-so-far : (s : Session) (b : Buffers) → JustReached s → (cs : List Call) → All (λ c. isClient c ≡ false) cs → LongEnough s b cs → (q : SessionPhase) → (q ≡ Ended → ⊥) →
+    AcceptedTo q s b cs ↔ ((p : FrontSent cs) × AllowedSentSoFar (s .machine) (leftOf (stateOf s b)) (capacityOf b) q (p .exchanges))
+demand-2-plugin-so-far = sent-shaped.front-sent-iff
 
 -- "What is written reads back": a command of phase one, a command of phase two, a response at once, a reply
 pub demand-2-sent-one : (s : Session) (b : Buffers) (word : WordOne) (arguments body out : List ℕ) → areBytes body ≡ true → outcome s b (send word arguments body out) .number ≡ 0 →

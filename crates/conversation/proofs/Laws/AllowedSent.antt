@@ -229,13 +229,13 @@ module _ (s : Session) (t : Tables) (b : Buffers) (x : Exchange) where
   text = stanzaText (lineOf x) (x .body)
 
   -- it can be written and the decision finds no fault; the tables and the buffers behind it
-  abbrev Judged : Type 0
+  abbrev pub Judged : Type 0
   Judged = (isWritable (lineOf x) (x .body) ≡ true) × (decided true t (b .second) c (length p) ≡ 0)
 
-  abbrev tablesSent : Tables
+  abbrev pub tablesSent : Tables
   tablesSent = applied t (b .second) c p
 
-  abbrev buffersSent : Buffers
+  abbrev pub buffersSent : Buffers
   buffersSent = buffersOf (b .first) (filledBy t (b .second) c p)
 
   sent-zero : (out : List ℕ) → Judged → length text ≤ length out → outcome (at s Two t) b (call out) .number ≡ 0
@@ -245,10 +245,10 @@ module _ (s : Session) (t : Tables) (b : Buffers) (x : Exchange) where
       pick-zero (λ (r : Sent). sentNumber (r .answer)) (eqb n 0) _ _ (eq-eqb n 0 (first-iff _ _ .1 (ap (λ f. pick f (decided true t (b .second) c (length p)) 17) (j .0) ∙ j .1, long-enough text out h))) refl
 
   -- it is accepted exactly then
-  sent-to : (out : List ℕ) → outcome (at s Two t) b (call out) .number ≡ 0 → Judged
+  pub sent-to : (out : List ℕ) → outcome (at s Two t) b (call out) .number ≡ 0 → Judged
   sent-to out z = let a = accepted (at s Two t) b (call out) z in (a .writable, a .faultless)
 
-  sent-from : (out : List ℕ) → ((big : List ℕ) → length (writtenBy (at s Two t) b (call big)) ≤ length out) → Judged → outcome (at s Two t) b (call out) .number ≡ 0
+  pub sent-from : (out : List ℕ) → ((big : List ℕ) → length (writtenBy (at s Two t) b (call big)) ≤ length out) → Judged → outcome (at s Two t) b (call out) .number ≡ 0
   sent-from out e j =
       let a = accepted (at s Two t) b (call text) (sent-zero text j (omega arith)) in
       sent-zero out j (subst (λ k. k ≤ length out) (ap length (front text text _ (a .written))) (e text))
@@ -323,7 +323,7 @@ none-accepted s b outs us e = subst (λ us. Accepted s b (responseCalls outs us)
 -- ---- an exchange
 
 -- a right command that is not done awaits its one response
-awaits : (c : CommandTwo) → Proper false c → isRightTwo c ≡ true → (phaseSent c ≡ Awaiting (wordOf c)) × ((us : List (List ℕ)) → Responded c us ↔ OneResponse (wordOf c) us)
+pub awaits : (c : CommandTwo) → Proper false c → isRightTwo c ≡ true → (phaseSent c ≡ Awaiting (wordOf c)) × ((us : List (List ℕ)) → Responded c us ↔ OneResponse (wordOf c) us)
 awaits (ask w) d e = (refl, λ us. (λ h. h, λ h. h))
 awaits (stanza f) d e = (refl, λ us. (λ h. h, λ h. h))
 awaits (key f) d e = (refl, λ us. (λ h. h, λ h. h))
@@ -371,12 +371,12 @@ module _ (s : Session) (left : Left) (t : Tables) (b : Buffers) (x : Exchange) (
       ∙ ap (λ l. l ++ rowLabels (rowsOf c′ errors p′)) (sym (labels-view (t .errors) (b .second .errors)) ∙ n)
       ∙ sym (named-more h (saidIn (s .machine) x))
 
-  standing-behind : decided true t (b .second) c′ (length p′) ≡ 0 → Standing left t′ (b′ .second)
+  pub standing-behind : decided true t (b .second) c′ (length p′) ≡ 0 → Standing left t′ (b′ .second)
   standing-behind z = standing-with true left t (b .second) c′ p′ g (decided-iff true t (b .second) c′ (length p′) .0 z)
 
   -- one that is not done
   module _ (d : isDoneSent x ≡ false) where
-    exchange-iff : (Judged s t b x × Responded c′ (x .responses)) ↔ (RightExchange (s .machine) left x × With t (b .second) c′ p′)
+    pub exchange-iff : (Judged s t b x × Responded c′ (x .responses)) ↔ (RightExchange (s .machine) left x × With t (b .second) c′ p′)
     exchange-iff = (
       λ h.
           let q = exact .0 (h .0 .1) in
@@ -394,7 +394,7 @@ module _ (s : Session) (left : Left) (t : Tables) (b : Buffers) (x : Exchange) (
           stateOf (outcome (at s Two t) b (call s t b x (outs 0)) .session) (outcome (at s Two t) b (call s t b x (outs 0)) .buffers) ≡ stateOf (at s (Awaiting (wordOf c′)) t′) b′
       waiting z r = sent-state s t b x (outs 0) z ∙ ap (λ q. stateOf (at s q t′) b′) (awaits c′ (proper false d) r .0)
 
-      exchange-to : Accepted (at s Two t) b (exchangeCalls outs x) → Settled (after (at s Two t) b (exchangeCalls outs x) .session .phase) → Judged s t b x × Responded c′ (x .responses)
+      pub exchange-to : Accepted (at s Two t) b (exchangeCalls outs x) → Settled (after (at s Two t) b (exchangeCalls outs x) .session .phase) → Judged s t b x × Responded c′ (x .responses)
       unfolding AllZero numbers after
       exchange-to a h =
           let j = sent-to s t b x (outs 0) (a .0) in
@@ -405,7 +405,7 @@ module _ (s : Session) (left : Left) (t : Tables) (b : Buffers) (x : Exchange) (
                 (responses-to s t′ b′ (wordOf c′) (skip 1 outs) (x .responses) (subst (λ u. Accepted (u .session) (u .buffers) cs) e (a .1)) (subst (λ u. Settled (after (u .session) (u .buffers) cs .session .phase)) e h)),
           )
 
-      exchange-from : LongEnough (at s Two t) b (exchangeCalls outs x) → Judged s t b x → Responded c′ (x .responses) →
+      pub exchange-from : LongEnough (at s Two t) b (exchangeCalls outs x) → Judged s t b x → Responded c′ (x .responses) →
           Accepted (at s Two t) b (exchangeCalls outs x) × (after (at s Two t) b (exchangeCalls outs x) ≡ stateOf (at s Two t′) b′)
       unfolding AllZero numbers after LongEnough
       exchange-from l j q =

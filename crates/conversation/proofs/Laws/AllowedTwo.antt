@@ -138,7 +138,7 @@ standing-with own left t b c p s f = record {
 abbrev pub Fitting : Tables → two.BuffersTwo → List Said → Type 0
 Fitting t b cs = Limits (mostStanzas t) (λ k. length (bufferOf k b)) (λ m. sumsIn t m + total m cs)
 
-fitting-none : (t : Tables) (b : two.BuffersTwo) → Kept-limits t b → Fitting t b []
+pub fitting-none : (t : Tables) (b : two.BuffersTwo) → Kept-limits t b → Fitting t b []
 unfolding total
 fitting-none t b l = limits-less (mostStanzas t) (λ k. length (bufferOf k b)) (sumsIn t) (λ m. sumsIn t m + 0) l (λ m. omega arith)
 
@@ -209,7 +209,7 @@ module _ (s : Session) (left : Left) where
     p = payloadIn (s .machine) (x .text)
 
     -- it is right by itself and keeps the limits exactly if the decision finds no fault and its replies are as they must be
-    block-iff : ((judged s t b (x .text) w ≡ 0) × Answered (s .screen) c (x .replies)) ↔ (RightBlock (s .machine) (s .screen) left x × With t (b .second) c p)
+    pub block-iff : ((judged s t b (x .text) w ≡ 0) × Answered (s .screen) c (x .replies)) ↔ (RightBlock (s .machine) (s .screen) left x × With t (b .second) c p)
     block-iff =
         let i = decided-exact false left t (b .second) (isDone (x .text)) c p (proper (x .text)) g in (
           λ h. let r = i .0 (h .0) in (record { right = r .0; present = r .1; answered = h .1 }, r .2),

@@ -43,7 +43,7 @@ use Rattle.conversation.proofs.Laws.Limits.{Within, Held, Grown, same a
 
 -- ---- a command that was read: only the word done makes done, and no fault has the number 0
 
-abbrev Proper : Bool → CommandOne → Type 0
+abbrev pub Proper : Bool → CommandOne → Type 0
 Proper d (recipient m) = Unit
 Proper d (identity m) = Unit
 Proper d key = Unit
@@ -98,7 +98,7 @@ module _ (g l : List ℕ) (n : ℕ) where
       either d (same w addIdentity) add-identity (pick (same w recipientStanza) recipient-stanza (pick d done-word other-word)) (text-row d the-kind.Identity)
       (either d (same w recipientStanza) recipient-stanza (pick d done-word other-word) (header-proper d (leb 3 (countOf l)) (argumentOf l 1) (headerMark g l n)) (last-proper d))
 
-proper-phase : (c : CommandOne) → Proper false c → phaseAfter c ≡ One
+pub proper-phase : (c : CommandOne) → Proper false c → phaseAfter c ≡ One
 proper-phase (recipient m) h = refl
 proper-phase (identity m) h = refl
 proper-phase key h = refl
@@ -178,7 +178,7 @@ module _ (machine : Machine) (name : List ℕ) where
   abbrev pub payload : List ℕ → List ℕ
   payload x = payloadIn machine name (lineIn x) (bodyIn x)
 
-  proper : (x : List ℕ) → Proper (isDone x) (commandOf machine name x)
+  pub proper : (x : List ℕ) → Proper (isDone x) (commandOf machine name x)
   proper x = word-proper name (lineIn x) (length (bodyIn x)) machine (argumentOf (lineIn x) 0)
 
   module _ (t : Tables) (b : BuffersOne) where
