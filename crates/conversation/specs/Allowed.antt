@@ -20,7 +20,8 @@ use Rattle.phase_one.specs.PhaseOne as one
 use Rattle.phase_one.specs.Views as one-kind
 use Rattle.phase_one.specs.Views.{recipients, identities, keys, headers}
 use Rattle.session.specs.declared.opening.Machine.{Machine}
-use Rattle.conversation.specs.Calls.{Call, send-two, respond}
+use Rattle.conversation.specs.Calls.{Call, send-two, respond, State}
+use Rattle.conversation.specs.Kinds.{Buffers}
 use Rattle.conversation.specs.CommandsTwo as two-command
 use Rattle.conversation.specs.CommandsTwo.{CommandTwo, lineSent}
 use Rattle.conversation.specs.PhaseTwo as two
@@ -74,6 +75,14 @@ pub record Allowed (machine : Machine) (name : List ℕ) (b : one.BuffersOne) (t
 -- phase one's tables, as they are shown
 abbrev pub Left : Type 0
 Left = one-kind.KindOne → List Row
+
+-- what phase one left, as its tables show it
+abbrev pub leftOf : State → Left
+leftOf x k = one-kind.viewOf k (x .session .tables) (x .buffers .first)
+
+-- the lengths of phase two's buffers
+abbrev pub capacityOf : Buffers → two.KindTwo → ℕ
+capacityOf b k = length (two.bufferOf k (b .second))
 
 -- the row of a number has a property
 unfoldable pub RowAt : (Row → Type 0) → List Row → ℕ → Type 0

@@ -178,6 +178,14 @@ sessionAfter (reply r body out) n s = s
 sessionAfter (send-two word arguments body out) n s = s
 sessionAfter (respond text out) n s = pick (closes n) (closed s) s
 
+-- a refused call's session, tables, buffers and output buffer; nothing is written
+pub record Refused (s : Session) (b : Buffers) (c : Call) : Type 0 where
+  pub session : outcome s b c .session ≡ sessionAfter c (outcome s b c .number) s
+  pub tables : outcome s b c .session .tables ≡ s .tables
+  pub buffers : outcome s b c .buffers ≡ b
+  pub output : outcome s b c .output ≡ outputIn c
+  pub size : outcome s b c .size ≡ 0
+
 -- ---- lists of calls
 
 -- what a call hands on to the next

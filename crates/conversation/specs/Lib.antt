@@ -14,4 +14,5 @@ pub mod Answers
 pub mod Phases
 pub mod Allowed
 pub mod Given
+pub mod WrittenRead
 pub mod Shapes

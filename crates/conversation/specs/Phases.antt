@@ -152,6 +152,10 @@ pub record Phase : Type 0 where
 abbrev pub blocksOf : Phase → List Block
 blocksOf p = p .ahead ++ (p .last ∷ [])
 
+-- their texts
+abbrev pub textsOf : Phase → List (List ℕ)
+textsOf p = map (λ x. x .text) (blocksOf p)
+
 -- the plugin end has no host that replies
 abbrev pub Quiet : Part → Block → Type 0
 Quiet one-part x = x .replies ≡ []
@@ -254,6 +258,18 @@ pub record JustDone (s : Session) : Type 0 where
   pub is-done : one.commandIn (s .machine) (s .name) (lineSent word arguments) body ≡ one-command.done
   pub accepted : outcome (afterEach (opened machine name screen .session) before) buffers (send word arguments body out) .number ≡ 0
   pub reached : s ≡ outcome (afterEach (opened machine name screen .session) before) buffers (send word arguments body out) .session
+
+-- a plugin session that has just received done, whatever its calls before
+pub record JustReceived (s : Session) : Type 0 where
+  pub machine : List ℕ
+  pub name : List ℕ
+  pub before : List CallWith
+  pub plugin : All (λ c. isClient (c .call) ≡ false) before
+  pub text : List ℕ
+  pub buffers : Buffers
+  pub is-done : commandOf (s .machine) (s .name) text ≡ one-command.done
+  pub accepted : outcome (afterEach (opened machine name false .session) before) buffers (receive text) .number ≡ 0
+  pub reached : s ≡ outcome (afterEach (opened machine name false .session) before) buffers (receive text) .session
 
 -- "Phase one is heard by a session just opened, phase two by a client session that has just sent done"
 abbrev pub Starts : Part → Session → Type 0

@@ -14,35 +14,32 @@ use Rattle.phase_one.specs.Commands.{WordOne}
 use Rattle.session.specs.declared.opening.Machine.{Machine}
 use Rattle.session.specs.declared.phases.Phase.{Phase as SessionPhase}
 use Rattle.session.specs.declared.phases.Phase.the-variants.{One, Two, Ended}
-use Rattle.conversation.specs.Allowed.{Allowed, AllowedTwo, Exchange, isDoneSent, sendingCalls, AllowedSent}
+use Rattle.conversation.specs.Allowed.{Allowed, AllowedTwo, Exchange, isDoneSent, sendingCalls, AllowedSent, leftOf, capacityOf}
 use Rattle.conversation.specs.Answers.{events, Paired}
-use Rattle.conversation.specs.Calls.{Call, receive, send, receive-two, reply, send-two, isClient, outcome, writtenBy, State, stateOf, after, acceptedRows, Accepted}
+use Rattle.conversation.specs.Calls.{Call, receive, send, receive-two, reply, send-two, isClient, outcome, writtenBy, State, stateOf, after, acceptedRows, Accepted, Refused}
 use Rattle.conversation.specs.CommandsTwo.{lineSent}
 use Rattle.conversation.specs.Given.{GivenBack}
 use Rattle.conversation.specs.Kinds.{AnyKind, Buffers, viewOf}
-use Rattle.conversation.specs.Phases.{All, Part, one-part, two-part, Phase, blocksOf, IsPhase, Supply, callsOf, LongEnough, Starts, JustDone, SameStart, Rearranged, SameOutcome, commandIn}
+use Rattle.conversation.specs.Phases.{All, Part, one-part, two-part, Phase, blocksOf, IsPhase, Supply, callsOf, LongEnough, Starts, JustDone, JustReceived, SameStart, Rearranged, SameOutcome, commandIn, textsOf}
 use Rattle.conversation.specs.ReceivingTwo.{writes, atOnce}
 use Rattle.conversation.specs.Shapes.{AcceptedTo, FrontOne, ShapedOne, FrontTwo, ShapedTwo, AllowedTwoSoFar, FrontSent, ShapedSent, AllowedSentSoFar}
 use Rattle.session.specs.Session.{Session, openedSession, opened}
 use Rattle.look_up.specs.ErrorNames.{namesIn, nameAt}
 use Rattle.look_up.specs.LookUp.{errorNamed}
+use Rattle.conversation.specs.WrittenRead.{OneReadsBack, TwoReadsBack, ResponseReadsBack, ReceivedAgain}
 use Rattle.conversation.proofs.Laws.AllowedOne as one-accepted
-use Rattle.conversation.proofs.Laws.AllowedOne.{textsOf}
 use Rattle.conversation.proofs.Laws.AllowedSent as sent-accepted
 use Rattle.conversation.proofs.Laws.Answers as answering
 use Rattle.conversation.proofs.Laws.Given as giving
 use Rattle.conversation.proofs.Laws.Order as ordering
 use Rattle.conversation.proofs.Laws.OrderTwo as two-accepted
-use Rattle.conversation.proofs.Laws.OrderTwo.{leftOf, capacityOf}
-use Rattle.conversation.proofs.Laws.Reached.{JustReached, just-done}
+use Rattle.conversation.proofs.Laws.Reached.{just-done, just-received-done}
 use Rattle.conversation.proofs.Laws.Refusals as refusals
-use Rattle.conversation.proofs.Laws.Refusals.{Refused}
 use Rattle.conversation.proofs.Laws.ShapesOne as one-shaped
 use Rattle.conversation.proofs.Laws.ShapesSent as sent-shaped
 use Rattle.conversation.proofs.Laws.ShapesTwo as two-shaped
 use Rattle.conversation.proofs.Laws.Tables as tables
 use Rattle.conversation.proofs.Laws.WrittenRead as written-read
-use Rattle.conversation.proofs.Laws.WrittenRead.{OneReadsBack, TwoReadsBack, ResponseReadsBack, ReceivedAgain}
 use Rattle.look_up.proofs.Laws.ErrorNames as error-names
 
 -- ---- Demand 1: "Any bytes and any calls are survived .. a refused call changes no table and no lent room, and at most closes the session."
@@ -94,21 +91,21 @@ pub demand-2-client-so-far : (s : Session) (b : Buffers) → JustDone s → (cs 
     AcceptedTo q s b cs ↔ ((p : FrontTwo cs) × AllowedTwoSoFar (s .machine) (s .screen) (leftOf (stateOf s b)) (capacityOf b) q (p .blocks))
 demand-2-client-so-far s b j cs k l q n = two-shaped.front-two-iff s b (just-done s j) cs k l q n
 
--- phase two at the plugin end, sendings with the responses received, behind phase one
-pub demand-2-plugin : (s : Session) (b : Buffers) → JustReached s → (outs : Supply) (xs : List Exchange) (y : Exchange) → All (λ x. isDoneSent x ≡ false) xs → isDoneSent y ≡ true →
+-- phase two at the plugin end, sendings with the responses received, by a session that has just received done
+pub demand-2-plugin : (s : Session) (b : Buffers) → JustReceived s → (outs : Supply) (xs : List Exchange) (y : Exchange) → All (λ x. isDoneSent x ≡ false) xs → isDoneSent y ≡ true →
     LongEnough s b (sendingCalls outs (xs ++ (y ∷ []))) →
     Accepted s b (sendingCalls outs (xs ++ (y ∷ []))) ↔ AllowedSent (s .machine) (leftOf (stateOf s b)) (capacityOf b) (xs ++ (y ∷ []))
-demand-2-plugin = sent-accepted.accepted-sent-iff
+demand-2-plugin s b j = sent-accepted.accepted-sent-iff s b (just-received-done s j)
 
 -- .. of any calls of the plugin end at all: accepted to the end of the phase exactly those that have its shape and are allowed
-pub demand-2-plugin-exact : (s : Session) (b : Buffers) → JustReached s → (cs : List Call) → All (λ c. isClient c ≡ false) cs → LongEnough s b cs →
+pub demand-2-plugin-exact : (s : Session) (b : Buffers) → JustReceived s → (cs : List Call) → All (λ c. isClient c ≡ false) cs → LongEnough s b cs →
     AcceptedTo Ended s b cs ↔ ((p : ShapedSent cs) × AllowedSent (s .machine) (leftOf (stateOf s b)) (capacityOf b) (p .ahead ++ (p .last ∷ [])))
-demand-2-plugin-exact = sent-shaped.shaped-sent-iff
+demand-2-plugin-exact s b j = sent-shaped.shaped-sent-iff s b (just-received-done s j)
 
 -- .. and accepted but not to its end, exactly those cut before done that are allowed so far; `q` is the phase then, two or that of awaiting a response
-pub demand-2-plugin-so-far : (s : Session) (b : Buffers) → JustReached s → (cs : List Call) → All (λ c. isClient c ≡ false) cs → LongEnough s b cs → (q : SessionPhase) → (q ≡ Ended → ⊥) →
+pub demand-2-plugin-so-far : (s : Session) (b : Buffers) → JustReceived s → (cs : List Call) → All (λ c. isClient c ≡ false) cs → LongEnough s b cs → (q : SessionPhase) → (q ≡ Ended → ⊥) →
     AcceptedTo q s b cs ↔ ((p : FrontSent cs) × AllowedSentSoFar (s .machine) (leftOf (stateOf s b)) (capacityOf b) q (p .exchanges))
-demand-2-plugin-so-far = sent-shaped.front-sent-iff
+demand-2-plugin-so-far s b j = sent-shaped.front-sent-iff s b (just-received-done s j)
 
 -- "What is written reads back": a command of phase one, a command of phase two, a response at once, a reply
 pub demand-2-sent-one : (s : Session) (b : Buffers) (word : WordOne) (arguments body out : List ℕ) → areBytes body ≡ true → outcome s b (send word arguments body out) .number ≡ 0 →

@@ -18,7 +18,7 @@ use Rattle.conversation.specs.Kinds.{buffersOf}
 use Rattle.conversation.specs.Kinds as kinds
 use Rattle.conversation.specs.PhaseTwo as two
 use Rattle.conversation.specs.Calls.{receive, outcome, State, after, numbers, AllZero, Accepted}
-use Rattle.conversation.specs.Phases.{All, Whole, isDone, commandOf, rowsFrom, one-part, Block, Phase, blocksOf, Quiet, IsPhase, Supply, skip, replyCalls, callsOf}
+use Rattle.conversation.specs.Phases.{All, Whole, isDone, commandOf, rowsFrom, one-part, Block, Phase, blocksOf, Quiet, IsPhase, Supply, skip, replyCalls, callsOf, textsOf}
 use Rattle.conversation.specs.Allowed.{isRight, rowsIn, Rising, Allowed}
 use Rattle.conversation.proofs.Laws.Lists.{all-map}
 use Rattle.conversation.proofs.Laws.Limits.{Ordered, Within, within-front}
@@ -161,10 +161,6 @@ allowed-ordered rows h keys = tt
 allowed-ordered rows h headers = h
 
 -- ---- a phase
-
--- a phase's texts
-abbrev pub textsOf : Phase → List (List ℕ)
-textsOf p = map (λ x. x .text) (blocksOf p)
 
 -- blocks without replies are received as their texts, whatever the supply
 pub quiet-calls : (outs : Supply) (xs : List Block) → All (Quiet one-part) xs → callsOf one-part outs xs ≡ map receive (map (λ x. x .text) xs)

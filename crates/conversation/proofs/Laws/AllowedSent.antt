@@ -34,13 +34,13 @@ use Rattle.conversation.specs.Responding.{respondedAs, respondedText}
 use Rattle.conversation.specs.Sending.{shortness}
 use Rattle.conversation.specs.SendingTwo.{phaseSent, Sent, sentLine, sent}
 use Rattle.session.specs.Session.{Session}
-use Rattle.conversation.specs.Allowed.{Left, isRightTwo, RowAt, Present, Said, Exchange, lineOf, commandSent, saidIn, OneResponse, Responded, NoneInvalid, Unheld, Some, Reported, AllReported, RightExchange, AllowedSent, isDoneSent, responseCalls, exchangeCalls, sendingCalls}
+use Rattle.conversation.specs.Allowed.{Left, isRightTwo, RowAt, Present, Said, Exchange, lineOf, commandSent, saidIn, OneResponse, Responded, NoneInvalid, Unheld, Some, Reported, AllReported, RightExchange, AllowedSent, isDoneSent, responseCalls, exchangeCalls, sendingCalls, leftOf, capacityOf}
 use Rattle.conversation.proofs.Laws.Accepted.{accepted}
 use Rattle.conversation.proofs.Laws.AllowedTwo.{Standing, decided-exact, standing-with, Fitting, fitting-front, fitting-one, fitting-rest, done-word}
 use Rattle.conversation.proofs.Laws.CommandsTwo.{Proper, command-proper}
 use Rattle.conversation.proofs.Laws.Firsts.{first-iff}
 use Rattle.conversation.proofs.Laws.DecidedTwo.{decided-iff, rowLabel, rowLabels, labels-view, many-append}
-use Rattle.conversation.proofs.Laws.OrderTwo.{leftOf, capacityOf, begins, two-session, fitting-all}
+use Rattle.conversation.proofs.Laws.OrderTwo.{begins, two-session, fitting-all}
 use Rattle.conversation.proofs.Laws.PresentTwo.{Shows}
 use Rattle.conversation.proofs.Laws.Reached.{JustReached}
 use Rattle.conversation.proofs.Laws.Runs.{accepted-append, enough-append}

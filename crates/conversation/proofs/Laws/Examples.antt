@@ -24,9 +24,9 @@ use Rattle.conversation.specs.Kinds as kinds
 use Rattle.conversation.specs.Kinds.{Buffers, first, viewOf}
 use Rattle.conversation.specs.PhaseTwo as two
 use Rattle.conversation.specs.Calls.{Call, stateOf, after, Accepted}
-use Rattle.conversation.specs.Phases.{All, keep, Whole, one-part, Block, Phase, blocksOf, IsPhase, Supply, callsOf, Strand, of-kind, of-errors, of-file, isIn, Rearranged, SameTables, SameOutcome}
+use Rattle.conversation.specs.Phases.{All, keep, Whole, one-part, Block, Phase, blocksOf, IsPhase, Supply, callsOf, Strand, of-kind, of-errors, of-file, isIn, Rearranged, SameTables, SameOutcome, textsOf}
 use Rattle.conversation.specs.Allowed.{rowsIn, slotsOf, bytesOf, Rising, Allowed}
-use Rattle.conversation.proofs.Laws.AllowedOne.{textsOf, accepted-iff, accepted-tables}
+use Rattle.conversation.proofs.Laws.AllowedOne.{accepted-iff, accepted-tables}
 use Rattle.conversation.proofs.Laws.OrderOne.{order-one}
 
 -- "-> add-recipient a", and the same with b

@@ -16,12 +16,12 @@ use Rattle.session.specs.Session.{Session, openedSession}
 use Rattle.conversation.specs.Kinds.{Buffers, second, viewOf, ofFile}
 use Rattle.conversation.specs.PhaseTwo as two
 use Rattle.conversation.specs.Calls.{receive, outcome, written, State, stateOf, after, Accepted}
-use Rattle.conversation.specs.Phases.{Part, All, keep, lineIn, bodyIn, wordOf, isNamed, commandOf, rowsFrom, isOf, one-part, Block, Phase, blocksOf, Quiet, IsPhase, Supply, skip, replyCalls, callsOf, writtenIn, responsesTo, Starts, SameLengths, SameStart, isKept, of-kind, isIn, Rearranged, SameOutcome}
+use Rattle.conversation.specs.Phases.{Part, All, keep, lineIn, bodyIn, wordOf, isNamed, commandOf, rowsFrom, isOf, one-part, Block, Phase, blocksOf, Quiet, IsPhase, Supply, skip, replyCalls, callsOf, writtenIn, responsesTo, Starts, SameLengths, SameStart, isKept, of-kind, isIn, Rearranged, SameOutcome, textsOf}
 use Rattle.conversation.specs.Allowed.{isRight, rowsIn, slotsOf, bytesOf, Rising, Allowed}
 use Rattle.conversation.proofs.Laws.Lists.{all-append, all-permuted, all-kept, all-map, keep-map}
 use Rattle.conversation.proofs.Laws.Limits.{grown-rows}
 use Rattle.conversation.proofs.Laws.Steps.{grown, payload}
-use Rattle.conversation.proofs.Laws.AllowedOne.{textsOf, Holds, accepted-iff, accepted-tables}
+use Rattle.conversation.proofs.Laws.AllowedOne.{Holds, accepted-iff, accepted-tables}
 
 -- ---- the rows of texts
 

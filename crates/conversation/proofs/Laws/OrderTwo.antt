@@ -25,7 +25,7 @@ use Rattle.conversation.specs.Kinds.{Buffers, ofFile}
 use Rattle.conversation.specs.PhaseTwo.{KindTwo, errors, stanzas, returned, tableOf, bufferOf, viewOf, labels, howMany, isFile, isAbout, rowsOf}
 use Rattle.conversation.specs.Phases.{All, keep, commandIn, payloadIn, isNamedTwo, isError, isStanzaFor, two-part, Block, Phase, blocksOf, IsPhase, Supply, callsOf, writtenIn, responsesTo, LongEnough, SameStart, isKept, of-errors, of-file, Rearranged, SameTables, SameOutcome}
 use Rattle.session.specs.Session.{Session, moved}
-use Rattle.conversation.specs.Allowed.{Left, isRightTwo, Present, isKeyFor, Said, Sum, keys-for, stanzas-for, errors-for, entries, bytes, weight, total, slotsTwo, Limits, saidBy, Answered, RightBlock, AllowedTwo}
+use Rattle.conversation.specs.Allowed.{Left, isRightTwo, Present, isKeyFor, Said, Sum, keys-for, stanzas-for, errors-for, entries, bytes, weight, total, slotsTwo, Limits, saidBy, Answered, RightBlock, AllowedTwo, leftOf, capacityOf}
 use Rattle.conversation.proofs.Laws.AllowedTwo.{limits-same, Standing, Fitting, accepted-from}
 use Rattle.conversation.proofs.Laws.DecidedTwo.{labels-view}
 use Rattle.conversation.proofs.Laws.LeftTwo.{rowsBy, rowsIn, Grown, left-from}
@@ -38,14 +38,6 @@ use Rattle.conversation.proofs.Laws.SumsTwo.{sumsIn, Kept-limits, or-fa
 use Rattle.conversation.proofs.Laws.Tables.{of-file-append}
 
 -- ---- a session that has just sent done
-
--- what phase one left, as its tables show it
-abbrev pub leftOf : State → Left
-leftOf x k = one-kind.viewOf k (x .session .tables) (x .buffers .first)
-
--- the lengths of phase two's buffers
-abbrev pub capacityOf : Buffers → KindTwo → ℕ
-capacityOf b k = length (bufferOf k (b .second))
 
 -- each table of phase two is as opened
 second-opened : (t : Tables) → LaterOpened t → (k : KindTwo) → tableOf k t ≡ opened (slotsTwo k)

@@ -36,7 +36,7 @@ use Rattle.conversation.specs.TurnsTwo.{answered}
 use Rattle.conversation.specs.ReceivingTwo.{phaseReceived}
 use Rattle.conversation.specs.SendingTwo.{phaseSent}
 use Rattle.conversation.specs.Calls.{Call, receive, send, receive-two, reply, send-two, respond, Outcome, outcome, sessionAfter, after, lineRead, bodyRead}
-use Rattle.conversation.specs.Phases.{CallWith, afterEach, JustDone}
+use Rattle.conversation.specs.Phases.{CallWith, afterEach, JustDone, JustReceived}
 use Rattle.conversation.proofs.Laws.Accepted.{Applied, AppliedTwo, commandAt, payloadAt, AcceptedBy, accepted}
 use Rattle.conversation.proofs.Laws.Refusals.{refusal}
 use Rattle.conversation.proofs.Laws.ViewsTwo.{ReachedTwo, opened-reached-two, applied-reached-two, payload-stored-two, one-leaves, two-leaves, KeptAs}
@@ -311,3 +311,14 @@ pub just-done : (s : Session) → JustDone s → JustReached s
 just-done s j =
     just-from (afterEach (opened (j .machine) (j .name) (j .screen) .session) (j .before)) s (j .buffers) (j .word) (j .arguments) (j .body) (j .out)
     (each-reached (opened (j .machine) (j .name) (j .screen) .session) (j .before) (opening-reached (j .machine) (j .name) (j .screen))) (j .is-done) (j .accepted) (j .reached)
+
+pub just-received-done : (s : Session) → JustReceived s → JustReached s
+just-received-done s j =
+    let s₀ = afterEach (opened (j .machine) (j .name) false .session) (j .before) in
+    let o = outcome s₀ (j .buffers) (receive (j .text)) in
+    let line = lineRead (readFirst (j .text)) (j .text) in
+    let body = bodyRead (readFirst (j .text)) (j .text) in
+    let a = accepted s₀ (j .buffers) (receive (j .text)) (j .accepted) .applied in
+    subst JustReached (sym (j .reached))
+    (just-received s₀ (j .buffers) (j .text) (each-reached (opened (j .machine) (j .name) false .session) (j .before) (opening-reached (j .machine) (j .name) false)) (j .accepted)
+    (ap (λ x. commandIn (x .machine) (x .name) line body) (sym (a .session)) ∙ ap (λ x. commandIn (x .machine) (x .name) line body) (sym (j .reached)) ∙ j .is-done))

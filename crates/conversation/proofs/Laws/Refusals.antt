@@ -31,15 +31,7 @@ use Rattle.conversation.specs.ReceivingTwo as receiving-two
 use Rattle.conversation.specs.Replying as replying
 use Rattle.conversation.specs.SendingTwo as sending-two
 use Rattle.conversation.specs.Responding as responding
-use Rattle.conversation.specs.Calls.{Call, receive, send, receive-two, reply, send-two, respond, takingNumber, sentNumber, sentSize, takingTwoNumber, takingTwoSize, respondedNumber, respondedSize, outcome, outputIn, sessionAfter}
-
--- a refused call's session, tables, buffers and output buffer; nothing is written
-pub record Refused (s : Session) (b : Buffers) (c : Call) : Type 0 where
-  pub session : outcome s b c .session ≡ sessionAfter c (outcome s b c .number) s
-  pub tables : outcome s b c .session .tables ≡ s .tables
-  pub buffers : outcome s b c .buffers ≡ b
-  pub output : outcome s b c .output ≡ outputIn c
-  pub size : outcome s b c .size ≡ 0
+use Rattle.conversation.specs.Calls.{Call, receive, send, receive-two, reply, send-two, respond, takingNumber, sentNumber, sentSize, takingTwoNumber, takingTwoSize, respondedNumber, respondedSize, outcome, Refused}
 
 -- either branch of a conditional
 pub either : {X : Type 0} (P : X → Type 0) (f : Bool) (x y : X) → P x → P y → P (pick f x y)

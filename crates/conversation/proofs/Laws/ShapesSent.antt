@@ -20,7 +20,7 @@ use Rattle.conversation.specs.Kinds.{Buffers}
 use Rattle.conversation.specs.PhaseTwo as two
 use Rattle.conversation.specs.Phases.{All, Supply, skip, LongEnough}
 use Rattle.conversation.specs.SendingTwo.{phaseSent}
-use Rattle.conversation.specs.Allowed.{Left, isRightTwo, Present, Said, Exchange, lineOf, commandSent, saidIn, AllowedSent, isDoneSent, responseCalls, exchangeCalls, sendingCalls}
+use Rattle.conversation.specs.Allowed.{Left, isRightTwo, Present, Said, Exchange, lineOf, commandSent, saidIn, AllowedSent, isDoneSent, responseCalls, exchangeCalls, sendingCalls, leftOf, capacityOf}
 use Rattle.conversation.specs.Shapes.{AcceptedTo, FrontSent, ShapedSent, AwaitingExchange, SentSoFar, none-more, one-more, last-awaits, AllowedSentSoFar}
 use Rattle.conversation.proofs.Laws.Accepted.{accepted}
 use Rattle.conversation.proofs.Laws.AllowedSent.{unheld-iff, Judged, tablesSent, buffersSent, sent-to, sent-from, awaits, standing-behind, exchange-iff, exchange-to, exchange-from, accepted-sent-iff}
@@ -28,7 +28,7 @@ use Rattle.conversation.proofs.Laws.AllowedTwo.{Standing, decided-exact
 use Rattle.conversation.proofs.Laws.CommandsTwo.{Proper, command-proper}
 use Rattle.conversation.proofs.Laws.DecidedTwo.{decided-iff}
 use Rattle.conversation.proofs.Laws.Lists.{all-append}
-use Rattle.conversation.proofs.Laws.OrderTwo.{leftOf, capacityOf, begins, two-session, fitting-all}
+use Rattle.conversation.proofs.Laws.OrderTwo.{begins, two-session, fitting-all}
 use Rattle.conversation.proofs.Laws.Reached.{JustReached}
 use Rattle.conversation.proofs.Laws.Runs.{accepted-append, after-append, enough-append}
 use Rattle.conversation.proofs.Laws.Shapes.{ended-none, append-none, lentFirst, lent-one, lent-more, skip-none}

@@ -25,14 +25,14 @@ use Rattle.conversation.specs.Kinds.{Buffers}
 use Rattle.conversation.specs.PhaseTwo as two
 use Rattle.conversation.specs.Phases.{All, Whole, lineIn, bodyIn, isDone, commandIn, payloadIn, Reply, Block, Phase, blocksOf, IsPhase, Quiet, two-part, Supply, skip, behind, replyCalls, blockCalls, callsOf, LongEnough}
 use Rattle.conversation.specs.ReceivingTwo.{phaseReceived}
-use Rattle.conversation.specs.Allowed.{Left, isRightTwo, Present, Said, Answered, total, Limits, saidBy, RightBlock, AllowedTwo}
+use Rattle.conversation.specs.Allowed.{Left, isRightTwo, Present, Said, Answered, total, Limits, saidBy, RightBlock, AllowedTwo, leftOf, capacityOf}
 use Rattle.conversation.specs.Shapes.{AcceptedTo, BeginsWhole, FrontTwo, ShapedTwo, WaitingBlock, RightSoFar, none-more, one-more, last-waits, AllowedTwoSoFar}
 use Rattle.conversation.proofs.Laws.Accepted.{accepted}
 use Rattle.conversation.proofs.Laws.AllowedTwo.{Standing, decided-exact, Fitting, fitting-none, fitting-front, fitting-one, fitting-rest, done-word, block-iff, standing-behind, behind-block}
 use Rattle.conversation.proofs.Laws.CommandsTwo.{Proper, command-proper}
 use Rattle.conversation.proofs.Laws.DecidedTwo.{decided-iff}
 use Rattle.conversation.proofs.Laws.Lists.{all-append, all-map, all-weaker}
-use Rattle.conversation.proofs.Laws.OrderTwo.{leftOf, capacityOf, begins, two-session, fitting-all, accepted-two-iff}
+use Rattle.conversation.proofs.Laws.OrderTwo.{begins, two-session, fitting-all, accepted-two-iff}
 use Rattle.conversation.proofs.Laws.Reached.{JustReached}
 use Rattle.conversation.proofs.Laws.Runs.{accepted-append, after-append, enough-append}
 use Rattle.conversation.proofs.Laws.Shapes.{begins-whole, firstOfText, first-whole, first-line, first-body, alone-call, same-numbers, same-after, same-enough, ended-none, append-none, lentFirst, lent-one, lent-more, skip-none}
