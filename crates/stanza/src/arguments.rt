@@ -1,9 +1,9 @@
 // The arguments' text of a stanza: whether it is one, how many words it has, which the k-th is, and whether two words are the same.
 // A word is what stands between two spaces, so every text has words; only a text of arguments has words that are all arguments.
 ghost use mathlib.Core.Path.{_≡_};
-ghost use Prim.Native.Nat.{_+_};
-ghost use lib.ListN.{drop};
-ghost use Rattle.refusal.specs.Run.{run};
+ghost use Prim.Native.Nat.{_+_, _≤_};
+ghost use lib.ListN.{length, drop, take};
+ghost use Rattle.refusal.specs.Run.{all, run};
 ghost use Rattle.refusal.specs.Same.{same};
 ghost use Rattle.stanza.specs.Arguments.{isGraphic, isWordByte, isLine, countOf, argumentOf};
 
@@ -14,12 +14,36 @@ fn is_graphic(b: u8) -> bool
     (33 <= b) & (b <= 126)
 }
 
+// Whether the 8 bytes from `at` on are all from 33 to 126. No early exit, so that the loop is vectorised.
+fn eight_graphic(text: &[u8], at: usize) -> bool
+    requires { ⌜ at + 8 ≤ length (now text) ⌝ }
+    ensures { λ r. ⌜ r ≡ all isGraphic (take 8 (drop at (now (text .entry)))) ⌝ }
+{
+    let mut good = true;
+    let mut j: usize = 0;
+    while j < 8 {
+        good = good & is_graphic(text[at + j]);
+        j += 1;
+    }
+    good
+}
+
 // The end of the run of bytes from 33 to 126 that begins at `from`; `from` itself where that is no place of the text.
 pub(crate) fn graphic_end(text: &[u8], from: usize) -> usize
     ensures { λ r. ⌜ r ≡ from + run isGraphic (drop from (now (text .entry))) ⌝ }
 {
+    let n = text.len();
     let mut i = from;
-    while i < text.len() {
+    while i < n {
+        if n - i < 8 {
+            break;
+        }
+        if !eight_graphic(text, i) {
+            break;
+        }
+        i += 8;
+    }
+    while i < n {
         if !is_graphic(text[i]) {
             return i;
         }
