@@ -52,13 +52,44 @@ pub(crate) fn graphic_end(text: &[u8], from: usize) -> usize
     i
 }
 
+// A byte that is no space.
+fn is_word_byte(b: u8) -> bool
+    ensures { λ r. ⌜ r ≡ isWordByte b ⌝ }
+{
+    b != 32
+}
+
+// Whether none of the 8 bytes from `at` on is a space. No early exit, so that the loop is vectorised.
+fn eight_of_word(text: &[u8], at: usize) -> bool
+    requires { ⌜ at + 8 ≤ length (now text) ⌝ }
+    ensures { λ r. ⌜ r ≡ all isWordByte (take 8 (drop at (now (text .entry)))) ⌝ }
+{
+    let mut good = true;
+    let mut j: usize = 0;
+    while j < 8 {
+        good = good & is_word_byte(text[at + j]);
+        j += 1;
+    }
+    good
+}
+
 // The end of the word that begins at `from`: the next space or the text's end; `from` itself where that is no place of the text.
 fn word_end(text: &[u8], from: usize) -> usize
     ensures { λ r. ⌜ r ≡ from + run isWordByte (drop from (now (text .entry))) ⌝ }
 {
+    let n = text.len();
     let mut i = from;
-    while i < text.len() {
-        if text[i] == 32 {
+    while i < n {
+        if n - i < 8 {
+            break;
+        }
+        if !eight_of_word(text, i) {
+            break;
+        }
+        i += 8;
+    }
+    while i < n {
+        if !is_word_byte(text[i]) {
             return i;
         }
         i += 1;
