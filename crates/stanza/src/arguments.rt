@@ -122,15 +122,15 @@ pub fn count(line: &[u8]) -> usize
     ensures { λ r. ⌜ r ≡ countOf (now (line .entry)) ⌝ }
 {
     let mut n: usize = 1;
-    let mut i: usize = 0;
-    while i < line.len() {
-        let b = line[i];
-        i += 1;
-        if b == 32 {
-            n += 1;
+    let mut at: usize = 0;
+    loop {
+        let end = word_end(line, at);
+        if line.len() <= end {
+            return n;
         }
+        n += 1;
+        at = end + 1;
     }
-    n
 }
 
 // The k-th word of a text, counted from 0: a part of the text, the empty part where there is none.
