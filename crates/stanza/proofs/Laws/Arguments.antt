@@ -4,14 +4,13 @@ use mathlib.Core.Path.{_≡_, refl, sym, ap, _∙_}
 use mathlib.Core.Bool.{Bool, true, false, _&&_}
 use mathlib.Core.List.{List, [], _∷_, _++_}
 use lib.Dec.{eqb, ltb, eqb·zero-suc, eqb·suc-zero, eqb·suc-suc, leb·suc-suc}
-use lib.ListN.{length, take, drop, getD, length-drop, drop-of-length-le}
+use lib.ListN.{length, take, drop, getD, length-drop}
 use lib.Seq.{drop-drop, getD-drop}
 use native.Mathlib.Omega.{arith}
 use borrow.Author.Tests.{lt-ltb, le-ltb, eq-eqb, ne-eqb, leb-true, eqb-true, not-true}
 use Rattle.refusal.specs.Pick.{pick}
 use Rattle.refusal.specs.Run.{all, run}
 use Rattle.refusal.proofs.Laws.Booleans.{cases, and-true, and-assoc}
-use Rattle.refusal.proofs.Laws.Lists.{drop-one}
 use Rattle.stanza.specs.Arguments.{isGraphic, isWordByte, before, words, isArgument, areArguments, isLine, countOf, argumentOf}
 
 -- ---- runs
