@@ -6,6 +6,7 @@ ghost use lib.ListN.{length, drop, take};
 ghost use Rattle.refusal.specs.Run.{all, run};
 ghost use Rattle.refusal.specs.Same.{same};
 ghost use Rattle.stanza.specs.Arguments.{isGraphic, isWordByte, isLine, countOf, argumentOf};
+use crate::parts::least;
 
 // A byte from 33 to 126.
 fn is_graphic(b: u8) -> bool
@@ -33,11 +34,9 @@ pub(crate) fn graphic_end(text: &[u8], from: usize) -> usize
     ensures { λ r. ⌜ r ≡ from + run isGraphic (drop from (now (text .entry))) ⌝ }
 {
     let n = text.len();
+    let stop = n - least(n, 7);
     let mut i = from;
-    while i < n {
-        if n - i < 8 {
-            break;
-        }
+    while i < stop {
         if !eight_graphic(text, i) {
             break;
         }
@@ -78,11 +77,9 @@ fn word_end(text: &[u8], from: usize) -> usize
     ensures { λ r. ⌜ r ≡ from + run isWordByte (drop from (now (text .entry))) ⌝ }
 {
     let n = text.len();
+    let stop = n - least(n, 7);
     let mut i = from;
-    while i < n {
-        if n - i < 8 {
-            break;
-        }
+    while i < stop {
         if !eight_of_word(text, i) {
             break;
         }
