@@ -1,12 +1,14 @@
 // Reading recipients and identities. The verdict comes first, then the bytes, so that nothing is written where the text is refused.
 ghost use mathlib.Core.Path.{_≡_};
+ghost use Prim.Native.Nat.{_+_, _≤_};
 ghost use mathlib.Core.Bool.{_||_};
 ghost use mathlib.Core.List.{[], map};
-ghost use lib.ListN.{length};
+ghost use lib.ListN.{length, drop, take};
+ghost use Rattle.refusal.specs.Run.{all};
 ghost use Rattle.refusal.specs.Output.{said};
 ghost use Rattle.symbols.specs.Charset.{lower};
 ghost use Rattle.symbols.specs.Steps.{Values};
-ghost use Rattle.bech32.specs.Text.{noLower, noUpper, isCased, separator, isChecked, parse};
+ghost use Rattle.bech32.specs.Text.{noLower, noUpper, isCased, isNotOne, separator, isChecked, parse};
 ghost use Rattle.bech32.specs.Calls.{formOf, isSound, padded, readAnswer, readBuffer, readName, markOf};
 ghost use Rattle.bech32.specs.Steps.{nameOf};
 use crate::TextKind;
@@ -77,11 +79,31 @@ fn is_one_case(text: &[u8]) -> bool
     no_upper(text)
 }
 
+// Whether none of the 8 bytes from `at` on is a "1". No early exit, so that the loop is vectorised.
+fn eight_without_one(text: &[u8], at: usize) -> bool
+    requires { ⌜ at + 8 ≤ length (now text) ⌝ }
+    ensures { λ r. ⌜ r ≡ all isNotOne (take 8 (drop at (now (text .entry)))) ⌝ }
+{
+    let mut good = true;
+    let mut j: usize = 0;
+    while j < 8 {
+        good = good & (text[at + j] != 49);
+        j += 1;
+    }
+    good
+}
+
 // Where the last "1" stands, looked for from the right; the length where there is none.
 fn find_separator(text: &[u8]) -> usize
     ensures { λ r. ⌜ r ≡ separator (now (text .entry)) ⌝ }
 {
     let mut i = text.len();
+    while 8 <= i {
+        if !eight_without_one(text, i - 8) {
+            break;
+        }
+        i -= 8;
+    }
     while 0 < i {
         i -= 1;
         if text[i] == 49 {

@@ -45,7 +45,7 @@ fn lines<'a>(text: &'a [u8], line: usize, taken: usize) -> &'a [u8]
     &text[end..end]
 }
 
-fn least(a: usize, b: usize) -> usize
+pub(crate) fn least(a: usize, b: usize) -> usize
     ensures { λ r. ⌜ r ≡ min a b ⌝ }
 {
     if a < b { a } else { b }
