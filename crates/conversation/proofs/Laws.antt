@@ -23,6 +23,8 @@ pub mod ReceivingTwo
 pub mod Refusals
 pub mod Replying
 pub mod Responding
+pub mod RowsOne
+pub mod RowsTwo
 pub mod Runs
 pub mod Sending
 pub mod SendingTwo

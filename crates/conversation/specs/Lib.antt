@@ -13,3 +13,4 @@ pub mod Calls
 pub mod Answers
 pub mod Phases
 pub mod Allowed
+pub mod Numbers
