@@ -10,6 +10,7 @@ pub mod DecidedTwo
 pub mod Examples
 pub mod ExamplesTwo
 pub mod Firsts
+pub mod Given
 pub mod LeftTwo
 pub mod Limits
 pub mod Lists
