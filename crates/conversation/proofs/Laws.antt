@@ -29,6 +29,7 @@ pub mod RowsTwo
 pub mod Runs
 pub mod Sending
 pub mod SendingTwo
+pub mod SentOne
 pub mod Steps
 pub mod StepsTwo
 pub mod SumsTwo

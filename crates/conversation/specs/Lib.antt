@@ -14,3 +14,4 @@ pub mod Answers
 pub mod Phases
 pub mod Allowed
 pub mod Numbers
+pub mod SentOne

@@ -192,7 +192,7 @@ module _ (machine : Machine) (name : List ℕ) (screen : Bool) (b : kinds.Buffer
     none-yet : (k : KindOne) → viewOf k openedTables (b .first) ++ rowsIn machine name k texts ≡ rowsIn machine name k texts
     none-yet k = opened-none (b .first) k (rowsIn machine name k texts)
 
-    texts-iff : Accepted start b (map receive texts) ↔ Allowed machine name (b .first) texts
+    pub texts-iff : Accepted start b (map receive texts) ↔ Allowed machine name (b .first) texts
     texts-iff =
         let i = from-iff machine name screen (b .second) xs y openedTables (b .first) (opened-going (b .first)) w d in (
           λ a. let f : (k : KindOne) → Within k (length (bufferOf k (b .first))) (rowsIn machine name k texts) = λ k. within-same refl (none-yet k) (i .0 a .1 k) in

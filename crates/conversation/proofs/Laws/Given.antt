@@ -93,11 +93,11 @@ module _ (s : Session) (b : Buffers) where
 
   -- ---- phase two, commands
 
-  module _ (text out : List ℕ) where
-    -- what the client writes at once
-    abbrev pub atOnceText : List ℕ → List ℕ → List ℕ
-    atOnceText line body = textOf (atOnce (s .screen) (commandTwo (s .machine) line body))
+  -- what the client writes at once
+  abbrev pub atOnceText : List ℕ → List ℕ → List ℕ
+  atOnceText line body = textOf (atOnce (s .screen) (commandTwo (s .machine) line body))
 
+  module _ (text out : List ℕ) where
     read-two : (q : Reading) → takingTwoNumber (receiving-two.receivedAs q s text (b .second) out .answer) ≡
         asRead q (firstOf (decidedTwo false (lineRead q text) (bodyRead q text)) (shortness (atOnceText (lineRead q text) (bodyRead q text)) out))
     unfolding receiving-two.receivedStanza
