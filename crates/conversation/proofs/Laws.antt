@@ -6,6 +6,7 @@ pub mod AllowedSent
 pub mod AllowedTwo
 pub mod Answers
 pub mod CommandsTwo
+pub mod ConditionsTwo
 pub mod DecidedTwo
 pub mod Examples
 pub mod ExamplesTwo

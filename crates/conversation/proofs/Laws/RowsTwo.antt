@@ -277,6 +277,13 @@ said-as (reports (recipient i)) a = ap (errorAt command.recipient) (read-decimal
 said-as (reports (header f i)) a = ap₂ headerAt (read-decimal f (a .0)) (read-decimal i (a .1 .0))
 said-as ends-two a = refl
 
+-- what an error names
+abbrev pub namingOf : command.Named → Naming ℕ
+namingOf command.internal = internal
+namingOf (command.identity i) = identity i
+namingOf (command.recipient i) = recipient i
+namingOf (command.header f i) = header f i
+
 module _ (machine : Machine) (line body : List ℕ) where
   abbrev Says : SayingTwo ℕ → Type 0
   Says x = SaysTwo machine line body x
@@ -286,10 +293,7 @@ module _ (machine : Machine) (line body : List ℕ) where
   SaidTwo (ask w) = (q : Question) × Says (asks q)
   SaidTwo (stanza f) = Says (returns-stanza f)
   SaidTwo (key f) = Says (returns-key f)
-  SaidTwo (error command.internal) = Says (reports internal)
-  SaidTwo (error (command.identity i)) = Says (reports (identity i))
-  SaidTwo (error (command.recipient i)) = Says (reports (recipient i))
-  SaidTwo (error (command.header f i)) = Says (reports (header f i))
+  SaidTwo (error n) = Says (reports (namingOf n))
   SaidTwo done = Says ends-two
   SaidTwo other = KnownTwo machine line → ⊥
   SaidTwo (bad n) = ((n ≡ 4) × Wrong (KnownTwo machine line) (RowTwo machine (words line) body)) ⊎ ((n ≡ 5) × Misindexed (RowTwo machine (words line) body) indicesTwo)
