@@ -6,6 +6,7 @@ pub mod AllowedSent
 pub mod AllowedTwo
 pub mod Answers
 pub mod CommandsTwo
+pub mod ConditionsOne
 pub mod ConditionsTwo
 pub mod DecidedTwo
 pub mod Examples
@@ -15,6 +16,7 @@ pub mod Given
 pub mod LeftTwo
 pub mod Limits
 pub mod Lists
+pub mod Numbers
 pub mod Order
 pub mod OrderOne
 pub mod OrderTwo

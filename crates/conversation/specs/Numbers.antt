@@ -485,7 +485,8 @@ orderOf (reply r body out) = 13 ∷ 14 ∷ 12 ∷ 17 ∷ 15 ∷ []
 orderOf (send-two word arguments body out) = 13 ∷ 14 ∷ 17 ∷ 4 ∷ 5 ∷ 6 ∷ 7 ∷ 9 ∷ 10 ∷ 11 ∷ 19 ∷ 8 ∷ 15 ∷ []
 orderOf (respond text out) = 13 ∷ 14 ∷ 1 ∷ 2 ∷ 3 ∷ 12 ∷ 15 ∷ []
 
--- n is the first number in an order whose condition holds; "No refusal is 0"
-unfoldable pub FirstOf : (ℕ → Type 0) → List ℕ → ℕ → Type 0
-FirstOf P [] n = n ≡ 0
-FirstOf P (k ∷ ks) n = (P k × (n ≡ k)) ⊎ ((P k → ⊥) × FirstOf P ks n)
+-- n is the first number of an order whose condition holds, and no earlier one's does; "No refusal is 0"
+pub data FirstOf (P : ℕ → Type 0) : List ℕ → ℕ → Type 0 where
+  no-number : FirstOf P [] 0
+  this-number : {n : ℕ} {order : List ℕ} → P n → FirstOf P (n ∷ order) n
+  later-number : {k n : ℕ} {order : List ℕ} → (P k → ⊥) → FirstOf P order n → FirstOf P (k ∷ order) n

@@ -105,7 +105,7 @@ module _ (s : Session) (b : Buffers) (r : ReachedSession s) where
   abbrev rows : AnyKind → List Row
   rows k = viewOf k t b
 
-  kept-any : (k : AnyKind) → Kept (tableOf k t)
+  pub kept-any : (k : AnyKind) → Kept (tableOf k t)
   unfolding Reached
   kept-any (first k) = r .tables k .kept-so
   kept-any (second k) = kept-two t (r .later-tables) k
@@ -161,7 +161,7 @@ module _ (s : Session) (b : Buffers) (r : ReachedSession s) where
   )
 
   -- a command does not fit exactly if its kind is full
-  full-iff : (k : AnyKind) (p : List ℕ) → (not (fits (tableOf k t) (length p) (length (bufferFor k b))) ≡ true) ↔ Full t b k p
+  pub full-iff : (k : AnyKind) (p : List ℕ) → (not (fits (tableOf k t) (length p) (length (bufferFor k b))) ≡ true) ↔ Full t b k p
   full-iff k p =
       let count = tableOf k t .count in
       let width = tableOf k t .width in
