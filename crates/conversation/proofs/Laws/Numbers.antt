@@ -16,7 +16,7 @@ use Rattle.refusal.specs.declared.Refusal.{Refusal}
 use Rattle.refusal.specs.declared.Refusal.the-variants.{NotStanza, Unfinished, TooLong, BadCommand, BadIndex, NoSuchIndex, FallingIndex, NoSpace, SecondKey, TooManyStanzas, WorkAndError, UnfitResponse, SessionOver, OutOfTurn, ShortOutput, NotBech32, Unwritable, NoSuchMachine, HeldBack}
 use Rattle.refusal.proofs.Laws.Booleans.{and-true, true-and, cases}
 use Rattle.refusal.proofs.Laws.Number.{number-not-zero}
-use Rattle.stanza.specs.Arguments.{isLine}
+use Rattle.stanza.specs.Arguments.{words, isLine}
 use Rattle.stanza.specs.Automaton.{Scan, bad, short, whole, scan, start}
 use Rattle.stanza.specs.Grammar.{stanzaText}
 use Rattle.stanza.specs.Reading.{Reading, stanza, refused, found, readFirst}
@@ -25,20 +25,33 @@ use Rattle.responses.specs.Responses.{ResponseRead, response, nothing, response
 use Rattle.responses.specs.declared.Response.{Response}
 use Rattle.responses.specs.declared.Response.the-variants.{Ok, Yes, No, Fail, Unsupported}
 use Rattle.responses.proofs.Laws.Responses.{line-read, read-line}
-use Rattle.session.specs.Session.{Session}
+use Rattle.session.specs.Session.{Session, opened}
 use Rattle.session.specs.declared.phases.Phase.{Phase}
 use Rattle.session.specs.declared.phases.Phase.the-variants.{One, Two, Awaiting, Ended, Closed}
 use Rattle.session.specs.declared.words.WordTwo.{WordTwo}
 use Rattle.session.specs.declared.words.WordTwo.the-variants.{Msg, Confirm, RequestPublic, RequestSecret, RecipientStanza, FileKey, Error, Other, Done}
+use Rattle.session.specs.declared.opening.Machine.{Machine}
+use Rattle.phase_one.specs.Commands as one-command
+use Rattle.phase_one.specs.Commands.{CommandOne}
+use Rattle.phase_one.specs.PhaseOne.{commandIn, payloadIn}
 use Rattle.phase_one.specs.Turns.{turnOne}
 use Rattle.conversation.specs.Kinds.{Buffers}
 use Rattle.conversation.specs.Calls.{Call, receive, send, receive-two, reply, send-two, respond, outcome, Brought, in-one, in-two, broughtBy}
-use Rattle.conversation.specs.PhaseTwo.{when}
-use Rattle.conversation.specs.TurnsTwo.{turnTwo}
-use Rattle.conversation.specs.Numbers.{Fitting, msg-answered, confirm-answered, public-given, public-failed, secret-given, secret-failed, stanza-answered, key-answered, error-answered, other-answered, Over, InTurn, ReadsAs, Unwritten, Holds, Condition, orderOf, FirstOf, no-number, this-number, later-number}
-use Rattle.conversation.proofs.Laws.ConditionsTwo.{refuted}
-use Rattle.conversation.proofs.Laws.Given.{asRead}
-use Rattle.conversation.proofs.Laws.RowsTwo.{no-bytes}
+use Rattle.conversation.specs.CommandsTwo as command
+use Rattle.conversation.specs.CommandsTwo.{CommandTwo, ask, key, error, done, other, commandTwo, payloadOf, lineSent}
+use Rattle.conversation.specs.PhaseTwo.{isMissing, isSecondKey, isTooMany, isClashing, isSpaceless, isHeldBack, when, faultOf, ruled, decided}
+use Rattle.conversation.specs.Phases.{lineIn, bodyIn, CallWith, afterEach}
+use Rattle.conversation.specs.ReceivingTwo.{AtOnce, writes, silent, atOnce, textOf}
+use Rattle.conversation.specs.Replying.{numberReplied}
+use Rattle.conversation.specs.Sending.{shortness}
+use Rattle.conversation.specs.TurnsTwo.{turnTwo, dueIn}
+use Rattle.conversation.specs.Numbers.{Question, message, confirmation, public-value, secret-value, Naming, internal, identity, recipient, header, SayingTwo, asks, returns-stanza, returns-key, reports, SaysTwo, WrittenAtOnce, for-stanza, for-key, for-error, for-other, for-question, RowOne, RowTwo, KnownOne, KnownTwo, indicesOne, indicesTwo, Wrong, Misindexed, WrongIn, MisindexedIn, MissingIn, FallingIn, SpacelessIn, SecondIn, TooManyIn, TogetherIn, HeldIn, Fitting, msg-answered, confirm-answered, public-given, public-failed, secret-given, secret-failed, stanza-answered, key-answered, error-answered, other-answered, Over, InTurn, ReadsAs, Unwritten, Holds, Condition, orderOf, FirstOf, no-number, this-number, later-number}
+use Rattle.conversation.proofs.Laws.ConditionsOne.{faultOne, isFalling, isSpacelessOne, decided-tests, falling-to, falling-from, spaceless-one-to, spaceless-one-from}
+use Rattle.conversation.proofs.Laws.ConditionsTwo.{refuted, missing-to, missing-from, second-to, second-from, too-many-to, too-many-from, together-to, together-from, spaceless-to, spaceless-from, held-to, held-from}
+use Rattle.conversation.proofs.Laws.Given.{asRead, decidedOne, decidedTwo, atOnceText, byDue, unfitness, given-receive, given-send, given-receive-two, given-send-two, given-reply, given-respond}
+use Rattle.conversation.proofs.Laws.Reached.{ReachedSession, opening-reached, each-reached}
+use Rattle.conversation.proofs.Laws.RowsOne.{SaidOne, said-one, misindexed-one, wrong-one}
+use Rattle.conversation.proofs.Laws.RowsTwo.{no-bytes, commandSaid as commandOf, namingOf, SaidTwo, said-two, says-command, misindexed-command, wrong-command, unknown-command}
 
 -- ---- a number and its fault
 
@@ -181,6 +194,90 @@ read-first text late = go (readFirst text) refl
     go (stanza e n k) q = refl
     go (refused n) q = sym (ap (λ f. pick f late n) (ne-eqb n 0 (positive n (reading-number text n q))))
 
+-- ---- 4 and 5
+
+-- the fault's number
+abbrev isBad : ℕ → CommandTwo → Bool
+isBad k (ask w) = false
+isBad k (command.stanza f) = false
+isBad k (key f) = false
+isBad k (error n) = false
+isBad k done = false
+isBad k other = false
+isBad k (command.bad n) = eqb n k
+
+module _ (machine : Machine) (line body : List ℕ) where
+  abbrev Said : CommandTwo → Type 0
+  Said x = SaidTwo machine line body x
+
+  fault-is : (x : CommandTwo) → Said x → faultOf x ≡ firstOf (when (isBad 4 x) 4) (when (isBad 5 x) 5)
+  fault-is (ask w) h = refl
+  fault-is (command.stanza f) h = refl
+  fault-is (key f) h = refl
+  fault-is (error n) h = refl
+  fault-is done h = refl
+  fault-is other h = refl
+  fault-is (command.bad n) h = ⊎-elim (λ q. rw (q .0)) (λ q. rw (q .0)) h
+
+  wrong-from : (x : CommandTwo) → Said x → isBad 4 x ≡ true → Wrong (KnownTwo machine line) (RowTwo machine (words line) body)
+  wrong-from (ask w) h e = absurd (false≢true e)
+  wrong-from (command.stanza f) h e = absurd (false≢true e)
+  wrong-from (key f) h e = absurd (false≢true e)
+  wrong-from (error n) h e = absurd (false≢true e)
+  wrong-from done h e = absurd (false≢true e)
+  wrong-from other h e = absurd (false≢true e)
+  wrong-from (command.bad n) h e = ⊎-elim (λ q. q .1) (λ q. let z = q .0 in let y = eqb-true n 4 e in absurd (omega arith)) h
+
+  misindexed-from : (x : CommandTwo) → Said x → isBad 5 x ≡ true → Misindexed (RowTwo machine (words line) body) indicesTwo
+  misindexed-from (ask w) h e = absurd (false≢true e)
+  misindexed-from (command.stanza f) h e = absurd (false≢true e)
+  misindexed-from (key f) h e = absurd (false≢true e)
+  misindexed-from (error n) h e = absurd (false≢true e)
+  misindexed-from done h e = absurd (false≢true e)
+  misindexed-from other h e = absurd (false≢true e)
+  misindexed-from (command.bad n) h e = ⊎-elim (λ q. let z = q .0 in let y = eqb-true n 5 e in absurd (omega arith)) (λ q. q .1) h
+
+-- the same of phase one
+abbrev isBadOne : ℕ → CommandOne → Bool
+isBadOne k (one-command.recipient m) = false
+isBadOne k (one-command.identity m) = false
+isBadOne k one-command.key = false
+isBadOne k (one-command.header i m) = false
+isBadOne k one-command.done = false
+isBadOne k one-command.other = false
+isBadOne k (one-command.bad n) = eqb n k
+
+module _ (machine : Machine) (line body : List ℕ) where
+  abbrev SaidFirst : CommandOne → Type 0
+  SaidFirst x = SaidOne machine line body x
+
+  fault-one-is : (x : CommandOne) → SaidFirst x → faultOne x ≡ firstOf (when (isBadOne 4 x) 4) (when (isBadOne 5 x) 5)
+  fault-one-is (one-command.recipient m) h = refl
+  fault-one-is (one-command.identity m) h = refl
+  fault-one-is one-command.key h = refl
+  fault-one-is (one-command.header i m) h = refl
+  fault-one-is one-command.done h = refl
+  fault-one-is one-command.other h = refl
+  fault-one-is (one-command.bad n) h = ⊎-elim (λ q. rw (q .0)) (λ q. rw (q .0)) h
+
+  wrong-one-from : (x : CommandOne) → SaidFirst x → isBadOne 4 x ≡ true → Wrong (KnownOne machine line) (RowOne machine (words line) body)
+  wrong-one-from (one-command.recipient m) h e = absurd (false≢true e)
+  wrong-one-from (one-command.identity m) h e = absurd (false≢true e)
+  wrong-one-from one-command.key h e = absurd (false≢true e)
+  wrong-one-from (one-command.header i m) h e = absurd (false≢true e)
+  wrong-one-from one-command.done h e = absurd (false≢true e)
+  wrong-one-from one-command.other h e = absurd (false≢true e)
+  wrong-one-from (one-command.bad n) h e = ⊎-elim (λ q. q .1) (λ q. let z = q .0 in let y = eqb-true n 4 e in absurd (omega arith)) h
+
+  misindexed-one-from : (x : CommandOne) → SaidFirst x → isBadOne 5 x ≡ true → Misindexed (RowOne machine (words line) body) indicesOne
+  misindexed-one-from (one-command.recipient m) h e = absurd (false≢true e)
+  misindexed-one-from (one-command.identity m) h e = absurd (false≢true e)
+  misindexed-one-from one-command.key h e = absurd (false≢true e)
+  misindexed-one-from (one-command.header i m) h e = absurd (false≢true e)
+  misindexed-one-from one-command.done h e = absurd (false≢true e)
+  misindexed-one-from one-command.other h e = absurd (false≢true e)
+  misindexed-one-from (one-command.bad n) h e = ⊎-elim (λ q. let z = q .0 in let y = eqb-true n 5 e in absurd (omega arith)) (λ q. q .1) h
+
 -- ---- the first number of a list
 
 module _ (s : Session) (b : Buffers) (c : Call) where
@@ -269,3 +366,250 @@ module _ (s : Session) (b : Buffers) (c : Call) where
 
   output-part : (text out : List ℕ) → (H ShortOutput ↔ (length out < length text)) → FirstOf P (15 ∷ []) (when (overflows text out) 15)
   output-part text out i = test ShortOutput (overflows text out) 15 refl (λ e. i .1 (ltb-true (length out) (length text) e)) (λ h. lt-ltb (length out) (length text) (i .0 h))
+
+  -- ---- a command of phase two
+
+  module _ (reached : ReachedSession s) (line body : List ℕ) (brought : broughtBy c ≡ in-two line body) where
+    abbrev commandSaid : CommandTwo
+    commandSaid = commandTwo (s .machine) line body
+
+    abbrev saidSo : SaidTwo (s .machine) line body commandSaid
+    saidSo = said-two (s .machine) line body
+
+    -- a condition that is said of what the call brings
+    test-two : (r : Refusal) (F : Brought → Type 0) → (H r ↔ F (broughtBy c)) → (f : Bool) (n : ℕ) → numberOf r ≡ n → (f ≡ true → F (in-two line body)) → (F (in-two line body) → f ≡ true) → FirstOf P (numberOf r ∷ []) (when f n)
+    test-two r F i f n e to from = test r f n e (λ q. i .1 (subst F (sym brought) (to q))) (λ h. from (subst F brought (i .0 h)))
+
+    fault-two : FirstOf P (4 ∷ 5 ∷ []) (faultOf commandSaid)
+    fault-two =
+        subst (FirstOf P (4 ∷ 5 ∷ [])) (sym (fault-is (s .machine) line body commandSaid saidSo))
+        (both (4 ∷ []) (5 ∷ []) _ _
+        (test-two BadCommand (WrongIn s b) (λ h. h, λ h. h) (isBad 4 commandSaid) 4 refl (wrong-from (s .machine) line body commandSaid saidSo) (λ h. ap (isBad 4) (wrong-command (s .machine) line body h)))
+        (λ z. test-two BadIndex (MisindexedIn s b) (λ h. h, λ h. h) (isBad 5 commandSaid) 5 refl (misindexed-from (s .machine) line body commandSaid saidSo) (λ h. ap (isBad 5) (misindexed-command (s .machine) line body h))))
+
+    -- no header stanza of phase one
+    not-falling : H FallingIndex → ⊥
+    not-falling h = subst (FallingIn s b) brought h
+
+    rules-two : (own : Bool) (ks : List ℕ) → FirstOf P ks (when (own && isHeldBack (s .tables) commandSaid) 19) → FirstOf P (4 ∷ 5 ∷ 6 ∷ 7 ∷ 9 ∷ 10 ∷ 11 ∷ ks) (ruled own (s .tables) commandSaid)
+    rules-two own ks held =
+        both (4 ∷ 5 ∷ []) (6 ∷ 7 ∷ 9 ∷ 10 ∷ 11 ∷ ks) _ _ fault-two
+        (λ z. both (6 ∷ []) (7 ∷ 9 ∷ 10 ∷ 11 ∷ ks) _ _
+        (test-two NoSuchIndex (MissingIn s b) (λ h. h, λ h. h) (isMissing (s .tables) commandSaid) _ refl (missing-from s b reached line body commandSaid saidSo) (missing-to s b reached line body))
+        (λ z. there FallingIndex not-falling
+        (both (9 ∷ []) (10 ∷ 11 ∷ ks) _ _
+        (test-two SecondKey (SecondIn s b) (λ h. h, λ h. h) (isSecondKey (s .tables) commandSaid) _ refl (second-from s b reached line body commandSaid saidSo) (second-to s b reached line body))
+        (λ z. both (10 ∷ []) (11 ∷ ks) _ _
+        (test-two TooManyStanzas (TooManyIn s b) (λ h. h, λ h. h) (isTooMany (s .tables) commandSaid) _ refl (too-many-from s b reached line body commandSaid saidSo) (too-many-to s b reached line body))
+        (λ z. both (11 ∷ []) ks _ _
+        (test-two WorkAndError (TogetherIn s b) (λ h. h, λ h. h) (isClashing (s .tables) commandSaid) _ refl (together-from s b reached line body commandSaid saidSo) (together-to s b reached line body))
+        (λ z. held))))))
+
+    decided-two : (own : Bool) (ks : List ℕ) → FirstOf P ks (when (own && isHeldBack (s .tables) commandSaid) 19) →
+        FirstOf P (4 ∷ 5 ∷ 6 ∷ 7 ∷ 9 ∷ 10 ∷ 11 ∷ ks ++ (8 ∷ [])) (decidedTwo s b own line body)
+    unfolding decided
+    decided-two own ks held =
+        both (4 ∷ 5 ∷ 6 ∷ 7 ∷ 9 ∷ 10 ∷ 11 ∷ ks) (8 ∷ []) _ _ (rules-two own ks held)
+        (λ z. test-two NoSpace (SpacelessIn s b) (λ h. h, λ h. h) (isSpaceless (s .tables) (b .second) commandSaid (length (payloadOf commandSaid line body))) _ refl (spaceless-from s b reached line body commandSaid saidSo) (spaceless-to s b reached line body))
+
+  -- ---- a command of phase one
+
+  module _ (reached : ReachedSession s) (line body : List ℕ) (brought : broughtBy c ≡ in-one line body) where
+    abbrev oneSaid : CommandOne
+    oneSaid = commandIn (s .machine) (s .name) line body
+
+    abbrev oneSo : SaidOne (s .machine) line body oneSaid
+    oneSo = said-one (s .machine) line body (s .name)
+
+    test-one : (r : Refusal) (F : Brought → Type 0) → (H r ↔ F (broughtBy c)) → (f : Bool) (n : ℕ) → numberOf r ≡ n → (f ≡ true → F (in-one line body)) → (F (in-one line body) → f ≡ true) → FirstOf P (numberOf r ∷ []) (when f n)
+    test-one r F i f n e to from = test r f n e (λ q. i .1 (subst F (sym brought) (to q))) (λ h. from (subst F brought (i .0 h)))
+
+    fault-one : FirstOf P (4 ∷ 5 ∷ []) (faultOne oneSaid)
+    fault-one =
+        subst (FirstOf P (4 ∷ 5 ∷ [])) (sym (fault-one-is (s .machine) line body oneSaid oneSo))
+        (both (4 ∷ []) (5 ∷ []) _ _
+        (test-one BadCommand (WrongIn s b) (λ h. h, λ h. h) (isBadOne 4 oneSaid) 4 refl (wrong-one-from (s .machine) line body oneSaid oneSo) (λ h. ap (isBadOne 4) (wrong-one (s .machine) line body (s .name) h)))
+        (λ z. test-one BadIndex (MisindexedIn s b) (λ h. h, λ h. h) (isBadOne 5 oneSaid) 5 refl (misindexed-one-from (s .machine) line body oneSaid oneSo) (λ h. ap (isBadOne 5) (misindexed-one (s .machine) line body (s .name) h))))
+
+    -- `ks` where nothing of it is given in phase one
+    decided-one : (ks : List ℕ) → FirstOf P ks 0 → FirstOf P (4 ∷ 5 ∷ 6 ∷ 7 ∷ 9 ∷ 10 ∷ 11 ∷ ks ++ (8 ∷ [])) (decidedOne s b line body)
+    decided-one ks held =
+        subst (FirstOf P (4 ∷ 5 ∷ 6 ∷ 7 ∷ 9 ∷ 10 ∷ 11 ∷ ks ++ (8 ∷ []))) (sym (decided-tests (s .tables) (b .first) oneSaid (length (payloadIn (s .machine) (s .name) line body))))
+        (both (4 ∷ 5 ∷ []) (6 ∷ 7 ∷ 9 ∷ 10 ∷ 11 ∷ ks ++ (8 ∷ [])) _ _ fault-one
+        (λ z. there NoSuchIndex (λ h. subst (MissingIn s b) brought h)
+        (both (7 ∷ []) (9 ∷ 10 ∷ 11 ∷ ks ++ (8 ∷ [])) _ _
+        (test-one FallingIndex (FallingIn s b) (λ h. h, λ h. h) (isFalling (s .tables) oneSaid) _ refl (falling-from s b reached line body oneSaid oneSo) (falling-to s b reached line body))
+        (λ z. there SecondKey (λ h. subst (SecondIn s b) brought h)
+        (there TooManyStanzas (λ h. subst (TooManyIn s b) brought h)
+        (there WorkAndError (λ h. subst (TogetherIn s b) brought h)
+        (both ks (8 ∷ []) 0 _ held
+        (λ z. test-one NoSpace (SpacelessIn s b) (λ h. h, λ h. h) (isSpacelessOne (s .tables) (b .first) oneSaid (length (payloadIn (s .machine) (s .name) line body))) _ refl (spaceless-one-from s b reached line body oneSaid oneSo) (spaceless-one-to s b reached line body)))))))))
+
+-- ---- what the client writes at once
+
+module _ (s : Session) (line body : List ℕ) where
+  abbrev Says : SayingTwo ℕ → Type 0
+  Says x = SaysTwo (s .machine) line body x
+
+  abbrev AtOnceHere : Response → Type 0
+  AtOnceHere r = WrittenAtOnce (s .screen) (KnownTwo (s .machine) line) Says r
+
+  at-once-said : (x : SayingTwo ℕ) → Says x → atOnce (s .screen) (commandTwo (s .machine) line body) ≡ atOnce (s .screen) (commandOf x)
+  at-once-said x h = ap (atOnce (s .screen)) (says-command (s .machine) line body x h)
+
+  question-fails : (q : Question) → s .screen ≡ false → atOnce (s .screen) (commandOf (asks q)) ≡ writes Fail
+  question-fails message e = rw e
+  question-fails confirmation e = rw e
+  question-fails public-value e = rw e
+  question-fails secret-value e = rw e
+
+  error-answered-so : (n : Naming ℕ) → atOnce (s .screen) (commandOf (reports n)) ≡ writes Ok
+  error-answered-so internal = refl
+  error-answered-so (identity i) = refl
+  error-answered-so (recipient i) = refl
+  error-answered-so (header f i) = refl
+
+  at-once-to : (r : Response) → AtOnceHere r → atOnce (s .screen) (commandTwo (s .machine) line body) ≡ writes r
+  at-once-to r (for-stanza f h e) = at-once-said (returns-stanza f) h ∙ ap writes (sym e)
+  at-once-to r (for-key f h e) = at-once-said (returns-key f) h ∙ ap writes (sym e)
+  at-once-to r (for-error n h e) = at-once-said (reports n) h ∙ error-answered-so n ∙ ap writes (sym e)
+  at-once-to r (for-other n e) = ap (atOnce (s .screen)) (unknown-command (s .machine) line body n) ∙ ap writes (sym e)
+  at-once-to r (for-question q h d e) = at-once-said (asks q) h ∙ question-fails q d ∙ ap writes (sym e)
+
+  at-once-from : (x : CommandTwo) → SaidTwo (s .machine) line body x → (r : Response) → atOnce (s .screen) x ≡ writes r → AtOnceHere r
+  at-once-from (ask w) h r e = cases (s .screen) (λ f. let z : silent ≡ writes r = sym (ap (λ v. pick v silent (writes Fail)) f) ∙ e in let y : _≡_ {A = ℕ} 0 1 = cc in absurd (omega arith)) (λ f. let z : writes Fail ≡ writes r = sym (ap (λ v. pick v silent (writes Fail)) f) ∙ e in for-question (h .0) (h .1) f (cc))
+  at-once-from (command.stanza f) h r e = for-stanza f h (cc)
+  at-once-from (key f) h r e = for-key f h (cc)
+  at-once-from (error n) h r e = for-error (namingOf n) h (cc)
+  at-once-from done h r e = let z : _≡_ {A = ℕ} 0 1 = cc in absurd (omega arith)
+  at-once-from other h r e = for-other h (cc)
+  at-once-from (command.bad n) h r e = let z : _≡_ {A = ℕ} 0 1 = cc in absurd (omega arith)
+
+  -- its text is longer than the output exactly if a response is
+  at-once-over : (out : List ℕ) → (length out < length (textOf (atOnce (s .screen) (commandTwo (s .machine) line body)))) ↔ ((r : Response) × AtOnceHere r × (length out < length (stanzaText (responseLine r) [])))
+  at-once-over out = (go (atOnce (s .screen) (commandTwo (s .machine) line body)) refl, λ h. subst (λ a. length out < length (textOf a)) (sym (at-once-to (h .0) (h .1))) (h .2))
+    where
+      go : (a : AtOnce) → atOnce (s .screen) (commandTwo (s .machine) line body) ≡ a → length out < length (textOf a) → (r : Response) × AtOnceHere r × (length out < length (stanzaText (responseLine r) []))
+      go (writes r) e l = (r, at-once-from (commandTwo (s .machine) line body) (said-two (s .machine) line body) r e, l)
+      go silent e l = absurd (omega arith)
+
+-- ---- answers
+
+module _ (s : Session) (b : Buffers) where
+  -- 13 and 14 of an answer, and what follows where one is due
+  answer-part : (c : Call) → (InTurn c (s .phase) ↔ ((w : WordTwo) × (s .phase ≡ Awaiting w))) → (ks : List ℕ) (late : WordTwo → ℕ) →
+      ((w : WordTwo) → s .phase ≡ Awaiting w → FirstOf (Condition s b c) ks (late w)) → FirstOf (Condition s b c) (13 ∷ 14 ∷ ks) (byDue s b (dueIn (s .phase)) late)
+  answer-part c i ks late follows = go (s .phase) refl
+    where
+      open-still : (p : Phase) → s .phase ≡ p → (p ≡ Closed → ⊥) → (p ≡ Ended → ⊥) → Over (s .phase) → ⊥
+      open-still p e h g = ⊎-elim (λ q. h (sym e ∙ q)) (λ q. g (sym e ∙ q))
+
+      go : (p : Phase) → s .phase ≡ p → FirstOf (Condition s b c) (13 ∷ 14 ∷ ks) (byDue s b (dueIn p) late)
+      go One e = there s b c SessionOver (open-still One e (λ q. let z : _≡_ {A = ℕ} 0 1 = cc in omega arith) (λ q. let z : _≡_ {A = ℕ} 0 1 = cc in omega arith)) (here s b c OutOfTurn (λ n. let q = i .0 n .1 in let z : _≡_ {A = ℕ} 0 1 = cc in omega arith))
+      go Two e = there s b c SessionOver (open-still Two e (λ q. let z : _≡_ {A = ℕ} 0 1 = cc in omega arith) (λ q. let z : _≡_ {A = ℕ} 0 1 = cc in omega arith)) (here s b c OutOfTurn (λ n. let q = i .0 n .1 in let z : _≡_ {A = ℕ} 0 1 = cc in omega arith))
+      go (Awaiting w) e = there s b c SessionOver (open-still (Awaiting w) e (λ q. let z : _≡_ {A = ℕ} 0 1 = cc in omega arith) (λ q. let z : _≡_ {A = ℕ} 0 1 = cc in omega arith)) (there s b c OutOfTurn (λ n. n (i .1 (w, e))) (follows w e))
+      go Ended e = here s b c SessionOver (inr e)
+      go Closed e = here s b c SessionOver (inl e)
+
+  -- one command awaits it
+  same-awaited : (v w : WordTwo) → s .phase ≡ Awaiting v → s .phase ≡ Awaiting w → v ≡ w
+  same-awaited v w p q = cc
+
+  unfit-first : (f g : Bool) → _≡_ {A = ℕ} (pick f (pick g 0 17) 12) (firstOf (when (not f) 12) (when (not g) 17))
+  unfit-first true true = refl
+  unfit-first true false = refl
+  unfit-first false g = refl
+
+  reply-part : (r : Response) (body out : List ℕ) (w : WordTwo) → s .phase ≡ Awaiting w →
+      FirstOf (Condition s b (reply r body out)) (12 ∷ 17 ∷ 15 ∷ []) (firstOf (numberReplied w r body) (shortness (stanzaText (responseLine r) body) out))
+  reply-part r body out w e =
+      let c = reply r body out in
+      both s b c (12 ∷ 17 ∷ []) (15 ∷ []) _ _
+      (subst (FirstOf (Condition s b c) (12 ∷ 17 ∷ [])) (sym (unfit-first (fitsWhole w r body) (isWritable (responseLine r) body)))
+      (both s b c (12 ∷ []) (17 ∷ []) _ _
+      (test s b c UnfitResponse (not (fitsWhole w r body)) 12 refl (λ f. (w, e, λ x. true≢false (sym (fits-from w r body x) ∙ not-true _ f)))
+      (λ h. ap not (refuted (fitsWhole w r body) (λ f. h .2 (fits-to (h .0) r body (subst (λ v. fitsWhole v r body ≡ true) (same-awaited w (h .0) e (h .1)) f))))))
+      (λ z. write-part s b c (responseLine r) body (λ h. h, λ h. h))))
+      (λ z. output-part s b c (stanzaText (responseLine r) body) out (λ h. h, λ h. h))
+
+  -- a response that was read is none that fits
+  unfit-to : (w : WordTwo) (line body : List ℕ) (q : ResponseRead) → responseOf line ≡ q → (unfitness s b w q body ≡ 0) ⊎ ((unfitness s b w q body ≡ 12) × ((r : Response) → line ≡ responseLine r → Fitting r body w → ⊥))
+  unfit-to w line body (response r) e =
+      cases (fitsWhole w r body) (λ f. inl (ap (λ v. pick v 0 12) f))
+      (λ f. inr (ap (λ v. pick v 0 12) f, λ q l x. let z : response q ≡ response r = sym (read-line q) ∙ ap responseOf (sym l) ∙ e in let y : q ≡ r = cc in true≢false (sym (fits-from w r body (subst (λ q. Fitting q body w) y x)) ∙ f)))
+  unfit-to w line body nothing e = inr (refl, λ q l x. let z : response q ≡ nothing = sym (read-line q) ∙ ap responseOf (sym l) ∙ e in let y : _≡_ {A = ℕ} 0 1 = cc in omega arith)
+
+  fit-then : (w : WordTwo) (line body : List ℕ) (q : ResponseRead) → responseOf line ≡ q → unfitness s b w q body ≡ 0 → (r : Response) × (line ≡ responseLine r) × Fitting r body w
+  fit-then w line body (response r) e z = (r, line-read line r e, cases (fitsWhole w r body) (λ f. fits-to w r body f) (λ f. let y : _≡_ {A = ℕ} 12 0 = sym (ap (λ v. pick v 0 12) f) ∙ z in absurd (omega arith)))
+  fit-then w line body nothing e z = absurd (omega arith)
+
+  respond-part : (text out : List ℕ) (w : WordTwo) → s .phase ≡ Awaiting w → FirstOf (Condition s b (respond text out)) (12 ∷ []) (unfitness s b w (responseOf (lineIn text)) (bodyIn text))
+  respond-part text out w e =
+      let c = respond text out in
+      let q = responseOf (lineIn text) in
+      ⊎-elim
+      (λ z. let f = fit-then w (lineIn text) (bodyIn text) q refl z in
+      subst (FirstOf (Condition s b c) (12 ∷ [])) (sym z) (there s b c UnfitResponse (λ h. h .2 (f .0) (f .1) (subst (Fitting (f .0) (bodyIn text)) (same-awaited w (h .0) e (h .1)) (f .2))) no-number))
+      (λ z. subst (FirstOf (Condition s b c) (12 ∷ [])) (sym (z .0)) (here s b c UnfitResponse (w, e, z .1)))
+      (unfit-to w (lineIn text) (bodyIn text) q refl)
+
+-- ---- the calls
+
+module _ (s : Session) (b : Buffers) (reached : ReachedSession s) where
+  -- each number is given exactly where it is the first in the order whose condition holds
+  pub number-given : (c : Call) → FirstOf (Condition s b c) (orderOf c) (outcome s b c .number)
+  number-given (receive text) =
+      let c = receive text in
+      let commands : FirstOf (Condition s b c) (4 ∷ 5 ∷ 6 ∷ 7 ∷ 9 ∷ 10 ∷ 11 ∷ 8 ∷ 15 ∷ []) (firstOf (decidedOne s b (lineIn text) (bodyIn text)) 0) =
+      both s b c (4 ∷ 5 ∷ 6 ∷ 7 ∷ 9 ∷ 10 ∷ 11 ∷ 8 ∷ []) (15 ∷ []) _ 0 (decided-one s b c reached (lineIn text) (bodyIn text) refl [] no-number) (λ z. there s b c ShortOutput (λ h. h) no-number) in
+      subst (FirstOf (Condition s b c) (orderOf c)) (sym (given-receive s b text))
+      (both s b c (13 ∷ 14 ∷ []) (1 ∷ 2 ∷ 3 ∷ 4 ∷ 5 ∷ 6 ∷ 7 ∷ 9 ∷ 10 ∷ 11 ∷ 8 ∷ 15 ∷ []) _ _ (turned-one s b c (λ h. h, λ h. h) (s .phase) refl)
+      (λ z. subst (FirstOf (Condition s b c) (1 ∷ 2 ∷ 3 ∷ 4 ∷ 5 ∷ 6 ∷ 7 ∷ 9 ∷ 10 ∷ 11 ∷ 8 ∷ 15 ∷ [])) (sym (read-first text _))
+      (both s b c (1 ∷ 2 ∷ 3 ∷ []) (4 ∷ 5 ∷ 6 ∷ 7 ∷ 9 ∷ 10 ∷ 11 ∷ 8 ∷ 15 ∷ []) _ _ (read-part s b c text (λ n. (λ h. h, λ h. h))) (λ y. commands))))
+  number-given (send word arguments body out) =
+      let c = send word arguments body out in
+      let line = one-command.lineSent word arguments in
+      let text = stanzaText line body in
+      let commands : FirstOf (Condition s b c) (4 ∷ 5 ∷ 6 ∷ 7 ∷ 9 ∷ 10 ∷ 11 ∷ 19 ∷ 8 ∷ 15 ∷ []) (firstOf (decidedOne s b line body) (shortness text out)) =
+      both s b c (4 ∷ 5 ∷ 6 ∷ 7 ∷ 9 ∷ 10 ∷ 11 ∷ 19 ∷ 8 ∷ []) (15 ∷ []) _ _ (decided-one s b c reached line body refl (19 ∷ []) (there s b c HeldBack (λ h. h) no-number)) (λ z. output-part s b c text out (λ h. h, λ h. h)) in
+      subst (FirstOf (Condition s b c) (orderOf c)) (sym (given-send s b word arguments body out))
+      (both s b c (13 ∷ 14 ∷ []) (17 ∷ 4 ∷ 5 ∷ 6 ∷ 7 ∷ 9 ∷ 10 ∷ 11 ∷ 19 ∷ 8 ∷ 15 ∷ []) _ _ (turned-one s b c (λ h. h, λ h. h) (s .phase) refl)
+      (λ z. subst (FirstOf (Condition s b c) (17 ∷ 4 ∷ 5 ∷ 6 ∷ 7 ∷ 9 ∷ 10 ∷ 11 ∷ 19 ∷ 8 ∷ 15 ∷ [])) (sym (unwritten-first s b c (isWritable line body) _))
+      (both s b c (17 ∷ []) (4 ∷ 5 ∷ 6 ∷ 7 ∷ 9 ∷ 10 ∷ 11 ∷ 19 ∷ 8 ∷ 15 ∷ []) _ _ (write-part s b c line body (λ h. h, λ h. h)) (λ y. commands))))
+  number-given (receive-two text out) =
+      let c = receive-two text out in
+      let commands : FirstOf (Condition s b c) (4 ∷ 5 ∷ 6 ∷ 7 ∷ 9 ∷ 10 ∷ 11 ∷ 8 ∷ 15 ∷ []) (firstOf (decidedTwo s b false (lineIn text) (bodyIn text)) (shortness (atOnceText s b (lineIn text) (bodyIn text)) out)) =
+      both s b c (4 ∷ 5 ∷ 6 ∷ 7 ∷ 9 ∷ 10 ∷ 11 ∷ 8 ∷ []) (15 ∷ []) _ _ (decided-two s b c reached (lineIn text) (bodyIn text) refl false [] no-number)
+      (λ z. output-part s b c (atOnceText s b (lineIn text) (bodyIn text)) out (let i = at-once-over s (lineIn text) (bodyIn text) out in (i .1, i .0))) in
+      subst (FirstOf (Condition s b c) (orderOf c)) (sym (given-receive-two s b text out))
+      (both s b c (13 ∷ 14 ∷ []) (1 ∷ 2 ∷ 3 ∷ 4 ∷ 5 ∷ 6 ∷ 7 ∷ 9 ∷ 10 ∷ 11 ∷ 8 ∷ 15 ∷ []) _ _ (turned-two s b c (λ h. h, λ h. h) (s .phase) refl)
+      (λ z. subst (FirstOf (Condition s b c) (1 ∷ 2 ∷ 3 ∷ 4 ∷ 5 ∷ 6 ∷ 7 ∷ 9 ∷ 10 ∷ 11 ∷ 8 ∷ 15 ∷ [])) (sym (read-first text _))
+      (both s b c (1 ∷ 2 ∷ 3 ∷ []) (4 ∷ 5 ∷ 6 ∷ 7 ∷ 9 ∷ 10 ∷ 11 ∷ 8 ∷ 15 ∷ []) _ _ (read-part s b c text (λ n. (λ h. h, λ h. h))) (λ y. commands))))
+  number-given (reply r body out) =
+      let c = reply r body out in
+      subst (FirstOf (Condition s b c) (orderOf c)) (sym (given-reply s b r body out)) (answer-part s b c (λ h. h, λ h. h) (12 ∷ 17 ∷ 15 ∷ []) _ (reply-part s b r body out))
+  number-given (send-two word arguments body out) =
+      let c = send-two word arguments body out in
+      let line = lineSent word arguments in
+      let text = stanzaText line body in
+      let held : FirstOf (Condition s b c) (19 ∷ []) (when (true && isHeldBack (s .tables) (commandTwo (s .machine) line body)) 19) =
+      test s b c HeldBack (isHeldBack (s .tables) (commandTwo (s .machine) line body)) 19 refl (held-from s b reached line body (commandTwo (s .machine) line body) (said-two (s .machine) line body)) (held-to s b reached line body) in
+      subst (FirstOf (Condition s b c) (orderOf c)) (sym (given-send-two s b word arguments body out))
+      (both s b c (13 ∷ 14 ∷ []) (17 ∷ 4 ∷ 5 ∷ 6 ∷ 7 ∷ 9 ∷ 10 ∷ 11 ∷ 19 ∷ 8 ∷ 15 ∷ []) _ _ (turned-two s b c (λ h. h, λ h. h) (s .phase) refl)
+      (λ z. both s b c (17 ∷ 4 ∷ 5 ∷ 6 ∷ 7 ∷ 9 ∷ 10 ∷ 11 ∷ 19 ∷ 8 ∷ []) (15 ∷ []) _ _
+      (subst (FirstOf (Condition s b c) (17 ∷ 4 ∷ 5 ∷ 6 ∷ 7 ∷ 9 ∷ 10 ∷ 11 ∷ 19 ∷ 8 ∷ [])) (sym (unwritten-first s b c (isWritable line body) _))
+      (both s b c (17 ∷ []) (4 ∷ 5 ∷ 6 ∷ 7 ∷ 9 ∷ 10 ∷ 11 ∷ 19 ∷ 8 ∷ []) _ _ (write-part s b c line body (λ h. h, λ h. h)) (λ y. decided-two s b c reached line body refl true (19 ∷ []) held)))
+      (λ y. output-part s b c text out (λ h. h, λ h. h))))
+  number-given (respond text out) =
+      let c = respond text out in
+      subst (FirstOf (Condition s b c) (orderOf c)) (sym (given-respond s b text out))
+      (answer-part s b c (λ h. h, λ h. h) (1 ∷ 2 ∷ 3 ∷ 12 ∷ 15 ∷ []) _
+      (λ w e. subst (FirstOf (Condition s b c) (1 ∷ 2 ∷ 3 ∷ 12 ∷ 15 ∷ [])) (sym (read-first text _))
+      (both s b c (1 ∷ 2 ∷ 3 ∷ []) (12 ∷ 15 ∷ []) _ _ (read-part s b c text (λ n. (λ h. h, λ h. h)))
+      (λ z. both s b c (12 ∷ []) (15 ∷ []) _ _ (respond-part s b text out w e) (λ y. output-part s b c (bodyIn text) out (λ h. h, λ h. h))))))
+
+-- so of any session that calls have made of an opening, each lent its own buffers
+pub number-after : (machine name : List ℕ) (screen : Bool) (cs : List CallWith) (b : Buffers) (c : Call) →
+    let s = afterEach (opened machine name screen .session) cs in FirstOf (Condition s b c) (orderOf c) (outcome s b c .number)
+number-after machine name screen cs b c =
+    number-given (afterEach (opened machine name screen .session) cs) b (each-reached (opened machine name screen .session) cs (opening-reached machine name screen)) c

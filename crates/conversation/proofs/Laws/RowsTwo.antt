@@ -379,3 +379,35 @@ module _ (machine : Machine) (line body : List ℕ) where
       go c e (unknown n) = absurd (n (w .0))
       go c e (wrong k) = refl
       go c e (as-row x h) = absurd (w .1 x h)
+
+  -- a row's word is one of the table
+  first-word : (v : List ℕ) (ws : List (List ℕ)) → words line ≡ v ∷ ws → argumentOf line 0 ≡ v
+  first-word v ws e = ap (λ w. getD w 0 []) e
+
+  labels-known : Labels (words line) → KnownTwo machine line
+  unfolding OneOf
+  labels-known (one-label a e f) = inr (inl (first-word confirmWord (a ∷ []) e))
+  labels-known (two-labels a b e f g) = inr (inl (first-word confirmWord (a ∷ b ∷ []) e))
+
+  row-known : (x : SayingTwo (List ℕ)) → Row x → KnownTwo machine line
+  unfolding OneOf
+  row-known (asks message) h = inl (first-word msgWord [] h)
+  row-known (asks confirmation) h = labels-known h
+  row-known (asks public-value) h = inr (inr (inl (first-word requestPublic [] h)))
+  row-known (asks secret-value) h = inr (inr (inr (inl (first-word requestSecret [] h))))
+  row-known (returns-stanza f) h = inr (inr (inr (inr (inl (first-word recipientStanza _ (h .1 .2) ∙ ap returningWord (sym (h .0)))))))
+  row-known (returns-key f) h = inr (inr (inr (inr (inl (first-word fileKeyWord _ (h .1) ∙ ap returningWord (sym (h .0)))))))
+  row-known (reports internal) h = inr (inr (inr (inr (inr (inl (first-word errorWord _ h))))))
+  row-known (reports (identity i)) h = inr (inr (inr (inr (inr (inl (first-word errorWord _ h))))))
+  row-known (reports (recipient i)) h = inr (inr (inr (inr (inr (inl (first-word errorWord _ (h .1)))))))
+  row-known (reports (header f i)) h = inr (inr (inr (inr (inr (inl (first-word errorWord _ (h .1)))))))
+  row-known ends-two h = inr (inr (inr (inr (inr (inr (inl (first-word doneWord [] (h .0))))))))
+
+  -- no word of the table
+  pub unknown-command : (KnownTwo machine line → ⊥) → commandTwo machine line body ≡ other
+  unknown-command u = go (commandTwo machine line body) (read-two line body machine)
+    where
+      go : (c : CommandTwo) → ReadTwo machine line body c → c ≡ other
+      go c (unknown n) = refl
+      go c (wrong k) = absurd (u k)
+      go c (as-row x h) = absurd (u (row-known x h))
