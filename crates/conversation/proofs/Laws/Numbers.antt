@@ -302,6 +302,11 @@ module _ (s : Session) (b : Buffers) (c : Call) where
   test r true n e to from = subst (FirstOf P (numberOf r ∷ [])) e (here r (to refl))
   test r false n e to from = there r (λ h. false≢true (from h)) no-number
 
+  -- .. and a number that is its own where the test holds, and of a later one where it does not
+  step : (r : Refusal) (ks : List ℕ) (n : ℕ) (f : Bool) → (f ≡ true → H r) → (H r → f ≡ true) → (f ≡ true → n ≡ numberOf r) → (f ≡ false → FirstOf P ks n) → FirstOf P (numberOf r ∷ ks) n
+  step r ks n true to from e h = subst (FirstOf P (numberOf r ∷ ks)) (sym (e refl)) (here r (to refl))
+  step r ks n false to from e h = there r (λ x. false≢true (from x)) (h refl)
+
   -- one list behind another
   both : (ks js : List ℕ) (m n : ℕ) → FirstOf P ks m → (m ≡ 0 → FirstOf P js n) → FirstOf P (ks ++ js) (firstOf m n)
   both ks js m n no-number g = g refl
@@ -376,41 +381,71 @@ module _ (s : Session) (b : Buffers) (c : Call) where
     abbrev saidSo : SaidTwo (s .machine) line body commandSaid
     saidSo = said-two (s .machine) line body
 
+    abbrev isTrue : Bool → Type 0
+    isTrue f = f ≡ true
+
+    abbrev isFalse : Bool → Type 0
+    isFalse f = f ≡ false
+
     -- a condition that is said of what the call brings
-    test-two : (r : Refusal) (F : Brought → Type 0) → (H r ↔ F (broughtBy c)) → (f : Bool) (n : ℕ) → numberOf r ≡ n → (f ≡ true → F (in-two line body)) → (F (in-two line body) → f ≡ true) → FirstOf P (numberOf r ∷ []) (when f n)
-    test-two r F i f n e to from = test r f n e (λ q. i .1 (subst F (sym brought) (to q))) (λ h. from (subst F brought (i .0 h)))
+    step-two : (r : Refusal) (F : Brought → Type 0) → (H r ↔ F (broughtBy c)) → (ks : List ℕ) (n : ℕ) (f : Bool) → (isTrue f → F (in-two line body)) → (F (in-two line body) → isTrue f) →
+        (isTrue f → n ≡ numberOf r) → (isFalse f → FirstOf P ks n) → FirstOf P (numberOf r ∷ ks) n
+    step-two r F i ks n f to from = step r ks n f (λ q. i .1 (subst F (sym brought) (to q))) (λ h. from (subst F brought (i .0 h)))
 
-    fault-two : FirstOf P (4 ∷ 5 ∷ []) (faultOf commandSaid)
-    fault-two =
-        subst (FirstOf P (4 ∷ 5 ∷ [])) (sym (fault-is (s .machine) line body commandSaid saidSo))
-        (both (4 ∷ []) (5 ∷ []) _ _
-        (test-two BadCommand (WrongIn s b) (λ h. h, λ h. h) (isBad 4 commandSaid) 4 refl (wrong-from (s .machine) line body commandSaid saidSo) (λ h. ap (isBad 4) (wrong-command (s .machine) line body h)))
-        (λ z. test-two BadIndex (MisindexedIn s b) (λ h. h, λ h. h) (isBad 5 commandSaid) 5 refl (misindexed-from (s .machine) line body commandSaid saidSo) (λ h. ap (isBad 5) (misindexed-command (s .machine) line body h))))
+    -- what is asked of the tables, in the decision's order
+    abbrev missing : Bool
+    missing = isMissing (s .tables) commandSaid
 
-    -- no header stanza of phase one
-    not-falling : H FallingIndex → ⊥
-    not-falling h = subst (FallingIn s b) brought h
+    abbrev secondKey : Bool
+    secondKey = isSecondKey (s .tables) commandSaid
 
-    rules-two : (own : Bool) (ks : List ℕ) → FirstOf P ks (when (own && isHeldBack (s .tables) commandSaid) 19) → FirstOf P (4 ∷ 5 ∷ 6 ∷ 7 ∷ 9 ∷ 10 ∷ 11 ∷ ks) (ruled own (s .tables) commandSaid)
-    rules-two own ks held =
-        both (4 ∷ 5 ∷ []) (6 ∷ 7 ∷ 9 ∷ 10 ∷ 11 ∷ ks) _ _ fault-two
-        (λ z. both (6 ∷ []) (7 ∷ 9 ∷ 10 ∷ 11 ∷ ks) _ _
-        (test-two NoSuchIndex (MissingIn s b) (λ h. h, λ h. h) (isMissing (s .tables) commandSaid) _ refl (missing-from s b reached line body commandSaid saidSo) (missing-to s b reached line body))
-        (λ z. there FallingIndex not-falling
-        (both (9 ∷ []) (10 ∷ 11 ∷ ks) _ _
-        (test-two SecondKey (SecondIn s b) (λ h. h, λ h. h) (isSecondKey (s .tables) commandSaid) _ refl (second-from s b reached line body commandSaid saidSo) (second-to s b reached line body))
-        (λ z. both (10 ∷ []) (11 ∷ ks) _ _
-        (test-two TooManyStanzas (TooManyIn s b) (λ h. h, λ h. h) (isTooMany (s .tables) commandSaid) _ refl (too-many-from s b reached line body commandSaid saidSo) (too-many-to s b reached line body))
-        (λ z. both (11 ∷ []) ks _ _
-        (test-two WorkAndError (TogetherIn s b) (λ h. h, λ h. h) (isClashing (s .tables) commandSaid) _ refl (together-from s b reached line body commandSaid saidSo) (together-to s b reached line body))
-        (λ z. held))))))
+    abbrev tooMany : Bool
+    tooMany = isTooMany (s .tables) commandSaid
 
-    decided-two : (own : Bool) (ks : List ℕ) → FirstOf P ks (when (own && isHeldBack (s .tables) commandSaid) 19) →
-        FirstOf P (4 ∷ 5 ∷ 6 ∷ 7 ∷ 9 ∷ 10 ∷ 11 ∷ ks ++ (8 ∷ [])) (decidedTwo s b own line body)
+    abbrev clashing : Bool
+    clashing = isClashing (s .tables) commandSaid
+
+    abbrev heldBack : Bool
+    heldBack = isHeldBack (s .tables) commandSaid
+
+    abbrev spaceless : Bool
+    spaceless = isSpaceless (s .tables) (b .second) commandSaid (length (payloadOf commandSaid line body))
+
+    -- 4 to 11; then the rest
+    early-two : (own : Bool) (ks : List ℕ) →
+        (faultOf commandSaid ≡ 0 → isFalse missing → isFalse secondKey → isFalse tooMany → isFalse clashing → FirstOf P ks (decidedTwo s b own line body)) →
+        FirstOf P (4 ∷ 5 ∷ 6 ∷ 7 ∷ 9 ∷ 10 ∷ 11 ∷ ks) (decidedTwo s b own line body)
     unfolding decided
-    decided-two own ks held =
-        both (4 ∷ 5 ∷ 6 ∷ 7 ∷ 9 ∷ 10 ∷ 11 ∷ ks) (8 ∷ []) _ _ (rules-two own ks held)
-        (λ z. test-two NoSpace (SpacelessIn s b) (λ h. h, λ h. h) (isSpaceless (s .tables) (b .second) commandSaid (length (payloadOf commandSaid line body))) _ refl (spaceless-from s b reached line body commandSaid saidSo) (spaceless-to s b reached line body))
+    early-two own ks rest =
+        let n = decidedTwo s b own line body in
+        let four = wrong-from (s .machine) line body commandSaid saidSo in
+        let five = misindexed-from (s .machine) line body commandSaid saidSo in
+        step-two BadCommand (WrongIn s b) (λ h. h, λ h. h) (5 ∷ 6 ∷ 7 ∷ 9 ∷ 10 ∷ 11 ∷ ks) n (isBad 4 commandSaid) four (λ h. ap (isBad 4) (wrong-command (s .machine) line body h)) (λ f. rw (ap faultOf (wrong-command (s .machine) line body (four f))))
+        (λ b4. step-two BadIndex (MisindexedIn s b) (λ h. h, λ h. h) (6 ∷ 7 ∷ 9 ∷ 10 ∷ 11 ∷ ks) n (isBad 5 commandSaid) five (λ h. ap (isBad 5) (misindexed-command (s .machine) line body h)) (λ f. rw (ap faultOf (misindexed-command (s .machine) line body (five f))))
+        (λ b5. let z : faultOf commandSaid ≡ 0 = fault-is (s .machine) line body commandSaid saidSo ∙ rw (b4, b5) in
+        step-two NoSuchIndex (MissingIn s b) (λ h. h, λ h. h) (7 ∷ 9 ∷ 10 ∷ 11 ∷ ks) n missing (missing-from s b reached line body commandSaid saidSo) (missing-to s b reached line body) (λ f. rw (z, f))
+        (λ m. there FallingIndex (λ h. subst (FallingIn s b) brought h)
+        (step-two SecondKey (SecondIn s b) (λ h. h, λ h. h) (10 ∷ 11 ∷ ks) n secondKey (second-from s b reached line body commandSaid saidSo) (second-to s b reached line body) (λ f. rw (z, m, f))
+        (λ k. step-two TooManyStanzas (TooManyIn s b) (λ h. h, λ h. h) (11 ∷ ks) n tooMany (too-many-from s b reached line body commandSaid saidSo) (too-many-to s b reached line body) (λ f. rw (z, m, k, f))
+        (λ y. step-two WorkAndError (TogetherIn s b) (λ h. h, λ h. h) ks n clashing (together-from s b reached line body commandSaid saidSo) (together-to s b reached line body) (λ f. rw (z, m, k, y, f))
+        (λ l. rest z m k y l)))))))
+
+    -- received: 8
+    received-two : FirstOf P (4 ∷ 5 ∷ 6 ∷ 7 ∷ 9 ∷ 10 ∷ 11 ∷ 8 ∷ []) (decidedTwo s b false line body)
+    unfolding decided
+    received-two =
+        early-two false (8 ∷ [])
+        (λ z m k y l. step-two NoSpace (SpacelessIn s b) (λ h. h, λ h. h) [] (decidedTwo s b false line body) spaceless (spaceless-from s b reached line body commandSaid saidSo) (spaceless-to s b reached line body)
+        (λ f. rw (z, m, k, y, l, f)) (λ f. rw (z, m, k, y, l, f) no-number))
+
+    -- sent: 19, 8
+    sent-two : (isTrue heldBack → H HeldBack) → (H HeldBack → isTrue heldBack) → FirstOf P (4 ∷ 5 ∷ 6 ∷ 7 ∷ 9 ∷ 10 ∷ 11 ∷ 19 ∷ 8 ∷ []) (decidedTwo s b true line body)
+    unfolding decided
+    sent-two to from =
+        early-two true (19 ∷ 8 ∷ [])
+        (λ z m k y l. step HeldBack (8 ∷ []) (decidedTwo s b true line body) heldBack to from (λ f. rw (z, m, k, y, l, f))
+        (λ h. step-two NoSpace (SpacelessIn s b) (λ h. h, λ h. h) [] (decidedTwo s b true line body) spaceless (spaceless-from s b reached line body commandSaid saidSo) (spaceless-to s b reached line body)
+        (λ f. rw (z, m, k, y, l, h, f)) (λ f. rw (z, m, k, y, l, h, f) no-number)))
 
   -- ---- a command of phase one
 
@@ -579,7 +614,7 @@ module _ (s : Session) (b : Buffers) (reached : ReachedSession s) where
   number-given (receive-two text out) =
       let c = receive-two text out in
       let commands : FirstOf (Condition s b c) (4 ∷ 5 ∷ 6 ∷ 7 ∷ 9 ∷ 10 ∷ 11 ∷ 8 ∷ 15 ∷ []) (firstOf (decidedTwo s b false (lineIn text) (bodyIn text)) (shortness (atOnceText s b (lineIn text) (bodyIn text)) out)) =
-      both s b c (4 ∷ 5 ∷ 6 ∷ 7 ∷ 9 ∷ 10 ∷ 11 ∷ 8 ∷ []) (15 ∷ []) _ _ (decided-two s b c reached (lineIn text) (bodyIn text) refl false [] no-number)
+      both s b c (4 ∷ 5 ∷ 6 ∷ 7 ∷ 9 ∷ 10 ∷ 11 ∷ 8 ∷ []) (15 ∷ []) _ _ (received-two s b c reached (lineIn text) (bodyIn text) refl)
       (λ z. output-part s b c (atOnceText s b (lineIn text) (bodyIn text)) out (let i = at-once-over s (lineIn text) (bodyIn text) out in (i .1, i .0))) in
       subst (FirstOf (Condition s b c) (orderOf c)) (sym (given-receive-two s b text out))
       (both s b c (13 ∷ 14 ∷ []) (1 ∷ 2 ∷ 3 ∷ 4 ∷ 5 ∷ 6 ∷ 7 ∷ 9 ∷ 10 ∷ 11 ∷ 8 ∷ 15 ∷ []) _ _ (turned-two s b c (λ h. h, λ h. h) (s .phase) refl)
@@ -592,13 +627,11 @@ module _ (s : Session) (b : Buffers) (reached : ReachedSession s) where
       let c = send-two word arguments body out in
       let line = lineSent word arguments in
       let text = stanzaText line body in
-      let held : FirstOf (Condition s b c) (19 ∷ []) (when (true && isHeldBack (s .tables) (commandTwo (s .machine) line body)) 19) =
-      test s b c HeldBack (isHeldBack (s .tables) (commandTwo (s .machine) line body)) 19 refl (held-from s b reached line body (commandTwo (s .machine) line body) (said-two (s .machine) line body)) (held-to s b reached line body) in
       subst (FirstOf (Condition s b c) (orderOf c)) (sym (given-send-two s b word arguments body out))
       (both s b c (13 ∷ 14 ∷ []) (17 ∷ 4 ∷ 5 ∷ 6 ∷ 7 ∷ 9 ∷ 10 ∷ 11 ∷ 19 ∷ 8 ∷ 15 ∷ []) _ _ (turned-two s b c (λ h. h, λ h. h) (s .phase) refl)
       (λ z. both s b c (17 ∷ 4 ∷ 5 ∷ 6 ∷ 7 ∷ 9 ∷ 10 ∷ 11 ∷ 19 ∷ 8 ∷ []) (15 ∷ []) _ _
       (subst (FirstOf (Condition s b c) (17 ∷ 4 ∷ 5 ∷ 6 ∷ 7 ∷ 9 ∷ 10 ∷ 11 ∷ 19 ∷ 8 ∷ [])) (sym (unwritten-first s b c (isWritable line body) _))
-      (both s b c (17 ∷ []) (4 ∷ 5 ∷ 6 ∷ 7 ∷ 9 ∷ 10 ∷ 11 ∷ 19 ∷ 8 ∷ []) _ _ (write-part s b c line body (λ h. h, λ h. h)) (λ y. decided-two s b c reached line body refl true (19 ∷ []) held)))
+      (both s b c (17 ∷ []) (4 ∷ 5 ∷ 6 ∷ 7 ∷ 9 ∷ 10 ∷ 11 ∷ 19 ∷ 8 ∷ []) _ _ (write-part s b c line body (λ h. h, λ h. h)) (λ y. sent-two s b c reached line body refl (held-from s b reached line body (commandTwo (s .machine) line body) (said-two (s .machine) line body)) (held-to s b reached line body))))
       (λ y. output-part s b c text out (λ h. h, λ h. h))))
   number-given (respond text out) =
       let c = respond text out in

@@ -112,33 +112,6 @@ module _ (s : Session) (b : Buffers) (word : WordOne) (arguments body : List ℕ
 
 -- ---- phase two
 
--- 19 before 8, among the tests
-held-first : (n : ℕ) (m k y l h p : Bool) → (n ≡ 8 → ⊥) →
-    firstOf (firstOf n (firstOf (when m 6) (firstOf (when k 9) (firstOf (when y 10) (firstOf (when l 11) (when (true && h) 19)))))) (when p 8) ≡
-    heldNumber h (firstOf (firstOf n (firstOf (when m 6) (firstOf (when k 9) (firstOf (when y 10) (firstOf (when l 11) (when (false && h) 19)))))) (when p 8))
-held-first n m k y l h p e =
-    cases (eqb n 0) (λ f. rw (eqb-true n 0 f) (go m k y l h p)) (λ f. rw (f, f, f, ne-eqb n 8 e) (fixed h))
-  where
-    fixed : (h : Bool) → n ≡ pick (h && false) 19 n
-    fixed true = refl
-    fixed false = refl
-
-    go : (m k y l h p : Bool) →
-        firstOf (firstOf (when m 6) (firstOf (when k 9) (firstOf (when y 10) (firstOf (when l 11) (when (true && h) 19))))) (when p 8) ≡
-        heldNumber h (firstOf (firstOf (when m 6) (firstOf (when k 9) (firstOf (when y 10) (firstOf (when l 11) (when (false && h) 19))))) (when p 8))
-    go true k y l true p = refl
-    go true k y l false p = refl
-    go false true y l true p = refl
-    go false true y l false p = refl
-    go false false true l true p = refl
-    go false false true l false p = refl
-    go false false false true true p = refl
-    go false false false true false p = refl
-    go false false false false true true = refl
-    go false false false false true false = refl
-    go false false false false false true = refl
-    go false false false false false false = refl
-
 -- a fault by itself is 4 or 5
 no-eight : (machine : Machine) (line body : List ℕ) (c : CommandTwo) → SaidTwo machine line body c → faultOf c ≡ 8 → ⊥
 no-eight machine line body (ask w) h e = omega arith
@@ -161,8 +134,16 @@ module _ (s : Session) (b : Buffers) (word : WordTwo) (arguments body : List ℕ
   held-decided =
       let c = commandSent in
       let t = s .tables in
-      held-first (faultOf c) (isMissing t c) (isSecondKey t c) (isTooMany t c) (isClashing t c) (isHeldBack t c) (isSpaceless t (b .second) c (length (payloadOf c sentLineTwo body)))
-      (no-eight (s .machine) sentLineTwo body c (said-two (s .machine) sentLineTwo body))
+      let n = length (payloadOf c sentLineTwo body) in
+      cases (eqb (faultOf c) 0)
+      (λ f. let z = eqb-true (faultOf c) 0 f in
+      cases (isMissing t c) (λ m. cases (isHeldBack t c) (λ h. rw (z, m, h)) (λ h. rw (z, m, h)))
+      (λ m. cases (isSecondKey t c) (λ k. cases (isHeldBack t c) (λ h. rw (z, m, k, h)) (λ h. rw (z, m, k, h)))
+      (λ k. cases (isTooMany t c) (λ y. cases (isHeldBack t c) (λ h. rw (z, m, k, y, h)) (λ h. rw (z, m, k, y, h)))
+      (λ y. cases (isClashing t c) (λ l. cases (isHeldBack t c) (λ h. rw (z, m, k, y, l, h)) (λ h. rw (z, m, k, y, l, h)))
+      (λ l. cases (isHeldBack t c) (λ h. cases (isSpaceless t (b .second) c n) (λ p. rw (z, m, k, y, l, h, p)) (λ p. rw (z, m, k, y, l, h, p)))
+      (λ h. cases (isSpaceless t (b .second) c n) (λ p. rw (z, m, k, y, l, h, p)) (λ p. rw (z, m, k, y, l, h, p))))))))
+      (λ f. let e = ne-eqb (faultOf c) 8 (no-eight (s .machine) sentLineTwo body c (said-two (s .machine) sentLineTwo body)) in cases (isHeldBack t c) (λ h. rw (f, f, f, e, h)) (λ h. rw (f, f, f, e, h)))
 
   -- 15 is not given
   long : (n : ℕ) (f : Bool) → (firstOf n (pick f 15 0) ≡ 15 → ⊥) → firstOf n (pick f 15 0) ≡ n
