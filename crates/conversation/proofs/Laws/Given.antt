@@ -35,6 +35,7 @@ use Rattle.conversation.specs.SendingTwo as sending-two
 use Rattle.conversation.specs.Responding as responding
 use Rattle.conversation.specs.Calls.{receive, send, receive-two, reply, send-two, respond, takingNumber, sentNumber, takingTwoNumber, respondedNumber, outcome, lineRead, bodyRead}
 use Rattle.conversation.specs.Phases.{lineIn, bodyIn}
+use Rattle.conversation.proofs.Laws.Sending.{by-writable}
 
 -- 1 to 3, or what follows
 abbrev pub asRead : Reading → ℕ → ℕ
@@ -80,11 +81,9 @@ module _ (s : Session) (b : Buffers) where
 
     line-sent : sentNumber (sending.sentLine s (b .first) line body out .answer) ≡ pick (isWritable line body) (firstOf (decidedOne line body) (shortness (stanzaText line body) out)) 17
     unfolding sending.sentStanza
-    line-sent = go (isWritable line body)
-      where
-        go : (f : Bool) → sentNumber (pick f (sending.sentStanza s (b .first) line body out) (sending.refusedSending 17 s (b .first) out) .answer) ≡ pick f (firstOf (decidedOne line body) (shortness (stanzaText line body) out)) 17
-        go true = picked (λ (r : sending.Sent). sentNumber (r .answer)) (firstOf (decidedOne line body) (shortness (stanzaText line body) out)) _ _ refl refl
-        go false = refl
+    line-sent =
+        by-writable (λ r. sentNumber (r .answer) ≡ pick (isWritable line body) (firstOf (decidedOne line body) (shortness (stanzaText line body) out)) 17) s (b .first) line body out
+        (λ w. rw w (picked (λ (r : sending.Sent). sentNumber (r .answer)) (firstOf (decidedOne line body) (shortness (stanzaText line body) out)) _ _ refl refl)) (λ w. rw w)
 
     pub given-send : outcome s b (send word arguments body out) .number ≡
         firstOf (turnOne (s .phase)) (pick (isWritable line body) (firstOf (decidedOne line body) (shortness (stanzaText line body) out)) 17)
