@@ -26,7 +26,7 @@ use Rattle.session.specs.declared.opening.Machine.the-variants.{RecipientV1, Id
 use Rattle.session.specs.declared.phases.Phase.{Phase}
 use Rattle.session.specs.declared.phases.Phase.the-variants.{One, Two, Awaiting, Ended, Closed}
 use Rattle.session.specs.declared.words.WordTwo.{WordTwo}
-use Rattle.session.specs.declared.words.WordTwo.the-variants.{Msg, Confirm, RequestPublic, RequestSecret, RecipientStanza, FileKey, Error, Other, Done}
+use Rattle.session.specs.declared.words.WordTwo.the-variants.{Msg, Confirm, RequestPublic, RequestSecret, RecipientStanza, FileKey, Error, Other}
 use Rattle.phase_one.specs.Commands as one-command
 use Rattle.phase_one.specs.Commands.{addRecipient, addIdentity, wrapFileKey, recipientStanza, doneWord, restOf}
 use Rattle.phase_one.specs.Views as one-kind
@@ -240,27 +240,27 @@ pub data Together (Says : SayingTwo ℕ → Type 0) (rows : AnyKind → List Row
       SomeRow (λ e. (e .mark ≡ 3) × RowAt (λ r. r .index ≡ f) (rows (first headers)) (e .index)) (rows (second errors)) → Together Says rows
   error-with-key : (f i : ℕ) → Says (reports (header f i)) → SomeRow (λ r. r .index ≡ f) (rows (second returned)) → Together Says rows
 
--- an unsound recipient or identity has a mark other than 0
-abbrev pub Unsound : Row → Type 0
-Unsound r = r .mark ≡ 0 → ⊥
+-- an invalid recipient or identity has a mark other than 0
+abbrev pub Invalid : Row → Type 0
+Invalid r = r .mark ≡ 0 → ⊥
 
 -- there is no error with a mark for a number
 abbrev pub NoError : ℕ → ℕ → List Row → Type 0
 NoError mark n es = SomeRow (λ e. (e .mark ≡ mark) × (e .index ≡ n)) es → ⊥
 
--- No. 19, "plugin end: held back by an unsound entry or faulty stanza, or error for an unknown stanza". A header stanza's mark: 1 faulty, 2 unknown; an error's:
--- 1 it names an identity, 2 a recipient, 3 a header stanza
+-- No. 19, "plugin end: held back by an unsound entry or faulty stanza, or error for an unknown stanza". A header stanza's mark: 1 nonconforming, 2 unknown; an
+-- error's: 1 it names an identity, 2 a recipient, 3 a header stanza
 pub data Held (Says : SayingTwo ℕ → Type 0) (rows : AnyKind → List Row) : Type 0 where
   -- "while any recipient or identity is unsound it sends no stanza and no key"
-  stanza-held : (f : ℕ) → Says (returns-stanza f) → SomeRow Unsound (rows (first recipients)) ⊎ SomeRow Unsound (rows (first identities)) → Held Says rows
-  key-held : (f : ℕ) → Says (returns-key f) → SomeRow Unsound (rows (first recipients)) ⊎ SomeRow Unsound (rows (first identities)) → Held Says rows
+  stanza-held : (f : ℕ) → Says (returns-stanza f) → SomeRow Invalid (rows (first recipients)) ⊎ SomeRow Invalid (rows (first identities)) → Held Says rows
+  key-held : (f : ℕ) → Says (returns-key f) → SomeRow Invalid (rows (first recipients)) ⊎ SomeRow Invalid (rows (first identities)) → Held Says rows
   -- "it sends no key for a file with a faulty fido2-hmac stanza"
-  key-faulty : (f : ℕ) → Says (returns-key f) → SomeRow (λ r. (r .mark ≡ 1) × (r .index ≡ f)) (rows (first headers)) → Held Says rows
+  key-nonconforming : (f : ℕ) → Says (returns-key f) → SomeRow (λ r. (r .mark ≡ 1) × (r .index ≡ f)) (rows (first headers)) → Held Says rows
   -- "the plugin end sends no error stanza for" an unknown stanza
   error-unknown : (f i : ℕ) → Says (reports (header f i)) → RowAt (λ r. r .mark ≡ 2) (rows (first headers)) i → Held Says rows
   -- "It sends done only after each unsound entry and each faulty stanza has had its error"
-  recipient-owed : Says ends-two → (n : ℕ) → RowAt Unsound (rows (first recipients)) n → NoError 2 n (rows (second errors)) → Held Says rows
-  identity-owed : Says ends-two → (n : ℕ) → RowAt Unsound (rows (first identities)) n → NoError 1 n (rows (second errors)) → Held Says rows
+  recipient-owed : Says ends-two → (n : ℕ) → RowAt Invalid (rows (first recipients)) n → NoError 2 n (rows (second errors)) → Held Says rows
+  identity-owed : Says ends-two → (n : ℕ) → RowAt Invalid (rows (first identities)) n → NoError 1 n (rows (second errors)) → Held Says rows
   stanza-owed : Says ends-two → (n : ℕ) → RowAt (λ r. r .mark ≡ 1) (rows (first headers)) n → NoError 3 n (rows (second errors)) → Held Says rows
 
 -- ---- No. 8, "no place, or room too short"
@@ -328,25 +328,24 @@ pub data WrittenAtOnce (screen : Bool) (Known : Type 0) (Says : SayingTwo ℕ �
   for-other : (Known → ⊥) → r ≡ Unsupported → WrittenAtOnce screen Known Says r
   for-question : (q : Question) → Says (asks q) → screen ≡ false → r ≡ Fail → WrittenAtOnce screen Known Says r
 
--- ---- the calls
+-- ---- the calls. Of a command of phase one or two, by its arguments' text and its body
 
--- of a command of phase one or two, by its arguments' text and its body
+-- No. 4
+abbrev pub WrongIn : Session → Brought → Type 0
+WrongIn s (in-one line body) = Wrong (KnownOne (s .machine) line) (RowOne (s .machine) (words line) body)
+WrongIn s (in-two line body) = Wrong (KnownTwo (s .machine) line) (RowTwo (s .machine) (words line) body)
+WrongIn s no-command = ⊥
+
+-- No. 5
+abbrev pub MisindexedIn : Session → Brought → Type 0
+MisindexedIn s (in-one line body) = Misindexed (RowOne (s .machine) (words line) body) indicesOne
+MisindexedIn s (in-two line body) = Misindexed (RowTwo (s .machine) (words line) body) indicesTwo
+MisindexedIn s no-command = ⊥
+
 module _ (s : Session) (b : Buffers) where
   -- the rows that the tables show
   abbrev pub rowsShown : AnyKind → List Row
   rowsShown k = viewOf k (s .tables) b
-
-  -- No. 4
-  abbrev pub WrongIn : Brought → Type 0
-  WrongIn (in-one line body) = Wrong (KnownOne (s .machine) line) (RowOne (s .machine) (words line) body)
-  WrongIn (in-two line body) = Wrong (KnownTwo (s .machine) line) (RowTwo (s .machine) (words line) body)
-  WrongIn no-command = ⊥
-
-  -- No. 5
-  abbrev pub MisindexedIn : Brought → Type 0
-  MisindexedIn (in-one line body) = Misindexed (RowOne (s .machine) (words line) body) indicesOne
-  MisindexedIn (in-two line body) = Misindexed (RowTwo (s .machine) (words line) body) indicesTwo
-  MisindexedIn no-command = ⊥
 
   -- No. 6
   abbrev pub MissingIn : Brought → Type 0
@@ -438,22 +437,22 @@ UnwrittenIn (send-two word arguments body out) = Unwritten (two-command.lineSent
 UnwrittenIn (respond text out) = ⊥
 
 -- No. 15, "output longer than the lent room": the text that is sent, the reply's, the response at once, or the body of a response
-abbrev pub Overflowing : Session → Buffers → Call → Type 0
-Overflowing s b (receive text) = ⊥
-Overflowing s b (send word arguments body out) = length out < length (stanzaText (one-command.lineSent word arguments) body)
-Overflowing s b (receive-two text out) =
+abbrev pub Overflowing : Session → Call → Type 0
+Overflowing s (receive text) = ⊥
+Overflowing s (send word arguments body out) = length out < length (stanzaText (one-command.lineSent word arguments) body)
+Overflowing s (receive-two text out) =
     (r : Response) × WrittenAtOnce (s .screen) (KnownTwo (s .machine) (lineIn text)) (SaysTwo (s .machine) (lineIn text) (bodyIn text)) r × (length out < length (stanzaText (responseLine r) []))
-Overflowing s b (reply r body out) = length out < length (stanzaText (responseLine r) body)
-Overflowing s b (send-two word arguments body out) = length out < length (stanzaText (two-command.lineSent word arguments) body)
-Overflowing s b (respond text out) = length out < length (bodyIn text)
+Overflowing s (reply r body out) = length out < length (stanzaText (responseLine r) body)
+Overflowing s (send-two word arguments body out) = length out < length (stanzaText (two-command.lineSent word arguments) body)
+Overflowing s (respond text out) = length out < length (bodyIn text)
 
 -- each fault; 16 and 18 are given outside a session
 abbrev pub Holds : Session → Buffers → Call → Refusal → Type 0
 Holds s b c NotStanza = ReadsAs c 1
 Holds s b c Unfinished = ReadsAs c 2
 Holds s b c TooLong = ReadsAs c 3
-Holds s b c BadCommand = WrongIn s b (broughtBy c)
-Holds s b c BadIndex = MisindexedIn s b (broughtBy c)
+Holds s b c BadCommand = WrongIn s (broughtBy c)
+Holds s b c BadIndex = MisindexedIn s (broughtBy c)
 Holds s b c NoSuchIndex = MissingIn s b (broughtBy c)
 Holds s b c FallingIndex = FallingIn s b (broughtBy c)
 Holds s b c NoSpace = SpacelessIn s b (broughtBy c)
@@ -463,7 +462,7 @@ Holds s b c WorkAndError = TogetherIn s b (broughtBy c)
 Holds s b c UnfitResponse = Unfit c (s .phase)
 Holds s b c SessionOver = Over (s .phase)
 Holds s b c OutOfTurn = InTurn c (s .phase) → ⊥
-Holds s b c ShortOutput = Overflowing s b c
+Holds s b c ShortOutput = Overflowing s c
 Holds s b c NotBech32 = ⊥
 Holds s b c Unwritable = UnwrittenIn c
 Holds s b c NoSuchMachine = ⊥

@@ -1,20 +1,20 @@
 -- The conditions of phase two's numbers, and the decision's tests: each holds exactly if its test does. For every session that an opening and calls can reach.
 use Prim.Native.Nat.{ℕ, zero, suc, _+_, _<_, _≤_}
-use mathlib.Core.Path.{_≡_, refl, sym, ap, ap₂, _∙_, subst}
+use mathlib.Core.Path.{_≡_, refl, sym, ap, _∙_, subst}
 use mathlib.Core.Bool.{Bool, true, false, not, _&&_, _||_, true≢false, false≢true}
 use mathlib.Core.Logic.{_⊎_, inl, inr, ⊎-elim, _↔_}
 use mathlib.Core.List.{List, [], _∷_, _++_}
 use lib.Dec.{ltb, leb, eqb}
-use lib.ListN.{length, take, length-map}
+use lib.ListN.{length, length-map}
 use native.Mathlib.Omega.{arith}
 use borrow.Author.Tests.{ltb-true, ltb-false, leb-true, leb-false, lt-ltb, le-ltb, le-leb, lt-leb, eqb-true, eqb-false, eq-eqb, ne-eqb, not-true, not-false}
 use Rattle.refusal.specs.Pick.{pick}
-use Rattle.refusal.proofs.Laws.Booleans.{and-true, true-and, and-false-right, cases}
+use Rattle.refusal.proofs.Laws.Booleans.{and-true, true-and}
 use Rattle.tables.specs.declared.slots.Entry.{Entry}
 use Rattle.tables.specs.Tables.{Row, fits, rowOf}
 use Rattle.tables.proofs.Laws.Tables.{Kept, Chained, view-count}
 use Rattle.session.specs.Session.{Session}
-use Rattle.session.specs.Tables.{Tables, openedTables}
+use Rattle.session.specs.Tables.{Tables}
 use Rattle.phase_one.specs.Views as one-kind
 use Rattle.phase_one.specs.Views.{recipients, identities, keys, headers}
 use Rattle.phase_one.proofs.Laws.Views.{Reached}
@@ -24,7 +24,7 @@ use Rattle.conversation.specs.PhaseTwo as two
 use Rattle.conversation.specs.PhaseTwo.{errors, stanzas, returned, Label, labels, howMany, isAny, passes, isFile, isNaming, isAbout, stanzasFor, mostStanzas, hasKey, isMissing, isSecondKey, isTooMany, isAgainstKey, isClashing, isSpaceless, isInvalid, anyInvalid, isNonconforming, isUnknown, areReported, isHeldBack}
 use Rattle.conversation.specs.Kinds.{AnyKind, first, second, Buffers, tableOf, viewOf, ofFile}
 use Rattle.conversation.specs.Allowed.{RowAt}
-use Rattle.conversation.specs.Numbers.{Naming, internal, identity, recipient, header, SayingTwo, returns-stanza, returns-key, reports, ends-two, KnownTwo, SaysTwo, SomeRow, Missing, no-file-key, no-file, no-identity, no-recipient, no-stanza, Second, TooMany, Together, stanza-with-errors, error-with-stanzas, key-with-error, error-with-key, Unsound, NoError, Held, stanza-held, key-held, key-faulty, error-unknown, recipient-owed, identity-owed, stanza-owed, entriesOf, lengthsOf, slotsFor, bufferFor, Full, stanzaPayload, SpacelessTwo, stanza-spaceless, returned-spaceless, error-spaceless}
+use Rattle.conversation.specs.Numbers.{Naming, internal, identity, recipient, header, SayingTwo, returns-stanza, returns-key, reports, ends-two, SaysTwo, SomeRow, Missing, no-file-key, no-file, no-identity, no-recipient, no-stanza, Second, TooMany, Together, stanza-with-errors, error-with-stanzas, key-with-error, error-with-key, Invalid, NoError, Held, stanza-held, key-held, key-nonconforming, error-unknown, recipient-owed, identity-owed, stanza-owed, entriesOf, lengthsOf, slotsFor, bufferFor, Full, stanzaPayload, SpacelessTwo, stanza-spaceless, returned-spaceless, error-spaceless}
 use Rattle.conversation.proofs.Laws.DecidedTwo.{rowLabel, rowLabels, labels-view}
 use Rattle.conversation.proofs.Laws.PresentTwo.{at-iff, any-iff}
 use Rattle.conversation.proofs.Laws.Reached.{ReachedSession}
@@ -292,14 +292,14 @@ module _ (s : Session) (b : Buffers) (r : ReachedSession s) where
     spaceless-from (bad n) h e = absurd (false≢true e)
 
     -- No. 19
-    unsound : (x : Row) → (isInvalid (rowLabel x) ≡ true) ↔ Unsound x
-    unsound x = (λ e. eqb-false (x .mark) 0 (not-true _ e), λ h. ap not (ne-eqb (x .mark) 0 h))
+    invalid : (x : Row) → (isInvalid (rowLabel x) ≡ true) ↔ Invalid x
+    invalid x = (λ e. eqb-false (x .mark) 0 (not-true _ e), λ h. ap not (ne-eqb (x .mark) 0 h))
 
-    faulty : (x : Row) → (isNonconforming (rowLabel x) ≡ true) ↔ (x .mark ≡ 1)
-    faulty x = (eqb-true (x .mark) 1, eq-eqb (x .mark) 1)
+    nonconforming : (x : Row) → (isNonconforming (rowLabel x) ≡ true) ↔ (x .mark ≡ 1)
+    nonconforming x = (eqb-true (x .mark) 1, eq-eqb (x .mark) 1)
 
-    faulty-of : (f : ℕ) (x : Row) → ((isNonconforming (rowLabel x) && isFile f (rowLabel x)) ≡ true) ↔ ((x .mark ≡ 1) × (x .index ≡ f))
-    faulty-of f x = (
+    nonconforming-of : (f : ℕ) (x : Row) → ((isNonconforming (rowLabel x) && isFile f (rowLabel x)) ≡ true) ↔ ((x .mark ≡ 1) × (x .index ≡ f))
+    nonconforming-of f x = (
       λ e. let a = and-true (eqb (x .mark) 1) (eqb (x .index) f) e in (eqb-true (x .mark) 1 (a .0), eqb-true (x .index) f (a .1)),
       λ h. true-and (eqb (x .mark) 1) (eqb (x .index) f) (eq-eqb (x .mark) 1 (h .0)) (eq-eqb (x .index) f (h .1)),
     )
@@ -307,9 +307,9 @@ module _ (s : Session) (b : Buffers) (r : ReachedSession s) where
     unknown-at : (i : ℕ) → (passes isUnknown (labels (t .headers)) i ≡ true) ↔ RowAt (λ x. x .mark ≡ 2) (rows (first headers)) i
     unknown-at i = row-at isUnknown (λ x. x .mark ≡ 2) (λ x. (eqb-true (x .mark) 2, eq-eqb (x .mark) 2)) (first headers) i
 
-    any-unsound : (anyInvalid t ≡ true) ↔ (SomeRow Unsound (rows (first recipients)) ⊎ SomeRow Unsound (rows (first identities)))
-    any-unsound =
-        let i = some-row isInvalid Unsound unsound in (
+    any-invalid : (anyInvalid t ≡ true) ↔ (SomeRow Invalid (rows (first recipients)) ⊎ SomeRow Invalid (rows (first identities)))
+    any-invalid =
+        let i = some-row isInvalid Invalid invalid in (
           λ e. ⊎-elim (λ q. inl (i (first recipients) .0 q)) (λ q. inr (i (first identities) .0 q)) (or-true (isAny isInvalid (labels (t .recipients))) (isAny isInvalid (labels (t .identities))) e),
           λ h. true-or (isAny isInvalid (labels (t .recipients))) (isAny isInvalid (labels (t .identities))) (⊎-elim (λ q. inl (i (first recipients) .1 q)) (λ q. inr (i (first identities) .1 q)) h),
         )
@@ -343,31 +343,31 @@ module _ (s : Session) (b : Buffers) (r : ReachedSession s) where
     headersReported = areReported isNonconforming 3 0 (labels (t .headers)) (labels (t .errors))
 
     pub held-to : Held Says rows → isHeldBack t said ≡ true
-    held-to (stanza-held f h u) = tested (isHeldBack t) (returns-stanza f) h (any-unsound .1 u)
-    held-to (key-held f h u) = tested (isHeldBack t) (returns-key f) h (true-or _ _ (inl (any-unsound .1 u)))
-    held-to (key-faulty f h u) = tested (isHeldBack t) (returns-key f) h (true-or (anyInvalid t) _ (inr (some-row _ _ (faulty-of f) (first headers) .1 u)))
+    held-to (stanza-held f h u) = tested (isHeldBack t) (returns-stanza f) h (any-invalid .1 u)
+    held-to (key-held f h u) = tested (isHeldBack t) (returns-key f) h (true-or _ _ (inl (any-invalid .1 u)))
+    held-to (key-nonconforming f h u) = tested (isHeldBack t) (returns-key f) h (true-or (anyInvalid t) _ (inr (some-row _ _ (nonconforming-of f) (first headers) .1 u)))
     held-to (error-unknown f i h u) = tested (isHeldBack t) (reports (header f i)) h (unknown-at i .1 u)
     held-to (recipient-owed h n u y) =
-        tested (isHeldBack t) ends-two h (ap not (false-and (recipientsReported && identitiesReported) headersReported (inl (false-and recipientsReported identitiesReported (inl (owes isInvalid Unsound unsound 2 (first recipients) n u y))))))
+        tested (isHeldBack t) ends-two h (ap not (false-and (recipientsReported && identitiesReported) headersReported (inl (false-and recipientsReported identitiesReported (inl (owes isInvalid Invalid invalid 2 (first recipients) n u y))))))
     held-to (identity-owed h n u y) =
-        tested (isHeldBack t) ends-two h (ap not (false-and (recipientsReported && identitiesReported) headersReported (inl (false-and recipientsReported identitiesReported (inr (owes isInvalid Unsound unsound 1 (first identities) n u y))))))
+        tested (isHeldBack t) ends-two h (ap not (false-and (recipientsReported && identitiesReported) headersReported (inl (false-and recipientsReported identitiesReported (inr (owes isInvalid Invalid invalid 1 (first identities) n u y))))))
     held-to (stanza-owed h n u y) =
-        tested (isHeldBack t) ends-two h (ap not (false-and (recipientsReported && identitiesReported) headersReported (inr (owes isNonconforming (λ x. x .mark ≡ 1) faulty 3 (first headers) n u y))))
+        tested (isHeldBack t) ends-two h (ap not (false-and (recipientsReported && identitiesReported) headersReported (inr (owes isNonconforming (λ x. x .mark ≡ 1) nonconforming 3 (first headers) n u y))))
 
     done-owes : Says ends-two → not (recipientsReported && identitiesReported && headersReported) ≡ true → Held Says rows
     done-owes h e =
         ⊎-elim
         (λ q. ⊎-elim
-        (λ z. let j = owed isInvalid Unsound unsound 2 (first recipients) z in recipient-owed h (j .0) (j .1) (j .2))
-        (λ z. let j = owed isInvalid Unsound unsound 1 (first identities) z in identity-owed h (j .0) (j .1) (j .2))
+        (λ z. let j = owed isInvalid Invalid invalid 2 (first recipients) z in recipient-owed h (j .0) (j .1) (j .2))
+        (λ z. let j = owed isInvalid Invalid invalid 1 (first identities) z in identity-owed h (j .0) (j .1) (j .2))
         (and-false recipientsReported identitiesReported q))
-        (λ z. let j = owed isNonconforming (λ x. x .mark ≡ 1) faulty 3 (first headers) z in stanza-owed h (j .0) (j .1) (j .2))
+        (λ z. let j = owed isNonconforming (λ x. x .mark ≡ 1) nonconforming 3 (first headers) z in stanza-owed h (j .0) (j .1) (j .2))
         (and-false (recipientsReported && identitiesReported) headersReported (not-true _ e))
 
     pub held-from : (c : CommandTwo) → Said c → isHeldBack t c ≡ true → Held Says rows
     held-from (ask w) h e = absurd (false≢true e)
-    held-from (stanza f) h e = stanza-held f h (any-unsound .0 e)
-    held-from (key f) h e = ⊎-elim (λ q. key-held f h (any-unsound .0 q)) (λ q. key-faulty f h (some-row _ _ (faulty-of f) (first headers) .0 q)) (or-true (anyInvalid t) _ e)
+    held-from (stanza f) h e = stanza-held f h (any-invalid .0 e)
+    held-from (key f) h e = ⊎-elim (λ q. key-held f h (any-invalid .0 q)) (λ q. key-nonconforming f h (some-row _ _ (nonconforming-of f) (first headers) .0 q)) (or-true (anyInvalid t) _ e)
     held-from (error command.internal) h e = absurd (false≢true e)
     held-from (error (command.identity i)) h e = absurd (false≢true e)
     held-from (error (command.recipient i)) h e = absurd (false≢true e)

@@ -1,8 +1,8 @@
 -- The decision of phase two, test by test: it finds no fault exactly if the command is right, what it names is there, and the sums of the tables with what it adds
 -- keep the limits.
-use Prim.Native.Nat.{ℕ, zero, suc, _+_, _<_}
+use Prim.Native.Nat.{ℕ, zero, suc, _+_}
 use mathlib.Core.Path.{_≡_, refl, sym, ap, _∙_}
-use mathlib.Core.Bool.{Bool, true, false, _&&_, true≢false, false≢true}
+use mathlib.Core.Bool.{Bool, true, false, _&&_, false≢true}
 use mathlib.Core.Logic.{_↔_}
 use mathlib.Core.List.{List, [], _∷_, _++_, map, map-append}
 use lib.Dec.{eqb}
@@ -15,9 +15,8 @@ use Rattle.tables.specs.declared.slots.Entry.{Entry}
 use Rattle.tables.specs.Tables.{Table, Row, fits, entered, rowOf, view, kept}
 use Rattle.tables.proofs.Laws.Tables.{Kept, entered-view}
 use Rattle.session.specs.Tables.{Tables}
-use Rattle.refusal.specs.Verdict.{firstOf}
 use Rattle.conversation.specs.CommandsTwo.{CommandTwo}
-use Rattle.conversation.specs.PhaseTwo.{BuffersTwo, Label, labelOf, labels, howMany, passes, isFile, isMissing, isSecondKey, isTooMany, isClashing, isSpaceless, isHeldBack, when, faultOf, ruled, decided}
+use Rattle.conversation.specs.PhaseTwo.{BuffersTwo, Label, labelOf, labels, howMany, passes, isFile, isMissing, isSecondKey, isTooMany, isClashing, isSpaceless, isHeldBack, faultOf, ruled, decided}
 use Rattle.conversation.proofs.Laws.Firsts.{first-iff}
 
 -- ---- the first fault

@@ -7,14 +7,14 @@ use mathlib.Core.List.{List, [], _∷_, _++_}
 use lib.Dec.{ltb, leb, eqb}
 use lib.ListN.{length, take}
 use native.Mathlib.Omega.{arith}
-use borrow.Author.Tests.{ltb-true, lt-ltb, leb-true, leb-false, lt-leb, eqb-true, eqb-false, eq-eqb, ne-eqb, not-true, not-false}
+use borrow.Author.Tests.{ltb-true, lt-ltb, leb-true, leb-false, eqb-true, eqb-false, ne-eqb, not-true}
 use Rattle.refusal.specs.Number.{numberOf}
 use Rattle.refusal.specs.Output.{overflows}
 use Rattle.refusal.specs.Pick.{pick}
 use Rattle.refusal.specs.Verdict.{firstOf}
 use Rattle.refusal.specs.declared.Refusal.{Refusal}
 use Rattle.refusal.specs.declared.Refusal.the-variants.{NotStanza, Unfinished, TooLong, BadCommand, BadIndex, NoSuchIndex, FallingIndex, NoSpace, SecondKey, TooManyStanzas, WorkAndError, UnfitResponse, SessionOver, OutOfTurn, ShortOutput, NotBech32, Unwritable, NoSuchMachine, HeldBack}
-use Rattle.refusal.proofs.Laws.Booleans.{and-true, true-and, cases}
+use Rattle.refusal.proofs.Laws.Booleans.{and-true, cases}
 use Rattle.refusal.proofs.Laws.Number.{number-not-zero}
 use Rattle.stanza.specs.Arguments.{words, isLine}
 use Rattle.stanza.specs.Automaton.{Scan, bad, short, whole, scan, start}
@@ -39,13 +39,13 @@ use Rattle.conversation.specs.Kinds.{Buffers}
 use Rattle.conversation.specs.Calls.{Call, receive, send, receive-two, reply, send-two, respond, outcome, Brought, in-one, in-two, broughtBy}
 use Rattle.conversation.specs.CommandsTwo as command
 use Rattle.conversation.specs.CommandsTwo.{CommandTwo, ask, key, error, done, other, commandTwo, payloadOf, lineSent}
-use Rattle.conversation.specs.PhaseTwo.{isMissing, isSecondKey, isTooMany, isClashing, isSpaceless, isHeldBack, when, faultOf, ruled, decided}
+use Rattle.conversation.specs.PhaseTwo.{isMissing, isSecondKey, isTooMany, isClashing, isSpaceless, isHeldBack, when, faultOf, decided}
 use Rattle.conversation.specs.Phases.{lineIn, bodyIn, CallWith, afterEach}
 use Rattle.conversation.specs.ReceivingTwo.{AtOnce, writes, silent, atOnce, textOf}
 use Rattle.conversation.specs.Replying.{numberReplied}
 use Rattle.conversation.specs.Sending.{shortness}
 use Rattle.conversation.specs.TurnsTwo.{turnTwo, dueIn}
-use Rattle.conversation.specs.Numbers.{Question, message, confirmation, public-value, secret-value, Naming, internal, identity, recipient, header, SayingTwo, asks, returns-stanza, returns-key, reports, SaysTwo, WrittenAtOnce, for-stanza, for-key, for-error, for-other, for-question, RowOne, RowTwo, KnownOne, KnownTwo, indicesOne, indicesTwo, Wrong, Misindexed, WrongIn, MisindexedIn, MissingIn, FallingIn, SpacelessIn, SecondIn, TooManyIn, TogetherIn, HeldIn, Fitting, msg-answered, confirm-answered, public-given, public-failed, secret-given, secret-failed, stanza-answered, key-answered, error-answered, other-answered, Over, InTurn, ReadsAs, Unwritten, Holds, Condition, orderOf, FirstOf, no-number, this-number, later-number}
+use Rattle.conversation.specs.Numbers.{Question, message, confirmation, public-value, secret-value, Naming, internal, identity, recipient, header, SayingTwo, asks, returns-stanza, returns-key, reports, SaysTwo, WrittenAtOnce, for-stanza, for-key, for-error, for-other, for-question, RowOne, RowTwo, KnownOne, KnownTwo, indicesOne, indicesTwo, Wrong, Misindexed, WrongIn, MisindexedIn, MissingIn, FallingIn, SpacelessIn, SecondIn, TooManyIn, TogetherIn, Fitting, msg-answered, confirm-answered, public-given, public-failed, secret-given, secret-failed, stanza-answered, key-answered, error-answered, other-answered, Over, InTurn, ReadsAs, Unwritten, Holds, Condition, orderOf, FirstOf, no-number, this-number, later-number}
 use Rattle.conversation.proofs.Laws.ConditionsOne.{faultOne, isFalling, isSpacelessOne, decided-tests, falling-to, falling-from, spaceless-one-to, spaceless-one-from}
 use Rattle.conversation.proofs.Laws.ConditionsTwo.{refuted, missing-to, missing-from, second-to, second-from, too-many-to, too-many-from, together-to, together-from, spaceless-to, spaceless-from, held-to, held-from}
 use Rattle.conversation.proofs.Laws.Given.{asRead, decidedOne, decidedTwo, atOnceText, byDue, unfitness, given-receive, given-send, given-receive-two, given-send-two, given-reply, given-respond}
@@ -420,8 +420,8 @@ module _ (s : Session) (b : Buffers) (c : Call) where
         let n = decidedTwo s b own line body in
         let four = wrong-from (s .machine) line body commandSaid saidSo in
         let five = misindexed-from (s .machine) line body commandSaid saidSo in
-        step-two BadCommand (WrongIn s b) (λ h. h, λ h. h) (5 ∷ 6 ∷ 7 ∷ 9 ∷ 10 ∷ 11 ∷ ks) n (isBad 4 commandSaid) four (λ h. ap (isBad 4) (wrong-command (s .machine) line body h)) (λ f. rw (ap faultOf (wrong-command (s .machine) line body (four f))))
-        (λ b4. step-two BadIndex (MisindexedIn s b) (λ h. h, λ h. h) (6 ∷ 7 ∷ 9 ∷ 10 ∷ 11 ∷ ks) n (isBad 5 commandSaid) five (λ h. ap (isBad 5) (misindexed-command (s .machine) line body h)) (λ f. rw (ap faultOf (misindexed-command (s .machine) line body (five f))))
+        step-two BadCommand (WrongIn s) (λ h. h, λ h. h) (5 ∷ 6 ∷ 7 ∷ 9 ∷ 10 ∷ 11 ∷ ks) n (isBad 4 commandSaid) four (λ h. ap (isBad 4) (wrong-command (s .machine) line body h)) (λ f. rw (ap faultOf (wrong-command (s .machine) line body (four f))))
+        (λ b4. step-two BadIndex (MisindexedIn s) (λ h. h, λ h. h) (6 ∷ 7 ∷ 9 ∷ 10 ∷ 11 ∷ ks) n (isBad 5 commandSaid) five (λ h. ap (isBad 5) (misindexed-command (s .machine) line body h)) (λ f. rw (ap faultOf (misindexed-command (s .machine) line body (five f))))
         (λ b5. let z : faultOf commandSaid ≡ 0 = fault-is (s .machine) line body commandSaid saidSo ∙ rw (b4, b5) in
         step-two NoSuchIndex (MissingIn s b) (λ h. h, λ h. h) (7 ∷ 9 ∷ 10 ∷ 11 ∷ ks) n missing (missing-from s b reached line body commandSaid saidSo) (missing-to s b reached line body) (λ f. rw (z, f))
         (λ m. there FallingIndex (λ h. subst (FallingIn s b) brought h)
@@ -463,8 +463,8 @@ module _ (s : Session) (b : Buffers) (c : Call) where
     fault-one =
         subst (FirstOf P (4 ∷ 5 ∷ [])) (sym (fault-one-is (s .machine) line body oneSaid oneSo))
         (both (4 ∷ []) (5 ∷ []) _ _
-        (test-one BadCommand (WrongIn s b) (λ h. h, λ h. h) (isBadOne 4 oneSaid) 4 refl (wrong-one-from (s .machine) line body oneSaid oneSo) (λ h. ap (isBadOne 4) (wrong-one (s .machine) line body (s .name) h)))
-        (λ z. test-one BadIndex (MisindexedIn s b) (λ h. h, λ h. h) (isBadOne 5 oneSaid) 5 refl (misindexed-one-from (s .machine) line body oneSaid oneSo) (λ h. ap (isBadOne 5) (misindexed-one (s .machine) line body (s .name) h))))
+        (test-one BadCommand (WrongIn s) (λ h. h, λ h. h) (isBadOne 4 oneSaid) 4 refl (wrong-one-from (s .machine) line body oneSaid oneSo) (λ h. ap (isBadOne 4) (wrong-one (s .machine) line body (s .name) h)))
+        (λ z. test-one BadIndex (MisindexedIn s) (λ h. h, λ h. h) (isBadOne 5 oneSaid) 5 refl (misindexed-one-from (s .machine) line body oneSaid oneSo) (λ h. ap (isBadOne 5) (misindexed-one (s .machine) line body (s .name) h))))
 
     -- `ks` where nothing of it is given in phase one
     decided-one : (ks : List ℕ) → FirstOf P ks 0 → FirstOf P (4 ∷ 5 ∷ 6 ∷ 7 ∷ 9 ∷ 10 ∷ 11 ∷ ks ++ (8 ∷ [])) (decidedOne s b line body)

@@ -1,5 +1,5 @@
 -- The command that an arguments' text and a body are read as, by the rows of phase one's table.
-use Prim.Native.Nat.{ℕ, _≤_}
+use Prim.Native.Nat.{ℕ}
 use mathlib.Core.Path.{_≡_, refl, sym, ap, _∙_, subst}
 use mathlib.Core.Bool.{Bool, true, false, _&&_, true≢false}
 use mathlib.Core.Logic.{_⊎_, inl, inr, ⊎-elim}
@@ -7,7 +7,7 @@ use mathlib.Core.List.{List, [], _∷_}
 use lib.Dec.{leb, eqb}
 use lib.ListN.{length, getD}
 use native.Mathlib.Omega.{arith}
-use borrow.Author.Tests.{eqb-true, leb-true, le-leb}
+use borrow.Author.Tests.{eqb-true, leb-true}
 use Rattle.refusal.specs.Pick.{pick}
 use Rattle.refusal.specs.Same.{same}
 use Rattle.refusal.proofs.Laws.Booleans.{and-true}
@@ -23,7 +23,7 @@ use Rattle.session.specs.declared.opening.Machine.the-variants.{RecipientV1, Id
 use Rattle.phase_one.specs.Commands.{WordOne, add-recipient, add-identity, wrap-file-key, recipient-stanza, done-word, other-word, addRecipient, addIdentity, wrapFileKey, recipientStanza, doneWord, wordIn, CommandOne, recipient, identity, key, header, done, other, bad, indexed, headerMark, isBare, rowCommand}
 use Rattle.phase_one.specs.PhaseOne.{commandIn}
 use Rattle.conversation.specs.Phases.{All}
-use Rattle.conversation.specs.Numbers.{SayingOne, adds-recipient, adds-identity, wraps-key, brings-stanza, ends-one, RowOne, OneOf, KnownOne, indicesOne, writtenOne, Small, IsIndex, SaysOne, Wrong, Misindexed}
+use Rattle.conversation.specs.Numbers.{SayingOne, adds-recipient, adds-identity, wraps-key, brings-stanza, ends-one, RowOne, OneOf, KnownOne, indicesOne, IsIndex, SaysOne, Wrong, Misindexed}
 use Rattle.conversation.proofs.Laws.RowsTwo.{words-one, words-two, words-more, no-bytes, by-index, three-more}
 
 module _ (name line body : List ℕ) where

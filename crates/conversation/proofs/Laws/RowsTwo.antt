@@ -1,13 +1,13 @@
 -- The command that an arguments' text and a body are read as, by the rows of phase two's table.
-use Prim.Native.Nat.{ℕ, suc, _+_, _<_, _≤_}
+use Prim.Native.Nat.{ℕ, _≤_}
 use mathlib.Core.Path.{_≡_, refl, sym, ap, ap₂, _∙_, subst}
-use mathlib.Core.Bool.{Bool, true, false, _&&_, _||_, true≢false, false≢true}
-use mathlib.Core.Logic.{_⊎_, inl, inr, ⊎-elim, _↔_}
-use mathlib.Core.List.{List, [], _∷_, _++_}
+use mathlib.Core.Bool.{Bool, true, false, _&&_, _||_, true≢false}
+use mathlib.Core.Logic.{_⊎_, inl, inr, ⊎-elim}
+use mathlib.Core.List.{List, [], _∷_}
 use lib.Dec.{leb, eqb}
 use lib.ListN.{length, getD}
 use native.Mathlib.Omega.{arith}
-use borrow.Author.Tests.{eqb-true, eqb-false, eq-eqb, leb-true, le-leb}
+use borrow.Author.Tests.{eqb-true, leb-true, le-leb}
 use Rattle.refusal.specs.Pick.{pick}
 use Rattle.refusal.specs.Same.{same}
 use Rattle.refusal.proofs.Laws.Booleans.{and-true, cases}
@@ -20,11 +20,11 @@ use Rattle.session.specs.declared.opening.Machine.{Machine}
 use Rattle.session.specs.declared.opening.Machine.the-variants.{RecipientV1, IdentityV1}
 use Rattle.session.specs.declared.words.WordTwo.{WordTwo}
 use Rattle.session.specs.declared.words.WordTwo.the-variants.{Msg, Confirm, RequestPublic, RequestSecret, RecipientStanza, FileKey, Error, Other, Done}
-use Rattle.phase_one.specs.Commands.{recipientStanza, doneWord, isBare}
+use Rattle.phase_one.specs.Commands.{recipientStanza, doneWord}
 use Rattle.conversation.specs.CommandsTwo as command
 use Rattle.conversation.specs.CommandsTwo.{CommandTwo, ask, stanza, key, error, done, other, bad, areLabels, stanzaAt, keyAt, errorAt, headerAt, errorOf, errorCommand, rowTwo, workWord, wordTwo, commandTwo, msgWord, confirmWord, requestPublic, requestSecret, fileKeyWord, errorWord, internalWord, identityWord, recipientWord, stanzaWord}
 use Rattle.conversation.specs.Phases.{All}
-use Rattle.conversation.specs.Numbers.{Question, message, confirmation, public-value, secret-value, Naming, internal, identity, recipient, header, SayingTwo, asks, returns-stanza, returns-key, reports, ends-two, Labels, one-label, two-labels, RowTwo, returningWord, wordsTwo, OneOf, KnownTwo, indicesTwo, writtenTwo, Small, IsIndex, SaysTwo, Wrong, Misindexed}
+use Rattle.conversation.specs.Numbers.{Question, message, confirmation, public-value, secret-value, Naming, internal, identity, recipient, header, SayingTwo, asks, returns-stanza, returns-key, reports, ends-two, Labels, one-label, two-labels, RowTwo, returningWord, OneOf, KnownTwo, indicesTwo, writtenTwo, Small, IsIndex, SaysTwo, Wrong, Misindexed}
 
 -- the command of what is said, its indices as texts
 abbrev pub commandOf : SayingTwo (List ℕ) → CommandTwo

@@ -1,14 +1,14 @@
 -- The number of a sending by the number that receiving its text gives at equal tables; and phase one at the client end: exactly the allowed lists are accepted.
 use Prim.Native.Nat.{ℕ, _+_, _≤_}
 use mathlib.Core.Path.{_≡_, refl, sym, ap, ap₂, _∙_, subst}
-use mathlib.Core.Bool.{Bool, true, false, _&&_, _||_}
-use mathlib.Core.Logic.{inl, inr, ⊎-elim, _↔_}
+use mathlib.Core.Bool.{Bool, true, false}
+use mathlib.Core.Logic.{⊎-elim, _↔_}
 use mathlib.Core.List.{List, [], _∷_, _++_, map, map-append, append-nil}
-use lib.Dec.{eqb, ltb}
+use lib.Dec.{eqb}
 use lib.ListN.{length}
 use lib.Pow.{areBytes}
 use native.Mathlib.Omega.{arith}
-use borrow.Author.Tests.{eqb-true, eqb-false, eq-eqb, ne-eqb, le-ltb}
+use borrow.Author.Tests.{eqb-true, eq-eqb, ne-eqb}
 use Rattle.refusal.specs.Pick.{pick}
 use Rattle.refusal.specs.Verdict.{firstOf}
 use Rattle.refusal.specs.Output.{overflows}
@@ -19,7 +19,6 @@ use Rattle.stanza.specs.Grammar.{stanzaText}
 use Rattle.stanza.specs.Reading.{stanza, readFirst}
 use Rattle.stanza.specs.Writing.{isWritable}
 use Rattle.session.specs.Session.{Session, openedSession, moved}
-use Rattle.session.specs.Tables.{Tables}
 use Rattle.session.specs.declared.opening.Machine.{Machine}
 use Rattle.session.specs.declared.words.WordTwo.{WordTwo}
 use Rattle.phase_one.specs.Commands as one-command
@@ -31,7 +30,7 @@ use Rattle.conversation.specs.Calls.{Call, receive, send, receive-two, s
 use Rattle.conversation.specs.CommandsTwo.{CommandTwo, ask, key, error, done, other, bad, commandTwo, payloadOf, lineSent}
 use Rattle.conversation.specs.CommandsTwo as two-command
 use Rattle.conversation.specs.Kinds.{Buffers, buffersOf}
-use Rattle.conversation.specs.PhaseTwo.{BuffersTwo, isMissing, isSecondKey, isTooMany, isClashing, isHeldBack, isSpaceless, when, faultOf, decided}
+use Rattle.conversation.specs.PhaseTwo.{isMissing, isSecondKey, isTooMany, isClashing, isHeldBack, isSpaceless, faultOf, decided}
 use Rattle.conversation.specs.Phases.{All, Whole, lineIn, bodyIn, isDone, Supply, skip, LongEnough}
 use Rattle.conversation.specs.Sending.{shortness}
 use Rattle.conversation.specs.TurnsTwo.{turnTwo}
@@ -41,7 +40,7 @@ use Rattle.conversation.proofs.Laws.Accepted.{AppliedOne, accepted}
 use Rattle.conversation.proofs.Laws.AllowedOne.{texts-iff}
 use Rattle.conversation.proofs.Laws.Firsts.{first-iff}
 use Rattle.conversation.proofs.Laws.Given.{asRead, decidedOne, decidedTwo, atOnceText, given-receive, given-send, given-receive-two, given-send-two}
-use Rattle.conversation.proofs.Laws.Lists.{all-map, all-append}
+use Rattle.conversation.proofs.Laws.Lists.{all-append}
 use Rattle.conversation.proofs.Laws.RowsTwo.{SaidTwo, said-two}
 use Rattle.conversation.proofs.Laws.StepsTwo.{long-enough}
 use Rattle.conversation.proofs.Laws.WrittenRead.{ReadsBack, reads-back, front}
