@@ -6,6 +6,8 @@ pub mod AllowedSent
 pub mod AllowedTwo
 pub mod Answers
 pub mod CommandsTwo
+pub mod ConditionsOne
+pub mod ConditionsTwo
 pub mod DecidedTwo
 pub mod Examples
 pub mod ExamplesTwo
@@ -14,6 +16,8 @@ pub mod Given
 pub mod LeftTwo
 pub mod Limits
 pub mod Lists
+pub mod NumberParts
+pub mod Numbers
 pub mod Order
 pub mod OrderOne
 pub mod OrderTwo
@@ -24,9 +28,12 @@ pub mod ReceivingTwo
 pub mod Refusals
 pub mod Replying
 pub mod Responding
+pub mod RowsOne
+pub mod RowsTwo
 pub mod Runs
 pub mod Sending
 pub mod SendingTwo
+pub mod SentOne
 pub mod Shapes
 pub mod ShapesOne
 pub mod ShapesSent

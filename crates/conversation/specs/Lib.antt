@@ -16,3 +16,5 @@ pub mod Allowed
 pub mod Given
 pub mod WrittenRead
 pub mod Shapes
+pub mod Numbers
+pub mod SentOne

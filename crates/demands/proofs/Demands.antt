@@ -6,23 +6,32 @@ use mathlib.Core.Bool.{Bool, true, false}
 use mathlib.Core.Logic.{_↔_}
 use mathlib.Core.List.{List, [], _∷_, _++_, map}
 use lib.Pow.{areBytes}
+use Rattle.stanza.specs.Grammar.{stanzaText}
 use Rattle.stanza.specs.Reading.{readFirst, stanza}
+use Rattle.stanza.specs.Writing.{isWritable}
 use Rattle.responses.specs.declared.Response.{Response}
 use Rattle.session.specs.declared.words.WordTwo.{WordTwo}
 use Rattle.phase_one.specs.Commands as one
 use Rattle.phase_one.specs.Commands.{WordOne}
+use Rattle.phase_one.specs.Turns.{turnOne}
 use Rattle.session.specs.declared.opening.Machine.{Machine}
 use Rattle.session.specs.declared.phases.Phase.{Phase as SessionPhase}
 use Rattle.session.specs.declared.phases.Phase.the-variants.{One, Two, Ended}
 use Rattle.conversation.specs.Allowed.{Allowed, AllowedTwo, Exchange, isDoneSent, sendingCalls, AllowedSent, leftOf, capacityOf}
 use Rattle.conversation.specs.Answers.{events, Paired}
 use Rattle.conversation.specs.Calls.{Call, receive, send, receive-two, reply, send-two, isClient, outcome, writtenBy, State, stateOf, after, acceptedRows, Accepted, Refused}
-use Rattle.conversation.specs.CommandsTwo.{lineSent}
+use Rattle.conversation.specs.CommandsTwo.{lineSent, commandTwo}
 use Rattle.conversation.specs.Given.{GivenBack}
 use Rattle.conversation.specs.Kinds.{AnyKind, Buffers, viewOf}
-use Rattle.conversation.specs.Phases.{All, Part, one-part, two-part, Phase, blocksOf, IsPhase, Supply, callsOf, LongEnough, Starts, JustDone, JustReceived, SameStart, Rearranged, SameOutcome, commandIn, textsOf}
+use Rattle.conversation.specs.Numbers.{Condition, orderOf, FirstOf}
+use Rattle.conversation.specs.PhaseTwo.{isHeldBack}
+use Rattle.conversation.specs.Phases.{All, Part, one-part, two-part, Phase, blocksOf, IsPhase, Supply, callsOf, LongEnough, Starts, JustDone, JustReceived, SameStart, Rearranged, SameOutcome, commandIn, textsOf, CallWith, afterEach}
 use Rattle.conversation.specs.ReceivingTwo.{writes, atOnce}
+use Rattle.conversation.specs.Sending.{shortness}
+use Rattle.conversation.specs.SentOne.{sendingNumber, heldNumber, SendingOne, sendCalls, AllowedSendings}
 use Rattle.conversation.specs.Shapes.{AcceptedTo, FrontOne, ShapedOne, FrontTwo, ShapedTwo, AllowedTwoSoFar, FrontSent, ShapedSent, AllowedSentSoFar}
+use Rattle.conversation.specs.TurnsTwo.{turnTwo}
+use Rattle.conversation.specs.SentOne as sent-one
 use Rattle.session.specs.Session.{Session, openedSession, opened}
 use Rattle.look_up.specs.ErrorNames.{namesIn, nameAt}
 use Rattle.look_up.specs.LookUp.{errorNamed}
@@ -31,10 +40,12 @@ use Rattle.conversation.proofs.Laws.AllowedOne as one-accepted
 use Rattle.conversation.proofs.Laws.AllowedSent as sent-accepted
 use Rattle.conversation.proofs.Laws.Answers as answering
 use Rattle.conversation.proofs.Laws.Given as giving
+use Rattle.conversation.proofs.Laws.Numbers as numbering
 use Rattle.conversation.proofs.Laws.Order as ordering
 use Rattle.conversation.proofs.Laws.OrderTwo as two-accepted
 use Rattle.conversation.proofs.Laws.Reached.{just-done, just-received-done}
 use Rattle.conversation.proofs.Laws.Refusals as refusals
+use Rattle.conversation.proofs.Laws.SentOne as sent-numbers
 use Rattle.conversation.proofs.Laws.ShapesOne as one-shaped
 use Rattle.conversation.proofs.Laws.ShapesSent as sent-shaped
 use Rattle.conversation.proofs.Laws.ShapesTwo as two-shaped
@@ -48,6 +59,12 @@ use Rattle.look_up.proofs.Laws.ErrorNames as error-names
 -- tables, the buffers and the output buffer, and the session as document 01's column says.
 pub demand-1 : (s : Session) (b : Buffers) (c : Call) → (outcome s b c .number ≡ 0 → ⊥) → Refused s b c
 demand-1 = refusals.refusal
+
+-- "Each number is given only then": in any session that calls have made of an opening, each lent buffers of its own, a call's number is the first in the paper's
+-- order whose condition holds, 0 where none does. The conditions ask no decision
+pub demand-1-number : (machine name : List ℕ) (screen : Bool) (cs : List CallWith) (b : Buffers) (c : Call) →
+    let s = afterEach (opened machine name screen .session) cs in FirstOf (Condition s b c) (orderOf c) (outcome s b c .number)
+demand-1-number = numbering.number-after
 
 -- ---- Demand 2: "Stanza text, Bech32 .., tables, phases and responses are exactly those ..". Stanza text and Bech32: `stanza` and `bech32`, their theorems in README
 
@@ -75,6 +92,25 @@ demand-2-phase-one-exact = one-shaped.shaped-one-iff
 pub demand-2-phase-one-so-far : (machine : Machine) (name : List ℕ) (screen : Bool) (b : Buffers) (ts : List (List ℕ)) (q : SessionPhase) → (q ≡ Two → ⊥) →
     AcceptedTo q (openedSession machine name screen) b (map receive ts) ↔ ((q ≡ One) × FrontOne ts × Allowed machine name (b .first) ts)
 demand-2-phase-one-so-far = one-shaped.front-one-iff
+
+-- phase one at the client end, sent by a session just opened; only the last may be done
+pub demand-2-phase-one-sent : (machine : Machine) (name : List ℕ) (screen : Bool) (b : Buffers) (outs : Supply) (xs : List SendingOne) (y : SendingOne) →
+    All (λ x. areBytes (x .body) ≡ true) (xs ++ (y ∷ [])) → All (λ x. sent-one.isDoneSent x ≡ false) xs → LongEnough (openedSession machine name screen) b (sendCalls outs (xs ++ (y ∷ []))) →
+    Accepted (openedSession machine name screen) b (sendCalls outs (xs ++ (y ∷ []))) ↔ AllowedSendings machine name (b .first) (xs ++ (y ∷ []))
+demand-2-phase-one-sent = sent-numbers.sent-one-iff
+
+-- sending against receiving, phase one: the turn's number, 17 where the text cannot be written, the number that receiving it gives at equal tables, 15
+pub demand-2-sent-number-one : (s : Session) (b : Buffers) (word : WordOne) (arguments body : List ℕ) → areBytes body ≡ true → (out : List ℕ) →
+    let line = one.lineSent word arguments in let text = stanzaText line body in
+    outcome s b (send word arguments body out) .number ≡ sendingNumber (turnOne (s .phase)) (isWritable line body) (outcome s b (receive text) .number) (shortness text out)
+demand-2-sent-number-one = sent-numbers.sent-number-one
+
+-- phase two: the same, received to an output that is long enough, with 19 before 8
+pub demand-2-sent-number-two : (s : Session) (b : Buffers) (word : WordTwo) (arguments body : List ℕ) → areBytes body ≡ true → (out big : List ℕ) →
+    let line = lineSent word arguments in let text = stanzaText line body in (outcome s b (receive-two text big) .number ≡ 15 → ⊥) →
+    outcome s b (send-two word arguments body out) .number ≡
+    sendingNumber (turnTwo (s .phase)) (isWritable line body) (heldNumber (isHeldBack (s .tables) (commandTwo (s .machine) line body)) (outcome s b (receive-two text big) .number)) (shortness text out)
+demand-2-sent-number-two = sent-numbers.sent-number-two
 
 -- phase two at the client end, commands with replies, received by a session that has just sent done
 pub demand-2-client : (s : Session) (b : Buffers) → JustDone s → (p : Phase) → IsPhase two-part p → (outs : Supply) → LongEnough s b (callsOf two-part outs (blocksOf p)) →

@@ -51,6 +51,7 @@ use Rattle.conversation.specs.Calls.{Call, receive, send, receive-two, r
 use Rattle.conversation.proofs.Laws.Firsts.{first-iff, short-none}
 use Rattle.conversation.proofs.Laws.Receiving.{turn-first}
 use Rattle.conversation.proofs.Laws.ReceivingTwo.{turn-second}
+use Rattle.conversation.proofs.Laws.Sending.{by-writable}
 
 -- ---- what is said of an accepted call
 
@@ -235,7 +236,7 @@ module _ (s : Session) (b : Buffers) where
       let text = stanzaText line body in
       let late = shortness text out in
       let n = numberOne (s .machine) (s .name) (s .tables) (b .first) late line body in
-      branch (SentOne line body out) numberSent (isWritable line body) _ _
+      by-writable (λ r. numberSent r ≡ 0 → SentOne line body out r) s (b .first) line body out
       (λ w. branch (SentOne line body out) numberSent (eqb n 0) _ _
       (λ f h. record {
         applied = one-applied s (b .first) late line body o (line-of line body w) f;
@@ -248,7 +249,7 @@ module _ (s : Session) (b : Buffers) where
         };
       })
       (λ f. eqb-false n 0 f))
-      (λ w h. omega arith)
+      (λ w h. absurd (omega arith))
 
   sent-one : (word : WordOne) (arguments body out : List ℕ) → numberSent (sending.sent s word arguments body (b .first) out) ≡ 0 →
       SentOne (one-command.lineSent word arguments) body out (sending.sent s word arguments body (b .first) out)

@@ -61,12 +61,12 @@ within-front k n xs ys w = record {
 
 -- ---- indices that never fall: the next one and the last
 
-unfoldable lastOf : List Row → ℕ
+unfoldable pub lastOf : List Row → ℕ
 lastOf [] = 0
 lastOf (r ∷ []) = r .index
 lastOf (r ∷ q ∷ rs) = lastOf (q ∷ rs)
 
-last-is : (rs : List Row) (r : Row) → lastOf (rs ++ (r ∷ [])) ≡ r .index
+pub last-is : (rs : List Row) (r : Row) → lastOf (rs ++ (r ∷ [])) ≡ r .index
 unfolding lastOf
 last-is [] r = refl
 last-is (q ∷ []) r = refl
@@ -105,7 +105,7 @@ view-last es (suc n) b h g =
     ∙ last-is (map (rowOf b) (take n es)) (rowOf b (getD es n empty)) ∙ ap (λ j. getD es j empty .index) (sym q)
 
 -- an index does not fall exactly if it is not below the last row's
-no-fall : (t : Table) (i : ℕ) (b : List ℕ) → Kept t → (falls t i ≡ false) ↔ (lastOf (view t b) ≤ i)
+pub no-fall : (t : Table) (i : ℕ) (b : List ℕ) → Kept t → (falls t i ≡ false) ↔ (lastOf (view t b) ≤ i)
 unfolding lastOf
 no-fall t i b k =
     cases (ltb 0 (t .count))

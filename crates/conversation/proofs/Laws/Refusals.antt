@@ -7,7 +7,6 @@ use lib.Dec.{eqb}
 use Rattle.refusal.specs.Pick.{pick}
 use Rattle.stanza.specs.Grammar.{stanzaText}
 use Rattle.stanza.specs.Reading.{Reading, stanza, refused, readFirst}
-use Rattle.stanza.specs.Writing.{isWritable}
 use Rattle.responses.specs.Responses.{ResponseRead, response, nothing, responseLine, fitsWhole}
 use Rattle.responses.specs.declared.Response.{Response}
 use Rattle.session.specs.declared.words.WordTwo.{WordTwo}
@@ -32,6 +31,7 @@ use Rattle.conversation.specs.Replying as replying
 use Rattle.conversation.specs.SendingTwo as sending-two
 use Rattle.conversation.specs.Responding as responding
 use Rattle.conversation.specs.Calls.{Call, receive, send, receive-two, reply, send-two, respond, takingNumber, sentNumber, sentSize, takingTwoNumber, takingTwoSize, respondedNumber, respondedSize, outcome, Refused}
+use Rattle.conversation.proofs.Laws.Sending.{by-writable}
 
 -- either branch of a conditional
 pub either : {X : Type 0} (P : X → Type 0) (f : Bool) (x y : X) → P x → P y → P (pick f x y)
@@ -73,7 +73,7 @@ module _ (s : Session) where
       unfolding sending.sent
       sent-left word arguments body =
           either LeftSent (eqb (turnOne (s .phase)) 0) _ _
-          (either LeftSent (isWritable (one-command.lineSent word arguments) body) _ _ (sent-stanza-left (one-command.lineSent word arguments) body) (λ h. refl)) (λ h. refl)
+          (by-writable LeftSent s b (one-command.lineSent word arguments) body out (λ w. sent-stanza-left (one-command.lineSent word arguments) body) (λ w h. refl)) (λ h. refl)
 
   -- phase two, commands: received
   module _ (b : two.BuffersTwo) (out : List ℕ) where

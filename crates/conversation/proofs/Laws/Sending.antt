@@ -1,6 +1,6 @@
 -- Sending, by what one step of phase one came to: for the code of the client end.
 use Prim.Native.Nat.{ℕ}
-use mathlib.Core.Path.{_≡_, refl, sym, ap, ap₂, _∙_}
+use mathlib.Core.Path.{_≡_, refl, sym, ap, ap₂, _∙_, subst}
 use mathlib.Core.Bool.{Bool, true, false}
 use mathlib.Core.List.{List}
 use lib.Dec.{eqb}
@@ -8,6 +8,7 @@ use lib.ListN.{length}
 use borrow.Author.Tests.{eqb-true}
 use Rattle.refusal.specs.Output.{Answer, bytes, refused, overflows, answered, filled}
 use Rattle.refusal.specs.Pick.{pick}
+use Rattle.refusal.proofs.Laws.Booleans.{cases}
 use Rattle.stanza.specs.Grammar.{stanzaText}
 use Rattle.stanza.specs.Writing.{isWritable, written, bufferAfter}
 use Rattle.phase_one.specs.Commands.{CommandOne, WordOne, lineSent}
@@ -25,6 +26,18 @@ sessionIn m g x p t = record { machine = m; name = g; screen = x; phase = p; tab
 
 abbrev sending : Answer → Session → BuffersOne → List ℕ → Sent
 sending a s b out = record { answer = a; session = s; buffers = b; output = out }
+
+-- ---- what can be written is sent, what cannot has No. 17
+
+pub sends-writable : (s : Session) (b : BuffersOne) (l y out : List ℕ) → isWritable l y ≡ true → sentLine s b l y out ≡ sentStanza s b l y out
+sends-writable s b l y out w = rw w
+
+pub refuses-unwritable : (s : Session) (b : BuffersOne) (l y out : List ℕ) → isWritable l y ≡ false → sentLine s b l y out ≡ refusedSending 17 s b out
+refuses-unwritable s b l y out w = rw w
+
+-- by whether it can be written
+pub by-writable : (P : Sent → Type 0) (s : Session) (b : BuffersOne) (l y out : List ℕ) → (isWritable l y ≡ true → P (sentStanza s b l y out)) → (isWritable l y ≡ false → P (refusedSending 17 s b out)) → P (sentLine s b l y out)
+by-writable P s b l y out p q = cases (isWritable l y) (λ w. subst P (sym (sends-writable s b l y out w)) (p w)) (λ w. subst P (sym (refuses-unwritable s b l y out w)) (q w))
 
 -- what is answered and written where the output is long enough
 pub answered-whole : (w out : List ℕ) → overflows w out ≡ false → (answered w out ≡ bytes (length w))
@@ -53,11 +66,11 @@ module _ (m : Machine) (g : List ℕ) (x : Bool) (q : Phase) (t : Tables) (b : B
       n ≡ numberOne m g′ t b late l y → c ≡ commandIn m g′ l y → a ≡ pick (eqb n 0) (written l y out) (refused n) → p ≡ phaseSent q n c → t′ ≡ tablesOne m g′ t b late l y → b′ ≡ buffersOne m g′ t b late l y →
       o′ ≡ pick (eqb n 0) (bufferAfter l y out) out → sending a (sessionIn m g x p t′) b′ o′ ≡ sentLine (sessionIn m g x q t) b l y out
   sent-from g′ late n c a p t′ b′ o′ eg el en ec ea ep et eb eo =
-      rw (ea, ep, et, eb, eo, en, ec, eg, el) (step-is ∙ sym (ap (λ z. pick z (sentStanza (sessionIn m g x q t) b l y out) (refusedSending 17 (sessionIn m g x q t) b out)) w))
+      rw (ea, ep, et, eb, eo, en, ec, eg, el) (step-is ∙ sym (sends-writable (sessionIn m g x q t) b l y out w))
 
 -- a line that cannot be written
 pub sent-unwritable : (s : Session) (b : BuffersOne) (l y out : List ℕ) → isWritable l y ≡ false → sending (refused 17) s b out ≡ sentLine s b l y out
-sent-unwritable s b l y out w = sym (ap (λ z. pick z (sentStanza s b l y out) (refusedSending 17 s b out)) w)
+sent-unwritable s b l y out w = sym (refuses-unwritable s b l y out w)
 
 -- ---- whose turn it is
 

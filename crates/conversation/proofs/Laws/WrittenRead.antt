@@ -35,7 +35,7 @@ use Rattle.conversation.proofs.Laws.Accepted.{Written, accepted}
 -- ---- a text that reads back
 
 -- whatever can be written
-reads-back : (line body text : List ℕ) → areBytes body ≡ true → isWritable line body ≡ true → text ≡ stanzaText line body → ReadsBack line body text
+pub reads-back : (line body text : List ℕ) → areBytes body ≡ true → isWritable line body ≡ true → text ≡ stanzaText line body → ReadsBack line body text
 reads-back line body text a w e = subst (ReadsBack line body) (sym e) (record {
   is-text = refl;
   is-stanza = λ rest. read-written line body rest a w;
