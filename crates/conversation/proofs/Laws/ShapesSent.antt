@@ -366,10 +366,11 @@ module _ (s : Session) (b : Buffers) (j : JustReached s) where
     shaped-from y =
         let p = y .0 in
         let a = accepted-sent-iff s b j (p .outs) (p .ahead) (p .last) (p .done-once) (p .done-last) (subst (LongEnough s b) (p .calls) l) .1 (y .1) in
-        subst (AcceptedTo Ended s b) (sym (p .calls))
-        (a,
-        ⊎-elim (λ q. q .0) (λ q. absurd (true≢false (sym (p .done-last) ∙ all-append (λ x. isDoneSent x ≡ false) (p .ahead) (p .last ∷ []) .0 (q .1) .1 .0)))
-        (shape-of s b (p .outs) (p .ahead ++ (p .last ∷ [])) not-yet a))
+        subst (AcceptedTo Ended s b) (sym (p .calls)) (
+          a,
+          ⊎-elim (λ q. q .0) (λ q. absurd (true≢false (sym (p .done-last) ∙ all-append (λ x. isDoneSent x ≡ false) (p .ahead) (p .last ∷ []) .0 (q .1) .1 .0)))
+              (shape-of s b (p .outs) (p .ahead ++ (p .last ∷ [])) not-yet a),
+        )
 
     -- accepted to the end of the phase
     pub shaped-sent-iff : AcceptedTo Ended s b cs ↔ ((p : ShapedSent cs) × AllowedSent (s .machine) (leftOf (stateOf s b)) (capacityOf b) (p .ahead ++ (p .last ∷ [])))
