@@ -1,3 +1,4 @@
+-- The table is the definition tabulated at the 64 values.
 use Rattle.refusal.proofs.Laws.Below.{tabulated-at}
 use Rattle.base64.specs.Alphabet.{characterOf}
 use Rattle.base64.proofs.alphabet.alphabet_characters.Statement.{statement}

@@ -1,3 +1,4 @@
+-- Invariant of both loops: the run of characters ends at the same place, seen from `from` and from i.
 use Prim.Native.Nat.{_+_, _-_, _≤_, max}
 use mathlib.Core.Path.{_≡_, refl, sym, _∙_}
 use lib.ListN.{drop}

@@ -1,3 +1,4 @@
+-- By what n leaves modulo 4, in the definition's order; the last character's value is what `value` ensures.
 use Rattle.base64.specs.Code.{endsWell}
 use borrow.Author.Tests.{eq-eqb, ne-eqb}
 use borrow.Author.Needs.{needs}

@@ -1,3 +1,4 @@
+-- The test is the definition.
 use Rattle.base64.specs.Alphabet.{isCharacter}
 use mathlib.Core.Path.{refl}
 use Rattle.base64.proofs.alphabet.is_character.Statement.{statement}

@@ -1,3 +1,4 @@
+-- By the classes of the alphabet, tested in the definition's order; its class bounds the byte, so nothing wraps.
 use lib.Dec.{leb}
 use Rattle.refusal.proofs.Laws.Booleans.{and-true}
 use Rattle.base64.specs.Alphabet.{valueOf}

@@ -1,3 +1,4 @@
+-- The table is the definition tabulated at the 256 bytes.
 use Rattle.refusal.proofs.Laws.Below.{tabulated-at}
 use Rattle.base64.specs.Alphabet.{valueOf}
 use Rattle.base64.proofs.alphabet.values.Statement.{statement}

@@ -1,3 +1,4 @@
+-- By what was measured: no base64, 15 where the buffer is shorter than that, else what `decode_into` ensures.
 use mathlib.Core.Path.{refl, sym, ap, _∙_}
 use native.Mathlib.Omega.{arith}
 use borrow.Author.Tests.{lt-ltb, le-ltb}

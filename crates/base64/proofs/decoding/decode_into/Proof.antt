@@ -1,3 +1,4 @@
+-- Invariant: the first i groups' bytes stand at the front of `out`, 3 of each, and behind them `out` is as it was.
 use borrow.Rule.Slice.PartMut.{same-len-mid}
 use Rattle.base64.specs.Alphabet.{valueOf}
 use Prim.Native.Nat.{ℕ, _+_, _-_, _*_, _/_, _%_, _≤_}

@@ -1,3 +1,4 @@
+-- By the number of characters: fewer than two make no byte, two make one, three make two.
 use mathlib.Core.List.{[], _∷_}
 use lib.ListN.{length-set}
 use lib.Seq.{sets-eq}

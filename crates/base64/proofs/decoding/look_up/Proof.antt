@@ -1,3 +1,4 @@
+-- The table holds the value of each byte, and every value is below 64.
 use Rattle.base64.proofs.Laws.Alphabet.{value-lt}
 use borrow.Author.Needs.{needs}
 use Rattle.base64.proofs.decoding.look_up.Statement.{statement}

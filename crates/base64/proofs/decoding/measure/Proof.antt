@@ -1,3 +1,4 @@
+-- The text is base64 if the run of characters reaches its end and the last may stand there; an empty text is.
 use Prim.Native.Nat.{ℕ}
 use mathlib.Core.Path.{_≡_, refl}
 use mathlib.Core.Bool.{true}

@@ -1,3 +1,4 @@
+-- The text's length decides between 15 and writing; what is written is what `encode_into` ensures.
 use mathlib.Core.Path.{refl}
 use native.Mathlib.Omega.{arith}
 use borrow.Author.Tests.{lt-ltb, le-ltb}

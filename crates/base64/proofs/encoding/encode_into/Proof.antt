@@ -1,3 +1,4 @@
+-- Invariant: the first i groups' characters stand at the front of `out`, 4 of each, and behind them `out` is as it was.
 use borrow.Author.Needs.{needs}
 use Prim.Native.Nat.{ℕ, _+_, _-_, _*_, _/_, _%_, _≤_}
 use mathlib.Core.Path.{_≡_, refl, _∙_}

@@ -1,3 +1,4 @@
+-- By the number of bytes: one makes two characters, two make three, with zero for the byte that is missing.
 use native.Mathlib.Nat.{add-zero}
 use mathlib.Core.List.{[], _∷_}
 use lib.ListN.{length-set}

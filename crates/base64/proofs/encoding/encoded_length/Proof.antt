@@ -1,3 +1,4 @@
+-- The sum is the law of the text's length, and it does not wrap.
 use Rattle.base64.proofs.Laws.Code.{encoded-length}
 use mathlib.Core.Path.{sym}
 use borrow.Author.Needs.{needs}

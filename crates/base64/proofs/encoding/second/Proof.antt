@@ -1,3 +1,4 @@
+-- Six bits are below 64, where the table holds the character.
 use Prim.Native.Nat.{_+_, _*_, _/_, _%_}
 use borrow.Author.Needs.{needs}
 use Rattle.base64.proofs.encoding.second.Statement.{statement}

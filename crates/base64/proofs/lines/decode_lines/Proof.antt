@@ -1,3 +1,4 @@
+-- The body's length decides between 15 and writing; what is written is what `body_into` ensures.
 use mathlib.Core.Path.{refl, sym, _∙_}
 use borrow.Author.Tests.{lt-ltb, le-ltb}
 use denote.Ref.{now}

@@ -1,3 +1,4 @@
+-- The lines' length decides between 15 and writing; what is written is what `lines_into` ensures.
 use mathlib.Core.Path.{refl}
 use native.Mathlib.Omega.{arith}
 use borrow.Author.Tests.{lt-ltb, le-ltb}

@@ -1,3 +1,4 @@
+-- By length, characters and LF in the definition's order; a line that starts beyond the text is too short.
 use mathlib.Core.Path.{sym, _∙_}
 use lib.ListN.{length, drop, length-drop}
 use lib.Seq.{getD-drop}

@@ -1,3 +1,4 @@
+-- Fewer than 48 bytes make less than a line of characters, so the LF stands behind all of them.
 use native.Mathlib.Omega.{arith}
 use denote.Ref.{now}
 use Rattle.base64.proofs.Laws.Code.{encoded-length}

@@ -1,3 +1,4 @@
+-- Invariant: the first i lines stand at the front of `out`, 65 bytes each, and behind them `out` is as it was.
 use borrow.Author.Needs.{needs}
 use Prim.Native.Nat.{_+_, _-_, _*_, _/_, _≤_}
 use mathlib.Core.Path.{_≡_, refl, _∙_}

@@ -1,3 +1,4 @@
+-- The characters, an LF for every 64 of them and the last LF; the sum does not wrap.
 use mathlib.Core.Path.{sym}
 use native.Mathlib.Omega.{arith}
 use denote.Ref.{now}

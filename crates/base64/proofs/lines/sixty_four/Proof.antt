@@ -1,3 +1,4 @@
+-- Invariant: `good` says whether the first j bytes from `at` on are all characters.
 use Prim.Native.Nat.{_-_, _≤_}
 use mathlib.Core.Path.{_≡_, refl, _∙_}
 use lib.ListN.{take, drop}
