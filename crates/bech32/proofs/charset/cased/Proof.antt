@@ -1,3 +1,4 @@
+-- By kind and case: only a lower-case letter of an identity changes, and it is large enough to subtract 32.
 use mathlib.Core.Path.{sym, _∙_}
 use native.Mathlib.Omega.{arith}
 use Rattle.symbols.specs.Charset.{upper}

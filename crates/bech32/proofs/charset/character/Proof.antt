@@ -1,3 +1,4 @@
+-- The table holds the character of each value below 32.
 use borrow.Author.Needs.{needs}
 use Rattle.bech32.proofs.charset.character.Statement.{statement}
 use Rattle.bech32.proofs.charset.character.Tie as tie

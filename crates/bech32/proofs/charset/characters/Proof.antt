@@ -1,3 +1,4 @@
+-- The kind's table is the definition tabulated at the 32 values, in its case.
 use Rattle.refusal.proofs.Laws.Below.{tabulated-at}
 use Rattle.symbols.specs.Charset.{characterOf, upper, isLower}
 use borrow.Author.Needs.{needs}

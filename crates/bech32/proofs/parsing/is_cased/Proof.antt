@@ -1,3 +1,4 @@
+-- The kind says which case is wrong: upper for a recipient, lower for an identity.
 use borrow.Author.Needs.{needs}
 use Rattle.bech32.proofs.parsing.is_cased.Statement.{statement}
 use Rattle.bech32.proofs.parsing.is_cased.Tie as tie

@@ -1,3 +1,4 @@
+-- The disjunction, its left side first.
 use mathlib.Core.Path.{sym, _∙_}
 use borrow.Author.Needs.{needs}
 use Rattle.bech32.proofs.parsing.is_one_case.Statement.{statement}

@@ -1,3 +1,4 @@
+-- Invariant: `good` says whether none of the first i bytes is in upper case.
 use Prim.Native.Nat.{_-_, _≤_}
 use mathlib.Core.Path.{_≡_, refl, ap, _∙_}
 use mathlib.Core.Bool.{not}

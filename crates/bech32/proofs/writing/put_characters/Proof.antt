@@ -1,3 +1,4 @@
+-- The symbols are put first and then translated in place, which is allowed as all of them are below 32.
 use Prim.Native.Nat.{_+_}
 use mathlib.Core.Path.{_≡_, sym, ap, ap₂, _∙_}
 use mathlib.Core.List.{_++_, map}

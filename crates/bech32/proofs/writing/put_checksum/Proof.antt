@@ -1,3 +1,4 @@
+-- The six writes, from place 0 on, put the list of the checksum's six symbols.
 use lib.ListN.{length-set}
 use native.Mathlib.Omega.{arith}
 use denote.Ref.{now}

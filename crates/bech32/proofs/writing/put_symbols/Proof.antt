@@ -1,3 +1,4 @@
+-- The payload's symbols, and behind them the checksum of the state folded from just those.
 use Prim.Native.Nat.{_+_}
 use mathlib.Core.Path.{_≡_, refl, sym, ap, ap₂, _∙_}
 use mathlib.Core.List.{_++_}

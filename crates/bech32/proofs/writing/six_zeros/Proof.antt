@@ -1,3 +1,4 @@
+-- Six steps are the fold over six zeros.
 use Rattle.symbols.specs.Checksum.{polymod}
 use borrow.Author.Needs.{needs}
 use Rattle.bech32.proofs.writing.six_zeros.Statement.{statement}

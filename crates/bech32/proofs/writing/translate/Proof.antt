@@ -1,3 +1,4 @@
+-- Invariant: the first i symbols are translated, and from i on they stand as they were.
 use Prim.Native.Nat.{_-_, _≤_}
 use mathlib.Core.Path.{_≡_, refl, ap, ap₂, _∙_}
 use mathlib.Core.List.{_++_, map}

@@ -1,3 +1,4 @@
+-- By name, length and buffer: a payload of more than 1,024 bytes makes a text that is too long.
 use Prim.Native.Nat.{_+_}
 use mathlib.Core.Path.{_≡_, sym, ap₂, _∙_}
 use lib.ListN.{length}

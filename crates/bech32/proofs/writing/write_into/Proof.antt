@@ -1,3 +1,4 @@
+-- The human part, "1" and the characters one behind the other; the state is folded from the human part as it was put.
 use Prim.Native.Nat.{_+_, _-_}
 use mathlib.Core.Path.{_≡_, refl, sym, _∙_}
 use lib.ListN.{length, set, length-set, length-drop}
