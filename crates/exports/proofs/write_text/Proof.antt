@@ -1,3 +1,4 @@
+-- By what writing came to: bytes set the length, a refusal gives its number and leaves it; the buffer is as `write` ensures.
 use mathlib.Core.Path.{refl}
 use borrow.Author.Needs.{needs}
 use Rattle.exports.proofs.write_text.Statement.{statement}
