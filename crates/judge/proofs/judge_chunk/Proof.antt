@@ -1,3 +1,4 @@
+-- The cut is what `judge_window` ensures: where it goes on fewer than 8,192 bytes are left, which `keep_rest` moves to the front.
 use borrow.Author.Needs.{needs}
 use Rattle.judge.proofs.judge_chunk.Statement.{statement}
 use Rattle.judge.proofs.judge_chunk.Tie as tie

@@ -1,3 +1,4 @@
+-- Invariant: where it goes on, fewer than 8,192 bytes are left, so there is space to read to; the buffers keep their lengths.
 use Rattle.judge.proofs.run.Statement.{statement}
 use Rattle.judge.proofs.run.Tie as tie
 use Prim.Native.Nat.{_<_}
