@@ -1,3 +1,4 @@
+-- By the answer: a refusal leaves session and slots as they were, a command leads on behind its stanza, which is within the window.
 use borrow.Author.Needs.{needs}
 use Rattle.judging.proofs.advance.Statement.{statement}
 use Rattle.judging.proofs.advance.Tie as tie

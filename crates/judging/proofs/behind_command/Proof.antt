@@ -1,3 +1,4 @@
+-- Done stops with the counts; any other command goes on.
 use borrow.Author.Needs.{needs}
 use Rattle.judging.proofs.behind_command.Statement.{statement}
 use Rattle.judging.proofs.behind_command.Tie as tie

@@ -1,3 +1,4 @@
+-- Only 2 in a window that is not the last goes on; any other refusal stops with the counts and its number.
 use borrow.Author.Needs.{needs}
 use Rattle.judging.proofs.behind_refusal.Statement.{statement}
 use Rattle.judging.proofs.behind_refusal.Tie as tie

@@ -1,3 +1,4 @@
+-- A text that is one window and the last, judged from the start with fresh slots, is judged whole.
 use borrow.Author.Needs.{needs}
 use Rattle.judging.proofs.judge.Statement.{statement}
 use Rattle.judging.proofs.judge.Tie as tie

@@ -1,3 +1,4 @@
+-- Invariant: judging the window comes to judging what is not taken of it from where it stands; that it is a cut is a law.
 use Rattle.judging.proofs.Judging.judge_window.Statement.{statement}
 use Rattle.judging.proofs.Judging.judge_window.Tie as tie
 use Prim.Native.Nat.{_≤_, _-_}

@@ -1,3 +1,4 @@
+-- Where judging has stopped its numbers stand; else the entries are counted and the answer is 2.
 use borrow.Author.Needs.{needs}
 use Rattle.judging.proofs.Judging.numbers.Statement.{statement}
 use Rattle.judging.proofs.Judging.numbers.Tie as tie

@@ -1,3 +1,4 @@
+-- A session of recipient-v1 just opened is where judging starts.
 use borrow.Author.Needs.{needs}
 use Rattle.judging.proofs.Judging.open.Statement.{statement}
 use Rattle.judging.proofs.Judging.open.Tie as tie
