@@ -1,3 +1,4 @@
+-- Invariant: what stands behind the first space is the same for the text and for its rest from i on.
 use Prim.Native.Nat.{_+_, _-_, _≤_}
 use mathlib.Core.Path.{_≡_, refl, sym, _∙_}
 use denote.Ref.{now}

@@ -1,3 +1,4 @@
+-- The comparisons in the definition's order: the first word that is the same names the command.
 use mathlib.Core.Path.{sym, _∙_}
 use borrow.Author.Needs.{needs}
 use Rattle.phase_one.proofs.commands.identity_word.Statement.{statement}

@@ -1,3 +1,4 @@
+-- By the word: each is joined with the arguments as the definition says.
 use borrow.Author.Needs.{needs}
 use Rattle.phase_one.proofs.commands.put_line.Statement.{statement}
 use Rattle.phase_one.proofs.commands.put_line.Tie as tie

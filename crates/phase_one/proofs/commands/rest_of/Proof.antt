@@ -1,3 +1,4 @@
+-- What stands behind the first space, taken twice, is the definition.
 use mathlib.Core.Path.{ap, _∙_}
 use Rattle.phase_one.specs.Commands.{afterSpace}
 use borrow.Author.Needs.{needs}

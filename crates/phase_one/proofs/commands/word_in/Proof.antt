@@ -1,3 +1,4 @@
+-- The machine says whose words are compared.
 use borrow.Author.Needs.{needs}
 use Rattle.phase_one.proofs.commands.word_in.Statement.{statement}
 use Rattle.phase_one.proofs.commands.word_in.Tie as tie
