@@ -1,3 +1,4 @@
+-- By the command; for one that asks the user the screen decides.
 use borrow.Author.Needs.{needs}
 use Rattle.phase_two.proofs.at_once.answer_at_once.Statement.{statement}
 use Rattle.phase_two.proofs.at_once.answer_at_once.Tie as tie

@@ -1,3 +1,4 @@
+-- By the answer: silence has no bytes, and no response that is written at once is refused.
 use mathlib.Core.Path.{sym, ap, _∙_}
 use Rattle.refusal.specs.Output.{said}
 use Rattle.phase_two.proofs.Laws.AtOnce.{size-is, never-refused}

@@ -1,3 +1,4 @@
+-- By the answer: a response is written with no body, and silence is the empty text, which fits any buffer.
 use mathlib.Core.Path.{sym, ap, _∙_}
 use denote.Ref.{now}
 use Rattle.refusal.specs.Output.{answered, filled}

@@ -1,3 +1,4 @@
+-- By the command; for one that asks the user the screen decides.
 use borrow.Author.Needs.{needs}
 use Rattle.phase_two.proofs.turns.phase_taken.Statement.{statement}
 use Rattle.phase_two.proofs.turns.phase_taken.Tie as tie
