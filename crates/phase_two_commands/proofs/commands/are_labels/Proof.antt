@@ -1,3 +1,4 @@
+-- The first label decides, then the count of the arguments, then the second label.
 use mathlib.Core.Path.{sym, _∙_}
 use denote.Ref.{now}
 use borrow.Author.Tests.{eq-eqb, ne-eqb, not-true, not-false}

@@ -1,3 +1,4 @@
+-- By what the index is read as.
 use mathlib.Core.Path.{sym, ap, _∙_}
 use Rattle.stanza.specs.Index.{readIndex, indexSaid}
 use Rattle.conversation.specs.CommandsTwo.{error}

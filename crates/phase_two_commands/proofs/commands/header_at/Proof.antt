@@ -1,3 +1,4 @@
+-- By what the two indices are read as; a refusal of the file's comes first.
 use mathlib.Core.Path.{sym, ap, _∙_}
 use Rattle.stanza.specs.Index.{readIndex, indexSaid}
 use borrow.Author.Needs.{needs}

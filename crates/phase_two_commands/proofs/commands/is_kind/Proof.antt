@@ -1,3 +1,4 @@
+-- The word decides first, then the count of the arguments.
 use mathlib.Core.Path.{sym, ap, _∙_}
 use lib.Dec.{eqb}
 use borrow.Author.Tests.{not-true, not-false}

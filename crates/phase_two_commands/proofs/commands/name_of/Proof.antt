@@ -1,3 +1,4 @@
+-- The kind says what is named.
 use borrow.Author.Needs.{needs}
 use Rattle.phase_two_commands.proofs.commands.name_of.Statement.{statement}
 use Rattle.phase_two_commands.proofs.commands.name_of.Tie as tie

@@ -1,3 +1,4 @@
+-- The count of the arguments decides.
 use mathlib.Core.Path.{sym, _∙_}
 use denote.Ref.{now}
 use borrow.Author.Tests.{eq-eqb, ne-eqb}

@@ -1,3 +1,4 @@
+-- The labels decide.
 use mathlib.Core.Path.{sym, _∙_}
 use borrow.Author.Needs.{needs}
 use Rattle.phase_two_commands.proofs.commands.parse_confirm.Statement.{statement}

@@ -1,3 +1,4 @@
+-- What the error names decides, in the definition's order: internal, an identity, else the machine's own.
 use mathlib.Core.Path.{sym, _∙_}
 use borrow.Author.Needs.{needs}
 use Rattle.phase_two_commands.proofs.commands.parse_error.Statement.{statement}

@@ -1,3 +1,4 @@
+-- The count of the arguments decides first, then the body's length, then what the index is read as.
 use mathlib.Core.Path.{sym, ap, _∙_}
 use denote.Ref.{now}
 use borrow.Author.Tests.{eq-eqb, ne-eqb}

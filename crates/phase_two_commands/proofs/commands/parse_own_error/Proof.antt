@@ -1,3 +1,4 @@
+-- The machine says which kind of its own an error may name; any other is refused.
 use mathlib.Core.Path.{sym, _∙_}
 use borrow.Author.Needs.{needs}
 use Rattle.phase_two_commands.proofs.commands.parse_own_error.Statement.{statement}

@@ -1,3 +1,4 @@
+-- The count of the arguments decides first, then what the index is read as.
 use mathlib.Core.Path.{sym, ap, _∙_}
 use denote.Ref.{now}
 use native.Mathlib.Omega.{arith}

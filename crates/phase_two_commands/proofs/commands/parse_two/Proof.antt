@@ -1,3 +1,4 @@
+-- The word decides, and the parser of its row does the rest.
 use mathlib.Core.Path.{sym, ap, _∙_}
 use Rattle.conversation.specs.CommandsTwo.{wordTwo}
 use borrow.Author.Needs.{needs}

@@ -1,3 +1,4 @@
+-- By the word: each is joined with the arguments as the definition says.
 use borrow.Author.Needs.{needs}
 use Rattle.phase_two_commands.proofs.commands.put_line_two.Statement.{statement}
 use Rattle.phase_two_commands.proofs.commands.put_line_two.Tie as tie

@@ -1,3 +1,4 @@
+-- The comparisons in the definition's order: the first word that is the same names the command, else `late_word` decides.
 use mathlib.Core.Path.{sym, _∙_}
 use borrow.Author.Needs.{needs}
 use Rattle.phase_two_commands.proofs.commands.word_two.Statement.{statement}

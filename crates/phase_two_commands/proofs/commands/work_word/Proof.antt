@@ -1,3 +1,4 @@
+-- The machine says which word is compared.
 use mathlib.Core.Path.{sym, _∙_}
 use borrow.Author.Needs.{needs}
 use Rattle.phase_two_commands.proofs.commands.work_word.Statement.{statement}
