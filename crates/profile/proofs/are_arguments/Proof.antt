@@ -1,3 +1,4 @@
+-- By the count of the words: with the tag they are three or four, and in both cases the first two decide before a third.
 use mathlib.Core.Path.{sym, ap, _∙_}
 use mathlib.Core.Bool.{_&&_}
 use denote.Ref.{now}

@@ -1,3 +1,4 @@
+-- The first argument decides before the second.
 use mathlib.Core.Path.{sym, _∙_}
 use borrow.Author.Tests.{not-true, not-false}
 use borrow.Author.Needs.{needs}

@@ -1,3 +1,4 @@
+-- The tests in the definition's order: tag, arguments, body.
 use mathlib.Core.Path.{sym, _∙_}
 use borrow.Author.Tests.{not-true, not-false, eq-eqb, ne-eqb}
 use borrow.Author.Needs.{needs}

@@ -1,3 +1,4 @@
+-- The plugin's name decides first, then the tag.
 use mathlib.Core.Path.{sym, _∙_}
 use borrow.Author.Tests.{not-true, not-false}
 use borrow.Author.Needs.{needs}

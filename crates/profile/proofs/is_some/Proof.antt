@@ -1,3 +1,4 @@
+-- A text is base64 exactly if measuring it gives a size, which is compared.
 use mathlib.Core.Path.{sym, ap, _∙_}
 use denote.Ref.{now}
 use Rattle.base64.specs.Code.{sizeSaid}
