@@ -1,3 +1,4 @@
+-- By the verdict: a refusal's number is never 0, so it comes before the late one.
 use Rattle.refusal.proofs.Laws.Number.{number-not-zero}
 use borrow.Author.Needs.{needs}
 use Rattle.refusal.proofs.first_of.Statement.{statement}
