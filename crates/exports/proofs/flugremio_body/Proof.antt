@@ -1,4 +1,4 @@
--- By what decoding came to: bytes set the length, a refusal gives its number and leaves it; the buffer is as `body_of` ensures.
+-- By the answer: bytes set the length, a refusal gives its number and leaves it as it was; the buffer is what `body_of` ensures.
 use mathlib.Core.Path.{refl, sym, ap, _∙_}
 use Rattle.refusal.specs.Output.{said}
 use Rattle.exports.specs.Results.{numberIn, lengthOr}

@@ -1,4 +1,4 @@
--- By the command: each awaits its answer, but done ends the session and a refused one leaves phase two.
+-- By the command: each awaits its answer, but done ends the session and one that is refused awaits nothing.
 use borrow.Author.Needs.{needs}
 use Rattle.phase_two.proofs.turns.phase_spoken.Statement.{statement}
 use Rattle.phase_two.proofs.turns.phase_spoken.Tie as tie
