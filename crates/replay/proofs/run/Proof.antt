@@ -1,3 +1,4 @@
+-- `run` is safe and ends: the measure is how many turns are left.
 use Rattle.replay.proofs.run.Statement.{statement}
 use Rattle.replay.proofs.run.Tie as tie
 use native.Mathlib.Omega.{arith}

@@ -1,3 +1,4 @@
+-- `print_errors` is safe and ends. The invariant: n is at most the count.
 use Rattle.replay.proofs.returned.print_errors.Statement.{statement}
 use Rattle.replay.proofs.returned.print_errors.Tie as tie
 use Prim.Native.Nat.{_-_, _≤_}

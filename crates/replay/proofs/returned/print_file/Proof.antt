@@ -1,3 +1,4 @@
+-- `print_file` is safe and ends. The invariant: k is at most the count.
 use Rattle.replay.proofs.returned.print_file.Statement.{statement}
 use Rattle.replay.proofs.returned.print_file.Tie as tie
 use Prim.Native.Nat.{_-_, _≤_}

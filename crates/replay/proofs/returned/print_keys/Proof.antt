@@ -1,3 +1,4 @@
+-- `print_keys` is safe and ends. The invariant: n is at most the 256 header stanzas that there may be.
 use Rattle.replay.proofs.returned.print_keys.Statement.{statement}
 use Rattle.replay.proofs.returned.print_keys.Tie as tie
 use Prim.Native.Nat.{_-_, _≤_}

@@ -1,3 +1,4 @@
+-- `print_stanzas` is safe and ends. The invariant: `file` is at most the count.
 use Rattle.replay.proofs.returned.print_stanzas.Statement.{statement}
 use Rattle.replay.proofs.returned.print_stanzas.Tie as tie
 use Prim.Native.Nat.{_-_, _≤_}

@@ -1,3 +1,4 @@
+-- `print_table` is safe and ends. The invariant: n is at most 256.
 use Rattle.replay.proofs.show.print_table.Statement.{statement}
 use Rattle.replay.proofs.show.print_table.Tie as tie
 use Prim.Native.Nat.{_-_, _≤_}
