@@ -1,3 +1,4 @@
+-- The table holds, at a command's row and a response's column, whether they fit.
 use borrow.Author.Needs.{needs}
 use Rattle.responses.proofs.Laws.Responses.{table-at}
 use Rattle.responses.proofs.fits.Statement.{statement}

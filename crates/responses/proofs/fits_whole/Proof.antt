@@ -1,3 +1,4 @@
+-- The tests in the definition's order: whether the response fits, whether the body is empty, whether there may be one.
 use mathlib.Core.Path.{sym, _∙_}
 use borrow.Author.Tests.{eq-eqb, ne-eqb, not-true, not-false}
 use borrow.Author.Needs.{needs}

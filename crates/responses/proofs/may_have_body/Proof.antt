@@ -1,3 +1,4 @@
+-- The command decides first; then the column, which is 0 for ok alone.
 use mathlib.Core.Path.{sym, _∙_}
 use borrow.Author.Tests.{not-true, not-false}
 use borrow.Author.Needs.{needs}

@@ -1,3 +1,4 @@
+-- The comparisons in the definition's order: the first text that is the same is the response.
 use mathlib.Core.Path.{sym, _∙_}
 use borrow.Author.Needs.{needs}
 use Rattle.responses.proofs.read_line.Statement.{statement}

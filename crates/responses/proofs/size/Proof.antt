@@ -1,3 +1,4 @@
+-- By the response: each has its arguments' text.
 use borrow.Author.Needs.{needs}
 use Rattle.responses.proofs.size.Statement.{statement}
 use Rattle.responses.proofs.size.Tie as tie

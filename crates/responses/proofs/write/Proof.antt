@@ -1,3 +1,4 @@
+-- By the response: each has its arguments' text.
 use mathlib.Core.Path.{sym, ap, _∙_}
 use denote.Ref.{now}
 use Rattle.stanza.specs.Writing.{written, bufferAfter}
