@@ -1,3 +1,4 @@
+-- The comparisons in the definition's order: the first name that is the same is the machine's.
 use mathlib.Core.Path.{sym, _∙_}
 use borrow.Author.Needs.{needs}
 use Rattle.session.proofs.opening.machine_named.Statement.{statement}

@@ -1,3 +1,4 @@
+-- The name that `name_of` gives is empty exactly if the text is no name.
 use denote.Ref.{now}
 use Rattle.session.proofs.Laws.Opening.{name-refused, name-accepted}
 use borrow.Author.Needs.{needs}

@@ -1,3 +1,4 @@
+-- The machine's name decides first, then the plugin's; where there is no machine the empty text gives no name.
 use mathlib.Core.Path.{sym}
 use Rattle.session.proofs.Laws.Opening.{nameless-refused}
 use borrow.Author.Needs.{needs}

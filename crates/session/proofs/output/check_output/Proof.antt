@@ -1,3 +1,4 @@
+-- The test is the definition's.
 use borrow.Author.Tests.{lt-ltb, le-ltb}
 use Rattle.session.proofs.output.check_output.Statement.{statement}
 use Rattle.session.proofs.output.check_output.Tie as tie

@@ -1,3 +1,4 @@
+-- By the verdict: an accepted stanza is written, and the number of a refusal is never 0.
 use mathlib.Core.Path.{refl}
 use Rattle.refusal.proofs.Laws.Number.{number-not-zero}
 use borrow.Author.Needs.{needs}

@@ -1,3 +1,4 @@
+-- The two tests of the definition: a number of at most 12, and not 2.
 use mathlib.Core.Path.{ap}
 use mathlib.Core.Bool.{not}
 use lib.Dec.{eqb}

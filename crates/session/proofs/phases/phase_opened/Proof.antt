@@ -1,3 +1,4 @@
+-- By the verdict: the number of a refusal is never 0.
 use Rattle.refusal.proofs.Laws.Number.{number-not-zero}
 use borrow.Author.Needs.{needs}
 use Rattle.session.proofs.phases.phase_opened.Statement.{statement}

@@ -1,3 +1,4 @@
+-- `is_closing` decides.
 use mathlib.Core.Path.{sym, _∙_}
 use borrow.Author.Needs.{needs}
 use Rattle.session.proofs.phases.phase_refused.Statement.{statement}
