@@ -1,3 +1,4 @@
+-- The two tests are whether start and length together fit in the buffer, with no sum that could wrap.
 use denote.Ref.{now}
 use native.Mathlib.Omega.{arith}
 use Rattle.tables.proofs.Laws.LookUp.{part-short, part-there}

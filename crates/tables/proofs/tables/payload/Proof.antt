@@ -1,3 +1,4 @@
+-- By what was found: an entry is a part of the buffer, and nothing is the empty part at its end.
 use denote.Ref.{now}
 use Rattle.tables.proofs.Laws.LookUp.{nothing-left}
 use borrow.Author.Needs.{needs}
