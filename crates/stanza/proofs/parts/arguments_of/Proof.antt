@@ -1,3 +1,4 @@
+-- Cut to the text, the part from 3 up to the line's end is what the definition leaves; it is empty where the end comes first.
 use Prim.Native.Nat.{ℕ, _-_, min}
 use mathlib.Core.Path.{_≡_, sym}
 use mathlib.Core.List.{List}

@@ -1,3 +1,4 @@
+-- What `decode_lines` ensures of the lines that `lines` gives.
 use borrow.Author.Needs.{needs}
 use Rattle.stanza.proofs.parts.body_of.Statement.{statement}
 use Rattle.stanza.proofs.parts.body_of.Tie as tie

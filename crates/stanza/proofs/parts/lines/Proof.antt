@@ -1,3 +1,4 @@
+-- Where the part ends no later than the first line does, nothing is left; else it is the definition's, cut to the text.
 use Prim.Native.Nat.{_+_}
 use mathlib.Core.Path.{sym}
 use native.Mathlib.Nat.{sub-self}

@@ -1,3 +1,4 @@
+-- Invariant: the automaton comes to the same from `from` and from i; a full line brings it back to where it was.
 use Prim.Native.Nat.{_-_, _≤_}
 use mathlib.Core.Path.{_≡_, refl, sym, _∙_}
 use lib.ListN.{length, drop}

@@ -1,3 +1,4 @@
+-- The automaton's first three states, byte by byte; then what `words` ensures.
 use mathlib.Core.Path.{_∙_}
 use native.Mathlib.Omega.{arith}
 use borrow.Author.Tests.{ne-eqb}

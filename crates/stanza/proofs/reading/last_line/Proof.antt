@@ -1,3 +1,4 @@
+-- By the run of characters and what stands behind it; as the line is no full one, an LF there ends fewer than 64.
 use Prim.Native.Nat.{_+_, _-_, _<_}
 use mathlib.Core.Path.{sym, _∙_}
 use lib.ListN.{length}

@@ -1,3 +1,4 @@
+-- The window is all that the definition looks at; in it the first line decides, then the body.
 use mathlib.Core.Path.{sym, _∙_}
 use lib.Seq.{length-take-le}
 use native.Mathlib.Omega.{arith}

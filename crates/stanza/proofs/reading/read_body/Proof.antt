@@ -1,3 +1,4 @@
+-- By where the automaton ends behind the first line; the body's size follows from how many bytes its lines take.
 use Prim.Native.Nat.{_+_}
 use mathlib.Core.Path.{sym, ap, _∙_}
 use lib.Dec.{ltb}

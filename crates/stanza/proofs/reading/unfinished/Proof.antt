@@ -1,3 +1,4 @@
+-- The test is the definition's.
 use borrow.Author.Tests.{lt-ltb, le-ltb}
 use Rattle.stanza.proofs.reading.unfinished.Statement.{statement}
 use Rattle.stanza.proofs.reading.unfinished.Tie as tie

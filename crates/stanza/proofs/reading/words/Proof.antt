@@ -1,3 +1,4 @@
+-- Invariant: the automaton comes to the same from `from` and from i, and so does the search for the line's end.
 use Prim.Native.Nat.{_+_, _-_, _<_, _≤_}
 use mathlib.Core.Path.{_≡_, refl, _∙_}
 use lib.ListN.{length, drop}

@@ -1,3 +1,4 @@
+-- Invariant: the first i bytes of `src` stand at the front of `out`, and behind them `out` is as it was.
 use Prim.Native.Nat.{_-_, _≤_}
 use mathlib.Core.Path.{_≡_, refl}
 use mathlib.Core.List.{_++_}

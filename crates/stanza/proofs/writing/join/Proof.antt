@@ -1,3 +1,4 @@
+-- By whether there are arguments and whether the text fits, which is tested by differences so that no sum wraps.
 use denote.Ref.{now}
 use native.Mathlib.Omega.{arith}
 use Rattle.stanza.proofs.Laws.Writing.{join-short, join-alone, join-over, join-both}

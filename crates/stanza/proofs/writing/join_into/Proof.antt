@@ -1,3 +1,4 @@
+-- Command, space and arguments, one behind the other, are the text.
 use Prim.Native.Nat.{_+_, _-_}
 use mathlib.Core.Path.{_∙_}
 use denote.Ref.{now}

@@ -1,3 +1,4 @@
+-- By arguments and length: a line or body of more than 8,192 bytes makes too long a stanza, and any other no sum that wraps.
 use Prim.Native.Nat.{_+_}
 use mathlib.Core.Path.{_≡_, sym, _∙_}
 use lib.ListN.{length}

@@ -1,3 +1,4 @@
+-- By the size: refused with it, 15 where the buffer is shorter, else what `write_into` ensures.
 use mathlib.Core.Path.{sym, ap, _∙_}
 use denote.Ref.{now}
 use native.Mathlib.Omega.{arith}

@@ -1,3 +1,4 @@
+-- The first line and the body's lines, one behind the other, are the stanza, and there is space for both.
 use native.Mathlib.Omega.{arith}
 use denote.Ref.{now}
 use Rattle.stanza.proofs.Laws.Writing.{text-length, text-done}

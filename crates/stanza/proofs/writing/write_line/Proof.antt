@@ -1,3 +1,4 @@
+-- The three bytes, the arguments and the LF, one behind the other, are the first line.
 use Prim.Native.Nat.{_+_, _-_}
 use mathlib.Core.Path.{_≡_, _∙_}
 use mathlib.Core.List.{_++_}
