@@ -1,3 +1,4 @@
+-- The test is the definition.
 use mathlib.Core.Path.{refl}
 use Rattle.symbols.specs.Charset.{isUpper}
 use Rattle.symbols.proofs.charset.is_upper.Statement.{statement}

@@ -1,3 +1,4 @@
+-- By case; an upper-case letter is small enough to add 32.
 use mathlib.Core.Path.{sym, _∙_}
 use native.Mathlib.Omega.{arith}
 use Rattle.symbols.specs.Charset.{lower}

@@ -1,3 +1,4 @@
+-- The table is the definition tabulated at the 256 bytes.
 use Rattle.refusal.proofs.Laws.Below.{tabulated-at}
 use Rattle.symbols.specs.Charset.{placeOf, lower, isUpper}
 use Rattle.symbols.specs.Calls.{valueAt}

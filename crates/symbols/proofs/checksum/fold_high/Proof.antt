@@ -1,3 +1,4 @@
+-- Invariant: the fold over all high bits is the fold over those from i on, from the state reached.
 use Prim.Native.Nat.{_-_, _/_, _≤_}
 use mathlib.Core.Path.{_≡_, refl, sym, ap, _∙_}
 use mathlib.Core.List.{map}

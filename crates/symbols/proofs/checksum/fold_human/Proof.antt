@@ -1,3 +1,4 @@
+-- The fold over high bits, a zero and low bits is the three folds one behind the other.
 use Prim.Native.Nat.{_/_, _%_}
 use mathlib.Core.Path.{sym}
 use mathlib.Core.List.{_∷_, map}

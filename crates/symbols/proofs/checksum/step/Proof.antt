@@ -1,3 +1,4 @@
+-- Invariant: the state after the symbol is r with the constants from i on folded in, by the bits that are left.
 use Prim.Native.Nat.{_+_, _-_, _/_, _≤_}
 use mathlib.Core.Path.{_≡_, refl, sym, ap, _∙_}
 use lib.Bits.{bitXor}

@@ -1,3 +1,4 @@
+-- The test is the definition's.
 use borrow.Author.Tests.{eq-eqb, ne-eqb}
 use Rattle.symbols.specs.Checksum.{taken}
 use Rattle.symbols.proofs.checksum.take_if.Statement.{statement}

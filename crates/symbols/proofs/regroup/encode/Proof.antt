@@ -1,3 +1,4 @@
+-- As many places as `out` has make fewer bytes than the payload has exactly if its symbols do not fit.
 use lib.ListN.{length}
 use native.Mathlib.Omega.{arith}
 use denote.Ref.{now}

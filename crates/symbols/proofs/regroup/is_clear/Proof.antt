@@ -1,3 +1,4 @@
+-- By how many bits remain: fewer than 5 are zero if their power of two divides the last symbol.
 use Prim.Native.Nat.{_%_}
 use mathlib.Core.Path.{_≡_}
 use native.Mathlib.Omega.{arith}

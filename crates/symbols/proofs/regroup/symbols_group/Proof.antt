@@ -1,3 +1,4 @@
+-- The eight writes, from place 0 on, put the list of the eight symbols that five bytes make.
 use native.Mathlib.Omega.{arith}
 use lib.ListN.{length-set}
 use lib.Seq.{sets-eq}

@@ -1,3 +1,4 @@
+-- Invariant: the first i groups' symbols stand at the front of `out`, 8 of each, and behind them `out` is as it was.
 use Prim.Native.Nat.{_-_, _*_, _/_, _≤_}
 use mathlib.Core.Path.{_≡_, refl, _∙_}
 use mathlib.Core.List.{_++_}

@@ -1,3 +1,4 @@
+-- By the number of bytes: the writes of each case, from place 0 on, put the list of its symbols.
 use native.Mathlib.Omega.{arith}
 use lib.ListN.{length-set}
 use lib.Seq.{sets-eq}
