@@ -165,7 +165,7 @@ fn print_given(
     )
 }
 
-// The entries of a kind, of which none has more than there may be header stanzas.
+// The entries of a kind of phase one: none has more slots than the header stanzas.
 fn print_table(
     number: usize,
     kind: Kind,
