@@ -48,18 +48,21 @@ fn instructions_of(program: Program, task: Task, on: &Measured) -> f64 {
 /// The instructions of a whole run of this program that does the task so many times.
 fn under_valgrind(program: Program, task: Task, on: &Measured, times: usize) -> u64 {
     let this = std::env::current_exe().expect("this program's path");
-    let counts = this.with_file_name("callgrind.out");
-    let output = Command::new("valgrind")
-        .arg("--tool=callgrind")
-        .arg(format!("--callgrind-out-file={}", counts.display()))
-        .arg(&this)
-        .args(["count", &format!("{program:?}"), &format!("{task:?}"), on.name, &times.to_string()])
-        .output()
-        .expect("valgrind runs");
+    let words = ["count", &format!("{program:?}"), &format!("{task:?}"), on.name, &times.to_string()];
+    callgrind(|command| command.arg(this).args(words)).0
+}
+
+/// The instructions that callgrind collects in a run, and what the run prints.
+pub fn callgrind(add: impl FnOnce(&mut Command) -> &mut Command) -> (u64, Vec<u8>) {
+    let counts = std::env::current_exe().expect("this program's path").with_file_name("callgrind.out");
+    let mut command = Command::new("valgrind");
+    command.arg("--tool=callgrind").arg(format!("--callgrind-out-file={}", counts.display()));
+    let output = add(&mut command).output().expect("valgrind runs");
     let said = String::from_utf8_lossy(&output.stderr);
     assert!(output.status.success(), "valgrind: {said}");
     let collected = said.lines().find_map(|line| line.split("Collected : ").nth(1));
-    collected.and_then(|count| count.trim().parse().ok()).expect("valgrind says what it collected")
+    let count = collected.and_then(|count| count.trim().parse().ok());
+    (count.expect("valgrind says what it collected"), output.stdout)
 }
 
 /// `count PROGRAM TASK TEXT TIMES`: does the task so many times and nothing else.

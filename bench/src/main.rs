@@ -1,10 +1,12 @@
-//! The library beside the second program: the same results, then times and instruction counts. `bench/run` builds and runs it.
+//! The library beside the second program and plain C: the same results, then times and instruction counts. `bench/run` builds and runs it.
 //!
-//! `bench count PROGRAM TASK TEXT TIMES` and `bench replay` are what it runs under valgrind.
+//! `bench count PROGRAM TASK TEXT TIMES` and `bench calls PROGRAM ROW COUNT` are what it runs under valgrind.
 
 mod agreement;
+mod calls;
 mod figures;
 mod library;
+mod rows;
 mod sessions;
 mod texts;
 mod work;
@@ -43,8 +45,8 @@ fn main() {
         report(&measured);
         println!();
         sessions::report();
-    } else if words == ["replay"] {
-        sessions::answer_script();
+    } else if words[0] == "calls" {
+        sessions::make_calls(&words);
     } else {
         figures::count_one(&words, &measured);
     }

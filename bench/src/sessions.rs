@@ -1,136 +1,112 @@
-//! The instructions of a session's command, in replay scripts that both programs answer. A command's figure is what its lines take in a session
-//! of their phase, less what the same lines take where no session is open: there they are read and answered "none". So it has the call, and
-//! the difference between printing its answer and printing "none". A session has 43 KB and is handed in and back by value: most of the figure is
-//! copying it. The C library is told to copy in vector registers, since callgrind counts a string instruction once for each byte.
+//! The instructions of a session's calls. The library's are counted in the replay program while it makes the call of a line, less what the same
+//! line takes there when no session is open: reading a script and printing answers are not counted, but what the program does to lend buffers
+//! and to keep the session is. The second program and plain C make the same calls in this process.
 
-use crate::texts::bytes;
-use crate::work::{Program, PROGRAMS};
-use reference::{replay, script, stanza};
-use std::io::Write as _;
-use std::process::{Command, Stdio};
+use crate::calls::{buffers_line, Call, Within};
+use crate::figures::callgrind;
+use crate::rows::{rows, Aim, Row};
+use reference::replay;
+use std::fs::{self, File};
+use std::hint::black_box;
 
-/// As many stanzas as one file may get from 64 recipients and 64 identities.
-const TIMES: usize = 128;
+/// The replay program and two functions of it: `MAKE_CALL` makes the call of a line; `FIND_WORD` tells a script's words, within it too.
+const REPLAY: &str = "target/bin/replay";
+const MAKE_CALL: &str = "replay::turns::make_call";
+const FIND_WORD: &str = "script::choices::find_word";
 
-/// Copying and clearing by loops of vector instructions at any length.
-const TUNABLES: &str =
-    "glibc.cpu.x86_rep_movsb_threshold=1000000000:glibc.cpu.x86_rep_stosb_threshold=1000000000";
+/// The C library copies and clears by loops of vector instructions at any length, since callgrind counts a string instruction once for each
+/// byte; and its functions are found before the program starts.
+const SETTINGS: [(&str, &str); 2] = [
+    (
+        "GLIBC_TUNABLES",
+        "glibc.cpu.x86_rep_movsb_threshold=1000000000:glibc.cpu.x86_rep_stosb_threshold=1000000000",
+    ),
+    ("LD_BIND_NOW", "1"),
+];
 
-/// What is measured: the lines that open a session and bring it to phase two, and those of one command.
-struct Measured {
-    name: &'static str,
-    opening: String,
-    command: String,
-}
-
-/// Prints a line for each command.
+/// Prints a line for each row.
 pub fn report() {
-    println!("Instructions a command of a session, the session handed in and back by value:");
-    println!("{:<45} {:>12} {:>12} {:>6}", "command", "library", "second", "ratio");
-    for one in measured() {
-        let counts = PROGRAMS.map(|program| instructions(program, &one));
-        println!(
-            "{:<45} {:>7.0} ins. {:>7.0} ins. {:>6.2}",
-            one.name,
-            counts[0],
-            counts[1],
-            counts[0] / counts[1]
-        );
+    let program = fs::read(REPLAY).expect("the replay program");
+    for name in [MAKE_CALL, FIND_WORD] {
+        assert!(program.windows(name.len()).any(|part| part == name.as_bytes()), "{REPLAY} has {name}");
+    }
+    println!("Instructions of a session's call; of several calls one behind the other, the mean. The library's are counted in the replay program");
+    println!("while it makes a line's call, less the same line with no session open; the others make the same calls in this program.");
+    println!(
+        "{:<58} {:>5} {:>8} {:>8} {:>6} {:>8} {:>6}",
+        "call", "times", "library", "second", "ratio", "plain C", "ratio"
+    );
+    for (number, row) in rows().iter().enumerate() {
+        let library = library(row);
+        let second = within(Within::Second, number, row);
+        print!("{:<58} {:>5} {library:>8.0} {second:>8.0} {:>6.2}", row.name, row.times, library / second);
+        if row.plain {
+            assert_eq!(Within::PlainC.make(&row.calls), Within::Second.make(&row.calls), "{}", row.name);
+            let plain = within(Within::PlainC, number, row);
+            print!(" {plain:>8.0} {:>6.2}", library / plain);
+        } else {
+            print!(" {:>8} {:>6}", "", "");
+        }
+        let said = |met| if met { "met" } else { "NOT met" };
+        match row.aim {
+            Some(Aim::AtMost(most)) => println!("  aim: at most {most}, {}", said(library <= most)),
+            Some(Aim::BelowSecond) => println!("  aim: ratio below 1, {}", said(library < second)),
+            None => println!(),
+        }
     }
 }
 
-/// What the bench program does for the second program under valgrind.
-pub fn answer_script() {
-    let mut output = std::io::BufWriter::new(std::io::stdout().lock());
-    replay::run(std::io::stdin().lock(), &mut output).expect("a script is answered");
-    output.flush().expect("standard output is there");
-}
-
-fn measured() -> Vec<Measured> {
-    let stanza = line("receive", &text(b"recipient-stanza 0 interop", &bytes(32)));
-    let unknown = line("receive", &text(b"grease a b", b""));
-    let msg =
-        format!("send msg \\e {} 8192\n{}", word(b"Touch the token"), line("response", &text(b"ok", b"")));
-    vec![
-        Measured { name: "receive recipient-stanza, a body of 32 bytes", opening: client(), command: stanza },
-        Measured { name: "receive an unknown command", opening: client(), command: unknown },
-        Measured { name: "send msg, and receive its response", opening: plugin(), command: msg },
-    ]
-}
-
-/// A line that receives a text.
-fn line(call: &str, text: &[u8]) -> String {
-    format!("{call} {} 8192\n", word(text))
-}
-
-/// A word of a script.
-fn word(bytes: &[u8]) -> String {
-    let mut word = Vec::new();
-    script::escape(bytes, &mut word);
-    String::from_utf8(word).expect("escapes are ASCII")
-}
-
-/// A stanza.
-fn text(arguments: &[u8], body: &[u8]) -> Vec<u8> {
-    let mut out = vec![0; stanza::LIMIT];
-    let len = stanza::write(arguments, body, &mut out).expect("what can be written");
-    out.truncate(len);
-    out
-}
-
-/// A client in phase two, with a file key and as many recipients and identities as there may be.
-fn client() -> String {
-    let mut lines =
-        String::from("open client recipient-v1 interop no-screen 4096 4096 1024 0 1024 65536 0\n");
-    for _ in 0..TIMES / 2 {
-        lines.push_str("send add-recipient age1interop1qyqszqg83syvs \\e 8192\n");
-        lines.push_str("send add-identity AGE-PLUGIN-INTEROP-1QYQSZQG5Z25TP \\e 8192\n");
-    }
-    lines.push_str("send wrap-file-key \\e 0123456789abcdef 8192\nsend done \\e \\e 8192\n");
-    lines
-}
-
-/// A plugin in phase two that received nothing but done.
-fn plugin() -> String {
-    let mut lines = String::from("open plugin recipient-v1 interop 4096 4096 1024 0 1024 65536 0\n");
-    lines.push_str(&line("receive", &text(b"done", b"")));
-    lines
-}
-
-fn instructions(program: Program, one: &Measured) -> f64 {
-    let lines = one.command.repeat(TIMES);
-    let within = run(program, &format!("{}{lines}", one.opening), "ok") - run(program, &one.opening, "ok");
-    let without = run(program, &lines, "none") - run(program, "", "");
-    (within as f64 - without as f64) / TIMES as f64
-}
-
-/// The instructions of a whole run on a script, each line of which must be answered so.
-fn run(program: Program, lines: &str, answer: &str) -> u64 {
-    let this = std::env::current_exe().expect("this program's path");
-    let counts = this.with_file_name("callgrind.out");
-    let mut command = Command::new("valgrind");
-    command.arg("--tool=callgrind").arg(format!("--callgrind-out-file={}", counts.display()));
-    match program {
-        Program::Library => command.arg("target/bin/replay"),
-        Program::Reference => command.arg(&this).arg("replay"),
+/// `calls PROGRAM ROW COUNT`: makes the row's first calls and nothing else.
+pub fn make_calls(words: &[String]) {
+    let [_, program, number, count] = words else {
+        panic!("usage: bench [calls PROGRAM ROW COUNT]");
     };
-    let mut child = command
-        .env("GLIBC_TUNABLES", TUNABLES)
-        .stdin(Stdio::piped())
-        .stdout(Stdio::piped())
-        .stderr(Stdio::piped())
-        .spawn()
-        .expect("valgrind runs");
-    let input = child.stdin.take().expect("a pipe");
-    let script = lines.to_owned();
-    let writer = std::thread::spawn(move || { input }.write_all(script.as_bytes()));
-    let output = child.wait_with_output().expect("valgrind ends");
-    writer.join().expect("the script is written").expect("the script is read");
-    let said = String::from_utf8_lossy(&output.stderr);
-    let answers = String::from_utf8_lossy(&output.stdout);
-    assert!(output.status.success(), "valgrind: {said}");
-    assert_eq!(answers.lines().count(), lines.lines().count(), "an answer to each line");
-    assert!(answers.lines().all(|given| given.starts_with(answer)), "{answers}");
-    let collected = said.lines().find_map(|line| line.split("Collected : ").nth(1));
-    collected.and_then(|count| count.trim().parse().ok()).expect("valgrind says what it collected")
+    let programs = [Within::Second, Within::PlainC];
+    let program = programs.into_iter().find(|one| format!("{one:?}") == *program).expect("a program");
+    let row = rows().swap_remove(number.parse().expect("a row's number"));
+    black_box(program.make(&row.calls[..count.parse().expect("how many calls")]));
+}
+
+/// The instructions of a row's calls in this program.
+fn within(program: Within, number: usize, row: &Row) -> f64 {
+    let this = std::env::current_exe().expect("this program's path");
+    let run = |count: usize| {
+        let words = ["calls".to_owned(), format!("{program:?}"), number.to_string(), format!("{count:03}")];
+        callgrind(|command| command.arg(&this).args(words).envs(SETTINGS)).0
+    };
+    (run(row.calls.len()) - run(row.before)) as f64 / row.times as f64
+}
+
+/// The instructions of a row's calls in the library.
+fn library(row: &Row) -> f64 {
+    let lines = |calls: &[Call]| calls.iter().map(Call::line).collect::<String>();
+    let (before, measured) = row.calls.split_at(row.before);
+    let with = more("#\n".to_owned() + &lines(before), &lines(measured), "ok");
+    let without = match measured[0] {
+        Call::Open { .. } => more(lines(measured), &buffers_line(), "ok"),
+        _ => more("#\n".to_owned(), &lines(measured), "none"),
+    };
+    (with as f64 - without as f64) / row.times as f64
+}
+
+/// What some lines take behind others, each of them answered so.
+fn more(before: String, lines: &str, answer: &str) -> u64 {
+    let (least, _) = answered(&before);
+    let (all, answers) = answered(&(before + lines));
+    let count = lines.lines().count();
+    assert!(answers.lines().rev().take(count).all(|given| given.starts_with(answer)), "{answers}");
+    all - least
+}
+
+/// The instructions of the calls of a script, and its answers, which are the second program's.
+fn answered(script: &str) -> (u64, String) {
+    let file = std::env::current_exe().expect("this program's path").with_file_name("script");
+    fs::write(&file, script).expect("the script is written");
+    let input = File::open(&file).expect("the script is there");
+    let toggles = [MAKE_CALL, FIND_WORD].map(|name| format!("--toggle-collect={name}"));
+    let (count, answers) = callgrind(|command| command.args(toggles).arg(REPLAY).envs(SETTINGS).stdin(input));
+    let mut expected = Vec::new();
+    replay::run(script.as_bytes(), &mut expected).expect("a script is answered");
+    assert!(answers == expected, "the answers to {}", file.display());
+    (count, String::from_utf8(answers).expect("answers are ASCII"))
 }

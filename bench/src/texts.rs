@@ -51,7 +51,7 @@ fn bech32_text(name: &'static str, kind: Kind, payload_len: usize, text_len: usi
 }
 
 /// The text that the second program writes.
-fn written(write: impl Fn(&mut [u8]) -> Option<usize>) -> Vec<u8> {
+pub fn written(write: impl Fn(&mut [u8]) -> Option<usize>) -> Vec<u8> {
     let mut text = vec![0; LIMIT];
     let len = write(&mut text).expect("what can be written");
     text.truncate(len);

@@ -1,6 +1,6 @@
 -- Base64 in lines of 64 characters, as a stanza's body has it (document 01, "Stanza text"): the last line has 0 to 63 characters, and every
 -- line ends in LF. So 48 bytes make a line of 64 and an empty line.
-use Prim.Native.Nat.{ℕ, _+_, _-_, _*_, _/_, _%_}
+use Prim.Native.Nat.{ℕ, _+_}
 use mathlib.Core.List.{List, [], _∷_}
 use mathlib.Core.Bool.{Bool, _&&_}
 use lib.Dec.{ltb, eqb}

@@ -1,8 +1,8 @@
 -- What the private functions ask of the tables and buffers that they are lent. Nobody has to believe this: each caller shows it.
-use Prim.Native.Nat.{ℕ, _+_, _-_, _*_, _/_, _%_, _<_, _≤_}
+use Prim.Native.Nat.{ℕ, _+_, _-_, _*_, _/_, _%_, _<_}
 use mathlib.Core.Path.{_≡_}
 use mathlib.Core.List.{List}
-use lib.ListN.{length, getD}
+use lib.ListN.{getD}
 use Rattle.base64.specs.Alphabet.{valueOf, characterOf}
 
 -- the value of each byte

@@ -2,7 +2,7 @@
 ghost use mathlib.Core.Path.{_≡_};
 ghost use Prim.Native.Nat.{_+_, _<_, _≤_};
 ghost use lib.ListN.{length, drop, take};
-ghost use Rattle.base64.specs.Alphabet.{isCharacter, valueOf, characterOf};
+ghost use Rattle.base64.specs.Alphabet.{isCharacter, valueOf};
 ghost use Rattle.base64.specs.Code.{endsWell};
 ghost use Rattle.refusal.specs.Run.{all, run};
 ghost use Rattle.base64.specs.Tables.{Values, Characters};

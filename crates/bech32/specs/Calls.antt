@@ -9,11 +9,11 @@ use Rattle.refusal.specs.Same.{same}
 use Rattle.refusal.specs.Output.{Answer, refused, overflows, answered, filled}
 use Rattle.symbols.specs.Charset.{lower}
 use Rattle.bech32.specs.Text.{Form, recipient, identity, isName, textOf, noLower, noUpper, Parsed, parsed, none, isChecked}
-use Rattle.bech32.specs.declared.charset.Kind.{Kind}
-use Rattle.bech32.specs.declared.charset.Kind.the-variants.{Recipient, Identity}
+use Rattle.bech32.specs.declared.TextKind.{TextKind}
+use Rattle.bech32.specs.declared.TextKind.the-variants.{Recipient, Identity}
 
 -- the form of a kind
-abbrev pub formOf : Kind → Form
+abbrev pub formOf : TextKind → Form
 formOf Recipient = recipient
 formOf Identity = identity
 

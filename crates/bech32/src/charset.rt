@@ -1,16 +1,11 @@
-// The two kinds of text, and the alphabet in the case of each.
+// The alphabet in the case of each kind of text.
 ghost use mathlib.Core.Path.{_≡_};
 ghost use Prim.Native.Nat.{_<_};
 ghost use Rattle.symbols.specs.Charset.{characterOf};
 ghost use Rattle.bech32.specs.Calls.{formOf};
 ghost use Rattle.bech32.specs.Steps.{Characters, casedByte};
+use crate::TextKind;
 use symbols::is_lower;
-
-// The two kinds of text.
-pub enum Kind {
-    Recipient,
-    Identity,
-}
 
 // The character of each value, in lower and in upper case.
 const ALPHABET: [u8; 32] = *b"qpzry9x8gf2tvdw0s3jn54khce6mua7l";
@@ -18,12 +13,12 @@ const ALPHABET: [u8; 32] = *b"qpzry9x8gf2tvdw0s3jn54khce6mua7l";
 const CAPITALS: [u8; 32] = *b"QPZRY9X8GF2TVDW0S3JN54KHCE6MUA7L";
 
 // The table by value: a caller copies it once and lends it to each look-up.
-pub(crate) fn characters(kind: Kind) -> [u8; 32]
+pub(crate) fn characters(kind: TextKind) -> [u8; 32]
     ensures { λ r. ⌜ Characters (formOf kind) r ⌝ }
 {
     match kind {
-        Kind::Recipient => ALPHABET,
-        Kind::Identity => CAPITALS,
+        TextKind::Recipient => ALPHABET,
+        TextKind::Identity => CAPITALS,
     }
 }
 
@@ -34,7 +29,7 @@ fn wide(b: u8) -> usize
 }
 
 // A value's character, by the table.
-pub(crate) fn character(kind: Kind, table: &[u8; 32], v: u8) -> u8
+pub(crate) fn character(kind: TextKind, table: &[u8; 32], v: u8) -> u8
     requires { ⌜ Characters (formOf kind) (now table) ⌝ }
     requires { ⌜ v < 32 ⌝ }
     ensures { λ r. ⌜ r ≡ casedByte (formOf kind) (characterOf v) ⌝ }
@@ -43,12 +38,12 @@ pub(crate) fn character(kind: Kind, table: &[u8; 32], v: u8) -> u8
 }
 
 // A byte in the kind's case.
-pub(crate) fn cased(kind: Kind, b: u8) -> u8
+pub(crate) fn cased(kind: TextKind, b: u8) -> u8
     ensures { λ r. ⌜ r ≡ casedByte (formOf kind) b ⌝ }
 {
     match kind {
-        Kind::Recipient => b,
-        Kind::Identity => {
+        TextKind::Recipient => b,
+        TextKind::Identity => {
             if is_lower(b) {
                 return b - 32;
             }

@@ -1,6 +1,6 @@
 // The human part: what stands before and behind a plugin's name, and the name.
 ghost use mathlib.Core.Path.{_≡_};
-ghost use mathlib.Core.List.{[], _∷_, _++_, map};
+ghost use mathlib.Core.List.{[], _++_, map};
 ghost use Prim.Native.Nat.{_+_, _≤_};
 ghost use lib.ListN.{length, drop};
 ghost use Rattle.refusal.specs.Run.{all};
@@ -9,7 +9,7 @@ ghost use Rattle.symbols.specs.Charset.{lower};
 ghost use Rattle.bech32.specs.Text.{isNameByte, isName, inCase, humanPart};
 ghost use Rattle.bech32.specs.Calls.{formOf, padded, givenName};
 ghost use Rattle.bech32.specs.Steps.{shortened, nameBetween, nameOr};
-use crate::charset::Kind;
+use crate::TextKind;
 use crate::charset::cased;
 use symbols::lowered;
 
@@ -148,29 +148,29 @@ fn name_between(human: &[u8], front: &[u8], back: &[u8]) -> Name
 }
 
 // The name in a human part of the kind, in lower case; no name where there is none.
-pub(crate) fn name_in(kind: Kind, human: &[u8]) -> Name
+pub(crate) fn name_in(kind: TextKind, human: &[u8]) -> Name
     ensures bytes { λ r. ⌜ r .bytes ≡ padded (nameOr (formOf kind) (map lower (now (human .entry)))) ⌝ }
     ensures length { λ r. ⌜ r .length ≡ length (nameOr (formOf kind) (map lower (now (human .entry)))) ⌝ }
 {
     match kind {
-        Kind::Recipient => name_between(human, b"age1", b""),
-        Kind::Identity => name_between(human, b"age-plugin-", b"-"),
+        TextKind::Recipient => name_between(human, b"age1", b""),
+        TextKind::Identity => name_between(human, b"age-plugin-", b"-"),
     }
 }
 
 // How long the human part of a name of n bytes is.
-pub(crate) fn human_length(kind: Kind, n: usize) -> usize
+pub(crate) fn human_length(kind: TextKind, n: usize) -> usize
     requires { ⌜ n ≤ 32 ⌝ }
     ensures { λ r. ⌜ r ≡ n + length (humanPart (formOf kind) []) ⌝ }
 {
     match kind {
-        Kind::Recipient => n + 4,
-        Kind::Identity => n + 12,
+        TextKind::Recipient => n + 4,
+        TextKind::Identity => n + 12,
     }
 }
 
 // A word in the kind's case at the front of `out`, which is long enough.
-fn put_word(kind: Kind, word: &[u8], out: &mut [u8])
+fn put_word(kind: TextKind, word: &[u8], out: &mut [u8])
     requires { ⌜ length (now word) ≤ length (now out) ⌝ }
     ensures { λ _. ⌜ now (out .exit) ≡ inCase (formOf kind) (now (word .entry)) ++ drop (length (now (word .entry))) (now (out .entry)) ⌝ }
 {
@@ -182,7 +182,7 @@ fn put_word(kind: Kind, word: &[u8], out: &mut [u8])
 }
 
 // Three words, one behind the other.
-fn put_words(kind: Kind, front: &[u8], name: &[u8], back: &[u8], out: &mut [u8])
+fn put_words(kind: TextKind, front: &[u8], name: &[u8], back: &[u8], out: &mut [u8])
     requires { ⌜ length (now front) + length (now name) + length (now back) ≤ length (now out) ⌝ }
     ensures { λ _. ⌜ now (out .exit) ≡ inCase (formOf kind) (now (front .entry) ++ now (name .entry) ++ now (back .entry)) ++ drop (length (now (front .entry)) + length (now (name .entry)) + length (now (back .entry))) (now (out .entry)) ⌝ }
 {
@@ -194,12 +194,12 @@ fn put_words(kind: Kind, front: &[u8], name: &[u8], back: &[u8], out: &mut [u8])
 }
 
 // The human part of a name at the front of `out`, which is long enough.
-pub(crate) fn put_human(kind: Kind, name: &[u8], out: &mut [u8])
+pub(crate) fn put_human(kind: TextKind, name: &[u8], out: &mut [u8])
     requires { ⌜ length (humanPart (formOf kind) (now name)) ≤ length (now out) ⌝ }
     ensures { λ _. ⌜ now (out .exit) ≡ inCase (formOf kind) (humanPart (formOf kind) (now (name .entry))) ++ drop (length (humanPart (formOf kind) (now (name .entry)))) (now (out .entry)) ⌝ }
 {
     match kind {
-        Kind::Recipient => put_words(kind, b"age1", name, b"", out),
-        Kind::Identity => put_words(kind, b"age-plugin-", name, b"-", out),
+        TextKind::Recipient => put_words(kind, b"age1", name, b"", out),
+        TextKind::Identity => put_words(kind, b"age-plugin-", name, b"-", out),
     }
 }

@@ -4,13 +4,17 @@ mod human;
 mod parsing;
 mod writing;
 
-pub use charset::Kind;
 pub use human::Name;
 pub use human::is_lowered;
 pub use human::name_of;
-pub use parsing::Reading;
+pub use parsing::ReadText;
 pub use parsing::holds;
 pub use parsing::mark;
 pub use parsing::read;
-pub use symbols::step;
 pub use writing::write;
+
+// The two kinds of text.
+pub enum TextKind {
+    Recipient,
+    Identity,
+}

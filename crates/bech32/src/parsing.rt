@@ -1,14 +1,17 @@
 // Reading recipients and identities. The verdict comes first, then the bytes, so that nothing is written where the text is refused.
 ghost use mathlib.Core.Path.{_≡_};
+ghost use Prim.Native.Nat.{_+_, _≤_};
 ghost use mathlib.Core.Bool.{_||_};
 ghost use mathlib.Core.List.{[], map};
-ghost use lib.ListN.{length};
+ghost use lib.ListN.{length, drop, take};
+ghost use Rattle.refusal.specs.Run.{all};
 ghost use Rattle.refusal.specs.Output.{said};
 ghost use Rattle.symbols.specs.Charset.{lower};
-ghost use Rattle.bech32.specs.Text.{noLower, noUpper, isCased, separator, isChecked, parse};
+ghost use Rattle.symbols.specs.Steps.{Values};
+ghost use Rattle.bech32.specs.Text.{noLower, noUpper, isCased, isNotOne, separator, isChecked, parse};
 ghost use Rattle.bech32.specs.Calls.{formOf, isSound, padded, readAnswer, readBuffer, readName, markOf};
 ghost use Rattle.bech32.specs.Steps.{nameOf};
-use crate::charset::Kind;
+use crate::TextKind;
 use crate::human::Name;
 use crate::human::is_lowered;
 use crate::human::name_in;
@@ -22,9 +25,10 @@ use symbols::is_closed;
 use symbols::is_lower;
 use symbols::is_upper;
 use symbols::is_whole;
+use symbols::values;
 
 // What reading gives: how long the payload at the buffer's front is, or 16 or 15; and the name, empty where refused.
-pub struct Reading {
+pub struct ReadText {
     pub answer: Written,
     pub name: Name,
 }
@@ -56,12 +60,12 @@ fn no_upper(text: &[u8]) -> bool
 }
 
 // Whether no letter is of the wrong case.
-fn is_cased(kind: Kind, text: &[u8]) -> bool
+fn is_cased(kind: TextKind, text: &[u8]) -> bool
     ensures { λ r. ⌜ r ≡ isCased (formOf kind) (now (text .entry)) ⌝ }
 {
     match kind {
-        Kind::Recipient => no_upper(text),
-        Kind::Identity => no_lower(text),
+        TextKind::Recipient => no_upper(text),
+        TextKind::Identity => no_lower(text),
     }
 }
 
@@ -75,11 +79,31 @@ fn is_one_case(text: &[u8]) -> bool
     no_upper(text)
 }
 
+// Whether none of the 8 bytes from `at` on is a "1". No early exit, so that the loop is vectorised.
+fn eight_without_one(text: &[u8], at: usize) -> bool
+    requires { ⌜ at + 8 ≤ length (now text) ⌝ }
+    ensures { λ r. ⌜ r ≡ all isNotOne (take 8 (drop at (now (text .entry)))) ⌝ }
+{
+    let mut good = true;
+    let mut j: usize = 0;
+    while j < 8 {
+        good = good & (text[at + j] != 49);
+        j += 1;
+    }
+    good
+}
+
 // Where the last "1" stands, looked for from the right; the length where there is none.
 fn find_separator(text: &[u8]) -> usize
     ensures { λ r. ⌜ r ≡ separator (now (text .entry)) ⌝ }
 {
     let mut i = text.len();
+    while 8 <= i {
+        if !eight_without_one(text, i - 8) {
+            break;
+        }
+        i -= 8;
+    }
     while 0 < i {
         i -= 1;
         if text[i] == 49 {
@@ -90,7 +114,8 @@ fn find_separator(text: &[u8]) -> usize
 }
 
 // Whether the checksum holds over the lower-case form; `at` is where the separator stands.
-fn is_checked(text: &[u8], at: usize) -> bool
+fn is_checked(table: &[u8; 256], text: &[u8], at: usize) -> bool
+    requires { ⌜ Values (now table) ⌝ }
     requires { ⌜ at ≡ separator (now text) ⌝ }
     ensures { λ r. ⌜ r ≡ isChecked (map lower (now (text .entry))) ⌝ }
 {
@@ -98,7 +123,7 @@ fn is_checked(text: &[u8], at: usize) -> bool
         return false;
     }
     let from = at + 1;
-    is_closed(&text[from..], fold_human(&text[..at]))
+    is_closed(table, &text[from..], fold_human(&text[..at]))
 }
 
 // Whether a text's checksum holds, and no letters of both cases are in it.
@@ -108,11 +133,13 @@ pub fn holds(text: &[u8]) -> bool
     if !is_one_case(text) {
         return false;
     }
-    is_checked(text, find_separator(text))
+    let table = values();
+    is_checked(&table, text, find_separator(text))
 }
 
 // The name of a text of the kind; no name where it is none. `at` is where the separator stands.
-fn examine(kind: Kind, text: &[u8], at: usize) -> Name
+fn examine(kind: TextKind, table: &[u8; 256], text: &[u8], at: usize) -> Name
+    requires { ⌜ Values (now table) ⌝ }
     requires { ⌜ at ≡ separator (now text) ⌝ }
     ensures bytes { λ r. ⌜ r .bytes ≡ padded (nameOf (formOf kind) (now (text .entry))) ⌝ }
     ensures length { λ r. ⌜ r .length ≡ length (nameOf (formOf kind) (now (text .entry))) ⌝ }
@@ -124,26 +151,27 @@ fn examine(kind: Kind, text: &[u8], at: usize) -> Name
     if !is_cased(kind, text) {
         return nameless();
     }
-    if !is_checked(text, at) {
+    if !is_checked(table, text, at) {
         return nameless();
     }
     let from = at + 1;
     let end = n - 6;
-    if !is_whole(&text[from..end]) {
+    if !is_whole(table, &text[from..end]) {
         return nameless();
     }
     name_in(kind, &text[..at])
 }
 
 // The payload of a text of the kind at the front of `out`, and its name: 16 if it isn't one, then 15; nothing written then.
-pub fn read(kind: Kind, text: &[u8], out: &mut [u8]) -> Reading
+pub fn read(kind: TextKind, text: &[u8], out: &mut [u8]) -> ReadText
     ensures answer { λ r. ⌜ said (r .answer) ≡ readAnswer (parse (formOf kind) (now (text .entry))) (now (out .entry)) ⌝ }
     ensures bytes { λ r. ⌜ r .name .bytes ≡ padded (readName (parse (formOf kind) (now (text .entry))) (now (out .entry))) ⌝ }
     ensures length { λ r. ⌜ r .name .length ≡ length (readName (parse (formOf kind) (now (text .entry))) (now (out .entry))) ⌝ }
     ensures buffer { λ r. ⌜ now (out .exit) ≡ readBuffer (parse (formOf kind) (now (text .entry))) (now (out .entry)) ⌝ }
 {
+    let table = values();
     let at = find_separator(text);
-    let name = examine(kind, text, at);
+    let name = examine(kind, &table, text, at);
     if name.length == 0 {
         return refused(Refusal::NotBech32);
     }
@@ -153,30 +181,31 @@ pub fn read(kind: Kind, text: &[u8], out: &mut [u8]) -> Reading
     if out.len() < n {
         return refused(Refusal::ShortOutput);
     }
-    decode(&text[from..end], out);
-    Reading {
+    decode(&table, &text[from..end], out);
+    ReadText {
         answer: Written::Bytes(n),
         name: name,
     }
 }
 
 // A refusal, with no name.
-fn refused(r: Refusal) -> Reading
+fn refused(r: Refusal) -> ReadText
     ensures answer { λ x. ⌜ x .answer ≡ Written.Refused r ⌝ }
     ensures bytes { λ x. ⌜ x .name .bytes ≡ padded [] ⌝ }
     ensures length { λ x. ⌜ x .name .length ≡ 0 ⌝ }
 {
-    Reading {
+    ReadText {
         answer: Written::Refused(r),
         name: nameless(),
     }
 }
 
 // The reader's number for a text of the kind and of a plugin, by its name in either case: 0, or 16, also for another name.
-pub fn mark(kind: Kind, text: &[u8], plugin: &[u8]) -> u8
+pub fn mark(kind: TextKind, text: &[u8], plugin: &[u8]) -> u8
     ensures { λ r. ⌜ r ≡ markOf (parse (formOf kind) (now (text .entry))) (now (plugin .entry)) ⌝ }
 {
-    let name = examine(kind, text, find_separator(text));
+    let table = values();
+    let name = examine(kind, &table, text, find_separator(text));
     let bytes = name.bytes;
     let length = name.length;
     if length == 0 {

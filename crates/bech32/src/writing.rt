@@ -3,7 +3,7 @@ ghost use mathlib.Core.Path.{_≡_};
 ghost use mathlib.Core.Bool.{true};
 ghost use mathlib.Core.List.{[], _∷_, _++_, map};
 ghost use Prim.Native.Nat.{_+_, _≤_};
-ghost use lib.ListN.{length, drop, take};
+ghost use lib.ListN.{length, drop};
 ghost use Rattle.refusal.specs.Output.{said};
 ghost use Rattle.symbols.specs.Charset.{characterOf};
 ghost use Rattle.symbols.specs.Checksum.{polymod, checksum, areSymbols};
@@ -11,7 +11,7 @@ ghost use Rattle.bech32.specs.Text.{inCase, humanPart, textOf, isName};
 ghost use Rattle.bech32.specs.Calls.{formOf, writeAnswer, writeBuffer};
 ghost use Rattle.bech32.specs.Steps.{Characters, withChecksum};
 ghost use Rattle.symbols.specs.Calls.{symbolsSize};
-use crate::charset::Kind;
+use crate::TextKind;
 use crate::charset::character;
 use crate::charset::characters;
 use crate::human::human_length;
@@ -34,7 +34,7 @@ fn symbols_length(n: usize) -> usize
 
 // The text of a name and a payload at the front of `out`: how long it is; or 17 where the name is none or the text would be longer than
 // 1,024, then 15; nothing written then.
-pub fn write(kind: Kind, name: &[u8], payload: &[u8], out: &mut [u8]) -> Written
+pub fn write(kind: TextKind, name: &[u8], payload: &[u8], out: &mut [u8]) -> Written
     ensures answer { λ r. ⌜ said r ≡ writeAnswer (formOf kind) (now (name .entry)) (now (payload .entry)) (now (out .entry)) ⌝ }
     ensures buffer { λ r. ⌜ now (out .exit) ≡ writeBuffer (formOf kind) (now (name .entry)) (now (payload .entry)) (now (out .entry)) ⌝ }
 {
@@ -56,7 +56,7 @@ pub fn write(kind: Kind, name: &[u8], payload: &[u8], out: &mut [u8]) -> Written
 }
 
 // The same where the name is one and the buffer is long enough.
-fn write_into(kind: Kind, name: &[u8], payload: &[u8], out: &mut [u8])
+fn write_into(kind: TextKind, name: &[u8], payload: &[u8], out: &mut [u8])
     requires { ⌜ isName (now name) ≡ true ⌝ }
     requires { ⌜ length (now payload) ≤ 1024 ⌝ }
     requires { ⌜ length (humanPart (formOf kind) (now name)) + symbolsSize (length (now payload)) + 7 ≤ length (now out) ⌝ }
@@ -71,7 +71,7 @@ fn write_into(kind: Kind, name: &[u8], payload: &[u8], out: &mut [u8])
 }
 
 // The characters of a payload and of its checksum behind a state, at the front of `out`, which is long enough.
-fn put_characters(kind: Kind, payload: &[u8], from: u32, out: &mut [u8])
+fn put_characters(kind: TextKind, payload: &[u8], from: u32, out: &mut [u8])
     requires { ⌜ length (now payload) ≤ 1024 ⌝ }
     requires { ⌜ symbolsSize (length (now payload)) + 6 ≤ length (now out) ⌝ }
     ensures { λ _. ⌜ now (out .exit) ≡ inCase (formOf kind) (map characterOf (withChecksum from (now (payload .entry)))) ++ drop (symbolsSize (length (now (payload .entry))) + 6) (now (out .entry)) ⌝ }
@@ -121,7 +121,7 @@ fn six_zeros(from: u32) -> u32
 }
 
 // Symbols to characters, in place.
-fn translate(kind: Kind, table: &[u8; 32], out: &mut [u8])
+fn translate(kind: TextKind, table: &[u8; 32], out: &mut [u8])
     requires { ⌜ Characters (formOf kind) (now table) ⌝ }
     requires { ⌜ areSymbols (now out) ≡ true ⌝ }
     ensures { λ _. ⌜ now (out .exit) ≡ inCase (formOf kind) (map characterOf (now (out .entry))) ⌝ }

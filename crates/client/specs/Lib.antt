@@ -1,5 +1,4 @@
--- What the client end's values stand for.
-pub mod Session
-pub mod Sending
-pub mod Replying
+-- What the client end's answers stand for.
 pub mod Receiving
+pub mod Replying
+pub mod Sending

@@ -2,7 +2,7 @@
 -- two as the plugin end speaks it, sendings with the responses received.
 use Prim.Native.Nat.{ℕ, zero, suc, _+_, _<_, _≤_}
 use mathlib.Core.Path.{_≡_}
-use mathlib.Core.Bool.{Bool, true, false, _&&_}
+use mathlib.Core.Bool.{Bool, true, false}
 use mathlib.Core.Logic.{_⊎_}
 use mathlib.Core.List.{List, [], _∷_, _++_, map}
 use lib.Dec.{eqb}
@@ -14,23 +14,24 @@ use Rattle.stanza.specs.Arguments.{argumentOf}
 use Rattle.stanza.specs.Writing.{isWritable}
 use Rattle.responses.specs.Responses.{fitsWhole, responseLine, response, responseOf}
 use Rattle.responses.specs.declared.Response.{Response}
-use Rattle.responses.specs.declared.WordTwo.{WordTwo}
-use Rattle.session.specs.Commands.{Command, bad, recipient, identity, key, header, done, other, doneWord}
-use Rattle.session.specs.PhaseOne as one
-use Rattle.session.specs.Views as one-kind
-use Rattle.session.specs.Views.{recipients, identities, keys, headers}
-use Rattle.session.specs.declared.commands.Machine.{Machine}
-use Rattle.conversation.specs.Calls.{Call, send-two, respond}
+use Rattle.session.specs.declared.words.WordTwo.{WordTwo}
+use Rattle.phase_one.specs.Commands.{CommandOne, bad, recipient, identity, key, header, done, other, doneWord}
+use Rattle.phase_one.specs.PhaseOne as one
+use Rattle.phase_one.specs.Views as one-kind
+use Rattle.phase_one.specs.Views.{recipients, identities, keys, headers}
+use Rattle.session.specs.declared.opening.Machine.{Machine}
+use Rattle.conversation.specs.Calls.{Call, send-two, respond, State}
+use Rattle.conversation.specs.Kinds.{Buffers}
 use Rattle.conversation.specs.CommandsTwo as two-command
 use Rattle.conversation.specs.CommandsTwo.{CommandTwo, lineSent}
 use Rattle.conversation.specs.PhaseTwo as two
 use Rattle.conversation.specs.PhaseTwo.{errors, stanzas, returned}
-use Rattle.conversation.specs.Phases.{All, Whole, lineIn, bodyIn, commandOf, rowsFrom, commandIn, payloadIn, isError, isStanzaFor, Reply, Block, Supply, skip}
+use Rattle.conversation.specs.Phases.{All, lineIn, bodyIn, commandOf, rowsFrom, commandIn, payloadIn, isStanzaFor, Reply, Block, Supply, skip}
 
 -- ---- phase one
 
 -- 4 and 5: a known command, or done, with wrong arguments or body, or an index badly written
-abbrev pub isRight : Command → Bool
+abbrev pub isRight : CommandOne → Bool
 isRight (recipient m) = true
 isRight (identity m) = true
 isRight key = true
@@ -40,12 +41,12 @@ isRight other = true
 isRight (bad n) = false
 
 -- the rows of a kind that a list of texts makes
-unfoldable pub rowsIn : Machine → List ℕ → one-kind.Kind → List (List ℕ) → List Row
+unfoldable pub rowsIn : Machine → List ℕ → one-kind.KindOne → List (List ℕ) → List Row
 rowsIn machine name k [] = []
 rowsIn machine name k (t ∷ ts) = rowsFrom machine name k t ++ rowsIn machine name k ts
 
 -- "64 places each for recipients, identities and file keys, and 256 places for header stanzas"
-abbrev pub slotsOf : one-kind.Kind → ℕ
+abbrev pub slotsOf : one-kind.KindOne → ℕ
 slotsOf recipients = 64
 slotsOf identities = 64
 slotsOf keys = 64
@@ -63,17 +64,25 @@ Rising (r ∷ []) = Unit
 Rising (r ∷ q ∷ rs) = (r .index ≤ q .index) × Rising (q ∷ rs)
 
 -- each command is right, and each kind has its slots, its bytes and, for header stanzas, its order
-pub record Allowed (machine : Machine) (name : List ℕ) (b : one.Buffers) (ts : List (List ℕ)) : Type 0 where
+pub record Allowed (machine : Machine) (name : List ℕ) (b : one.BuffersOne) (ts : List (List ℕ)) : Type 0 where
   pub right : All (λ t. isRight (commandOf machine name t) ≡ true) ts
-  pub slots : (k : one-kind.Kind) → length (rowsIn machine name k ts) ≤ slotsOf k
-  pub bytes : (k : one-kind.Kind) → bytesOf (rowsIn machine name k ts) ≤ length (one-kind.bufferOf k b)
+  pub slots : (k : one-kind.KindOne) → length (rowsIn machine name k ts) ≤ slotsOf k
+  pub bytes : (k : one-kind.KindOne) → bytesOf (rowsIn machine name k ts) ≤ length (one-kind.bufferOf k b)
   pub rising : Rising (rowsIn machine name headers ts)
 
 -- ---- phase two, commands: what phase one left is given as its rows, kind by kind
 
 -- phase one's tables, as they are shown
 abbrev pub Left : Type 0
-Left = one-kind.Kind → List Row
+Left = one-kind.KindOne → List Row
+
+-- what phase one left, as its tables show it
+abbrev pub leftOf : State → Left
+leftOf x k = one-kind.viewOf k (x .session .tables) (x .buffers .first)
+
+-- the lengths of phase two's buffers
+abbrev pub capacityOf : Buffers → two.KindTwo → ℕ
+capacityOf b k = length (two.bufferOf k (b .second))
 
 -- the row of a number has a property
 unfoldable pub RowAt : (Row → Type 0) → List Row → ℕ → Type 0
@@ -128,7 +137,7 @@ isErrorFor f two-command.other = false
 isErrorFor f (two-command.bad n) = false
 
 -- a command of a kind
-abbrev pub isKind : two.Kind → CommandTwo → Bool
+abbrev pub isKind : two.KindTwo → CommandTwo → Bool
 isKind k (two-command.ask w) = false
 isKind errors (two-command.stanza f) = false
 isKind stanzas (two-command.stanza f) = true
@@ -153,8 +162,8 @@ pub data Sum : Type 0 where
   keys-for : ℕ → Sum
   stanzas-for : ℕ → Sum
   errors-for : ℕ → Sum
-  entries : two.Kind → Sum
-  bytes : two.Kind → Sum
+  entries : two.KindTwo → Sum
+  bytes : two.KindTwo → Sum
 
 -- what one command adds to it
 abbrev pub weight : Sum → Said → ℕ
@@ -170,13 +179,13 @@ total m [] = 0
 total m (c ∷ cs) = weight m c + total m cs
 
 -- "384, 256 and 256 places"
-abbrev pub slotsTwo : two.Kind → ℕ
+abbrev pub slotsTwo : two.KindTwo → ℕ
 slotsTwo errors = 384
 slotsTwo stanzas = 256
 slotsTwo returned = 256
 
 -- the rules between commands, over the sums alone; `most` is how many recipients and identities there are
-pub record Limits (most : ℕ) (capacity : two.Kind → ℕ) (n : Sum → ℕ) : Type 0 where
+pub record Limits (most : ℕ) (capacity : two.KindTwo → ℕ) (n : Sum → ℕ) : Type 0 where
   -- "one key per file at most"
   pub once : (f : ℕ) → n (keys-for f) ≤ 1
   -- "a file gets at most as many stanzas as there are recipients and identities together"
@@ -186,8 +195,8 @@ pub record Limits (most : ℕ) (capacity : two.Kind → ℕ) (n : Sum → ℕ) :
   -- "error stanza f and file-key f don't both occur"
   pub apart-file : (f : ℕ) → (n (errors-for f) ≡ 0) ⊎ (n (keys-for f) ≡ 0)
   -- each kind has its slots, and its payloads fit its buffer
-  pub slots : (k : two.Kind) → n (entries k) ≤ slotsTwo k
-  pub bytes-fit : (k : two.Kind) → n (bytes k) ≤ capacity k
+  pub slots : (k : two.KindTwo) → n (entries k) ≤ slotsTwo k
+  pub bytes-fit : (k : two.KindTwo) → n (bytes k) ≤ capacity k
 
 -- ---- phase two at the client end
 
@@ -223,7 +232,7 @@ pub record RightBlock (machine : Machine) (screen : Bool) (left : Left) (x : Blo
   pub answered : Answered screen (commandIn machine (x .text)) (x .replies)
 
 -- each block is right by itself, and together they keep the limits
-pub record AllowedTwo (machine : Machine) (screen : Bool) (left : Left) (capacity : two.Kind → ℕ) (xs : List Block) : Type 0 where
+pub record AllowedTwo (machine : Machine) (screen : Bool) (left : Left) (capacity : two.KindTwo → ℕ) (xs : List Block) : Type 0 where
   pub right : All (RightBlock machine screen left) xs
   pub limits : Limits (length (left recipients) + length (left identities)) capacity (λ m. total m (map (saidBy machine) xs))
 
@@ -306,7 +315,7 @@ pub record RightExchange (machine : Machine) (left : Left) (x : Exchange) : Type
   pub responded : Responded (commandSent machine x) (x .responses)
 
 -- exchanges that done ends: each is right by itself, together they keep the limits, and no error is owed
-pub record AllowedSent (machine : Machine) (left : Left) (capacity : two.Kind → ℕ) (xs : List Exchange) : Type 0 where
+pub record AllowedSent (machine : Machine) (left : Left) (capacity : two.KindTwo → ℕ) (xs : List Exchange) : Type 0 where
   pub right : All (RightExchange machine left) xs
   pub limits : Limits (length (left recipients) + length (left identities)) capacity (λ m. total m (map (saidIn machine) xs))
   pub reported : AllReported left (map (saidIn machine) xs)

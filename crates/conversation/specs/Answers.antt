@@ -1,6 +1,5 @@
 -- Answers (document 00, demand 2: "Each phase-two command but done is answered exactly once if it is accepted and its phase ends"): what the accepted calls of a list
 -- ask and answer, in order, at both ends.
-use Prim.Native.Nat.{ℕ}
 use mathlib.Core.Path.{_≡_}
 use mathlib.Core.Bool.{true}
 use mathlib.Core.List.{List, [], _∷_, _++_}
@@ -9,12 +8,12 @@ use Rattle.refusal.specs.Pick.{pick}
 use Rattle.stanza.specs.Reading.{readFirst}
 use Rattle.responses.specs.Responses.{fitting, ResponseRead, response, nothing, responseOf}
 use Rattle.responses.specs.declared.Response.{Response}
-use Rattle.responses.specs.declared.WordTwo.{WordTwo}
+use Rattle.session.specs.declared.words.WordTwo.{WordTwo}
 use Rattle.conversation.specs.Calls.{Call, receive, send, receive-two, reply, send-two, respond, outcome, lineRead, bodyRead}
 use Rattle.conversation.specs.CommandsTwo.{CommandTwo, ask, stanza, key, error, done, other, bad, commandTwo, wordOf, lineSent}
 use Rattle.conversation.specs.Kinds.{Buffers}
 use Rattle.conversation.specs.ReceivingTwo.{AtOnce, writes, silent, atOnce}
-use Rattle.conversation.specs.Session.{Session}
+use Rattle.session.specs.Session.{Session}
 
 -- a command of phase two other than done, accepted; or a response, written at the client end or accepted at the plugin end
 pub data Event : Type 0 where

@@ -5,22 +5,22 @@ use mathlib.Core.Path.{_≡_}
 use mathlib.Core.Bool.{Bool, true, false}
 use mathlib.Core.List.{List, [], _∷_, _++_}
 use lib.Dec.{eqb}
-use lib.ListN.{length, take, drop}
+use lib.ListN.{take, drop}
 use Rattle.base64.specs.Lines.{bodyOf}
 use Rattle.refusal.specs.Output.{Answer, bytes, refused}
 use Rattle.refusal.specs.Pick.{pick}
 use Rattle.stanza.specs.Reading as reading
 use Rattle.stanza.specs.Reading.{Reading, readFirst}
 use Rattle.responses.specs.declared.Response.{Response}
-use Rattle.responses.specs.declared.WordTwo.{WordTwo}
+use Rattle.session.specs.declared.words.WordTwo.{WordTwo}
 use Rattle.tables.specs.Tables.{Row}
-use Rattle.session.specs.Commands as one-command
-use Rattle.session.specs.Commands.{Word}
-use Rattle.session.specs.PhaseOne as one
+use Rattle.phase_one.specs.Commands as one-command
+use Rattle.phase_one.specs.Commands.{WordOne}
+use Rattle.phase_one.specs.PhaseOne as one
 use Rattle.session.specs.Phases.{closes}
-use Rattle.session.specs.Views as one-kind
+use Rattle.phase_one.specs.Views as one-kind
 use Rattle.conversation.specs.CommandsTwo as two-command
-use Rattle.conversation.specs.Kinds.{Kind, first, second, Buffers, buffersOf}
+use Rattle.conversation.specs.Kinds.{AnyKind, first, second, Buffers, buffersOf}
 use Rattle.conversation.specs.PhaseTwo as two
 use Rattle.conversation.specs.Receiving as receiving
 use Rattle.conversation.specs.Sending as sending
@@ -28,13 +28,13 @@ use Rattle.conversation.specs.ReceivingTwo as receiving-two
 use Rattle.conversation.specs.Replying as replying
 use Rattle.conversation.specs.SendingTwo as sending-two
 use Rattle.conversation.specs.Responding as responding
-use Rattle.conversation.specs.Session.{Session, closed}
+use Rattle.session.specs.Session.{Session, closed}
 
 -- Phase one: the plugin end receives a text; the client end sends a command with its arguments' text and its body. Phase two: the client end receives a text, and
 -- its host replies with a response and its body; the plugin end sends a command, and receives the text of a response. A call that may write lends an output buffer.
 pub data Call : Type 0 where
   receive : List ℕ → Call
-  send : Word → List ℕ → List ℕ → List ℕ → Call
+  send : WordOne → List ℕ → List ℕ → List ℕ → Call
   receive-two : List ℕ → List ℕ → Call
   reply : Response → List ℕ → List ℕ → Call
   send-two : WordTwo → List ℕ → List ℕ → List ℕ → Call
@@ -49,9 +49,19 @@ isClient (reply r body out) = true
 isClient (send-two word arguments body out) = false
 isClient (respond text out) = false
 
--- the number of a call, 0 where it is accepted; the session, the buffers and the output buffer afterwards, and how many bytes were written there
+-- what an end gives back beside the number: of a command received in phase one, which it was and the bytes taken; in phase two, also the bytes written; of a
+-- response, which it was, the bytes taken and its body's length; of a sending or a reply, the bytes written; of a refusal, nothing
+pub data Given : Type 0 where
+  command-one : WordOne → ℕ → Given
+  command-two : WordTwo → ℕ → ℕ → Given
+  response : Response → ℕ → ℕ → Given
+  wrote : ℕ → Given
+  nothing : Given
+
+-- the number of a call, 0 where it is accepted, and what it gives back; the session, the buffers and the output buffer afterwards, and how many bytes were written there
 pub record Outcome : Type 0 where
   pub number : ℕ
+  pub given : Given
   pub session : Session
   pub buffers : Buffers
   pub output : List ℕ
@@ -92,29 +102,49 @@ abbrev pub respondedSize : responding.Answering → ℕ
 respondedSize (responding.took-response r k n) = n
 respondedSize (responding.declined-response n) = 0
 
+-- what it gives back: a receiving in phase one
+abbrev pub takingGiven : receiving.Taking → Given
+takingGiven (receiving.took w k) = command-one w k
+takingGiven (receiving.declined n) = nothing
+
+-- a sending or a reply
+abbrev pub sentGiven : Answer → Given
+sentGiven (bytes n) = wrote n
+sentGiven (refused n) = nothing
+
+-- a receiving in phase two
+abbrev pub takingTwoGiven : receiving-two.Taking → Given
+takingTwoGiven (receiving-two.took w k n) = command-two w k n
+takingTwoGiven (receiving-two.declined n) = nothing
+
+-- a response
+abbrev pub respondedGiven : responding.Answering → Given
+respondedGiven (responding.took-response r k n) = response r k n
+respondedGiven (responding.declined-response n) = nothing
+
 -- what each definition gives, as an outcome
-abbrev pub receivedOutcome : two.Buffers → receiving.Received → Outcome
-receivedOutcome c r = record { number = takingNumber (r .answer); session = r .session; buffers = buffersOf (r .buffers) c; output = []; size = 0 }
+abbrev pub receivedOutcome : two.BuffersTwo → receiving.Received → Outcome
+receivedOutcome c r = record { number = takingNumber (r .answer); given = takingGiven (r .answer); session = r .session; buffers = buffersOf (r .buffers) c; output = []; size = 0 }
 
 -- .. of a sending in phase one
-abbrev pub sentOutcome : two.Buffers → sending.Sent → Outcome
-sentOutcome c r = record { number = sentNumber (r .answer); session = r .session; buffers = buffersOf (r .buffers) c; output = r .output; size = sentSize (r .answer) }
+abbrev pub sentOutcome : two.BuffersTwo → sending.Sent → Outcome
+sentOutcome c r = record { number = sentNumber (r .answer); given = sentGiven (r .answer); session = r .session; buffers = buffersOf (r .buffers) c; output = r .output; size = sentSize (r .answer) }
 
 -- .. of a receiving in phase two
-abbrev pub receivedTwoOutcome : one.Buffers → receiving-two.Received → Outcome
-receivedTwoOutcome b r = record { number = takingTwoNumber (r .answer); session = r .session; buffers = buffersOf b (r .buffers); output = r .output; size = takingTwoSize (r .answer) }
+abbrev pub receivedTwoOutcome : one.BuffersOne → receiving-two.Received → Outcome
+receivedTwoOutcome b r = record { number = takingTwoNumber (r .answer); given = takingTwoGiven (r .answer); session = r .session; buffers = buffersOf b (r .buffers); output = r .output; size = takingTwoSize (r .answer) }
 
 -- .. of a reply
 abbrev pub repliedOutcome : Buffers → replying.Replied → Outcome
-repliedOutcome b r = record { number = sentNumber (r .answer); session = r .session; buffers = b; output = r .output; size = sentSize (r .answer) }
+repliedOutcome b r = record { number = sentNumber (r .answer); given = sentGiven (r .answer); session = r .session; buffers = b; output = r .output; size = sentSize (r .answer) }
 
 -- .. of a sending in phase two
-abbrev pub sentTwoOutcome : one.Buffers → sending-two.Sent → Outcome
-sentTwoOutcome b r = record { number = sentNumber (r .answer); session = r .session; buffers = buffersOf b (r .buffers); output = r .output; size = sentSize (r .answer) }
+abbrev pub sentTwoOutcome : one.BuffersOne → sending-two.Sent → Outcome
+sentTwoOutcome b r = record { number = sentNumber (r .answer); given = sentGiven (r .answer); session = r .session; buffers = buffersOf b (r .buffers); output = r .output; size = sentSize (r .answer) }
 
 -- .. of a response
 abbrev pub respondedOutcome : Buffers → responding.Responded → Outcome
-respondedOutcome b r = record { number = respondedNumber (r .answer); session = r .session; buffers = b; output = r .output; size = respondedSize (r .answer) }
+respondedOutcome b r = record { number = respondedNumber (r .answer); given = respondedGiven (r .answer); session = r .session; buffers = b; output = r .output; size = respondedSize (r .answer) }
 
 -- a call: phase one's take the four buffers of phase one, phase two's the three of phase two
 abbrev pub outcome : Session → Buffers → Call → Outcome
@@ -147,6 +177,14 @@ sessionAfter (receive-two text out) n s = pick (closes n) (closed s) s
 sessionAfter (reply r body out) n s = s
 sessionAfter (send-two word arguments body out) n s = s
 sessionAfter (respond text out) n s = pick (closes n) (closed s) s
+
+-- a refused call's session, tables, buffers and output buffer; nothing is written
+pub record Refused (s : Session) (b : Buffers) (c : Call) : Type 0 where
+  pub session : outcome s b c .session ≡ sessionAfter c (outcome s b c .number) s
+  pub tables : outcome s b c .session .tables ≡ s .tables
+  pub buffers : outcome s b c .buffers ≡ b
+  pub output : outcome s b c .output ≡ outputIn c
+  pub size : outcome s b c .size ≡ 0
 
 -- ---- lists of calls
 
@@ -202,23 +240,23 @@ broughtBy (send-two word arguments body out) = in-two (two-command.lineSent word
 broughtBy (respond text out) = no-command
 
 -- the rows that a command of phase one makes in a kind's table
-abbrev pub rowsOne : Session → List ℕ → List ℕ → Kind → List Row
+abbrev pub rowsOne : Session → List ℕ → List ℕ → AnyKind → List Row
 rowsOne s line body (first k) = one-kind.rowsOf (one.commandIn (s .machine) (s .name) line body) k (one.payloadIn (s .machine) (s .name) line body)
 rowsOne s line body (second k) = []
 
 -- .. one of phase two
-abbrev pub rowsTwo : Session → List ℕ → List ℕ → Kind → List Row
+abbrev pub rowsTwo : Session → List ℕ → List ℕ → AnyKind → List Row
 rowsTwo s line body (first k) = []
 rowsTwo s line body (second k) = let c = two-command.commandTwo (s .machine) line body in two.rowsOf c k (two-command.payloadOf c line body)
 
 -- .. a call's
-abbrev pub rowsBrought : Session → Brought → Kind → List Row
+abbrev pub rowsBrought : Session → Brought → AnyKind → List Row
 rowsBrought s (in-one line body) k = rowsOne s line body k
 rowsBrought s (in-two line body) k = rowsTwo s line body k
 rowsBrought s no-command k = []
 
 -- the rows of a kind's table that a list's accepted commands of that kind make, in order
-unfoldable pub acceptedRows : Kind → Session → Buffers → List Call → List Row
+unfoldable pub acceptedRows : AnyKind → Session → Buffers → List Call → List Row
 acceptedRows k s b [] = []
 acceptedRows k s b (c ∷ cs) =
     let o = outcome s b c in

@@ -8,12 +8,12 @@ use Rattle.refusal.specs.Pick.{pick}
 use Rattle.refusal.specs.Same.{same}
 use Rattle.base64.specs.Code.{isBase64}
 use Rattle.stanza.specs.Arguments.{countOf, argumentOf, lineWith}
-use Rattle.stanza.specs.Index.{readIndex, Reading, number, refused}
-use Rattle.responses.specs.declared.WordTwo.{WordTwo}
-use Rattle.responses.specs.declared.WordTwo.the-variants.{Msg, Confirm, RequestPublic, RequestSecret, RecipientStanza, FileKey, Error, Other, Done}
-use Rattle.session.specs.Commands.{recipientStanza, doneWord, isBare, restOf}
-use Rattle.session.specs.declared.commands.Machine.{Machine}
-use Rattle.session.specs.declared.commands.Machine.the-variants.{RecipientV1, IdentityV1}
+use Rattle.stanza.specs.Index.{readIndex, ReadIndex, number, refused}
+use Rattle.session.specs.declared.words.WordTwo.{WordTwo}
+use Rattle.session.specs.declared.words.WordTwo.the-variants.{Msg, Confirm, RequestPublic, RequestSecret, RecipientStanza, FileKey, Error, Other, Done}
+use Rattle.phase_one.specs.Commands.{recipientStanza, doneWord, isBare, restOf}
+use Rattle.session.specs.declared.opening.Machine.{Machine}
+use Rattle.session.specs.declared.opening.Machine.the-variants.{RecipientV1, IdentityV1}
 
 -- ---- words
 
@@ -94,22 +94,22 @@ abbrev pub areLabels : List ℕ → Bool
 areLabels line = isBase64 (argumentOf line 1) && (eqb (countOf line) 2 || eqb (countOf line) 3 && isBase64 (argumentOf line 2))
 
 -- a stanza or a key by what its index was read as
-abbrev pub stanzaAt : Reading → CommandTwo
+abbrev pub stanzaAt : ReadIndex → CommandTwo
 stanzaAt (number f) = stanza f
 stanzaAt (refused n) = bad n
 
 -- a key likewise
-abbrev pub keyAt : Reading → CommandTwo
+abbrev pub keyAt : ReadIndex → CommandTwo
 keyAt (number f) = key f
 keyAt (refused n) = bad n
 
 -- an error that names an identity or a recipient
-abbrev pub errorAt : (ℕ → Named) → Reading → CommandTwo
+abbrev pub errorAt : (ℕ → Named) → ReadIndex → CommandTwo
 errorAt name (number i) = error (name i)
 errorAt name (refused n) = bad n
 
 -- an error that names a header stanza: both indices are read before either is looked up
-abbrev pub headerAt : Reading → Reading → CommandTwo
+abbrev pub headerAt : ReadIndex → ReadIndex → CommandTwo
 headerAt (number f) (number i) = error (header f i)
 headerAt (number f) (refused n) = bad n
 headerAt (refused n) i = bad n

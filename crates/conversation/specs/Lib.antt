@@ -1,5 +1,4 @@
 -- The calls of both ends, and lists of calls.
-pub mod Session
 pub mod Receiving
 pub mod Sending
 pub mod CommandsTwo
@@ -14,3 +13,8 @@ pub mod Calls
 pub mod Answers
 pub mod Phases
 pub mod Allowed
+pub mod Given
+pub mod WrittenRead
+pub mod Shapes
+pub mod Numbers
+pub mod SentOne

@@ -6,43 +6,44 @@ use mathlib.Core.List.{List, [], _∷_, map}
 use lib.Dec.{ltb, leb, eqb}
 use lib.ListN.{length, take}
 use Rattle.refusal.specs.Pick.{pick}
-use Rattle.tables.specs.declared.tables.Entry.{Entry}
+use Rattle.tables.specs.declared.slots.Entry.{Entry}
 use Rattle.tables.specs.Tables.{Table, Row, fits, entered, kept, view}
-use Rattle.session.specs.PhaseOne.{Tables, firstOf}
+use Rattle.session.specs.Tables.{Tables}
+use Rattle.refusal.specs.Verdict.{firstOf}
 use Rattle.conversation.specs.CommandsTwo.{Named, internal, identity, recipient, header, CommandTwo, ask, stanza, key, error, done, other, bad}
 
 -- ---- kinds
 
 -- the kinds of phase two
-pub data Kind : Type 0 where
-  errors : Kind
-  stanzas : Kind
-  returned : Kind
+pub data KindTwo : Type 0 where
+  errors : KindTwo
+  stanzas : KindTwo
+  returned : KindTwo
 
 -- their buffers
-pub record Buffers : Type 0 where
+pub record BuffersTwo : Type 0 where
   pub errors : List ℕ
   pub stanzas : List ℕ
   pub returned : List ℕ
 
 -- the three together
-abbrev pub buffersOf : List ℕ → List ℕ → List ℕ → Buffers
+abbrev pub buffersOf : List ℕ → List ℕ → List ℕ → BuffersTwo
 buffersOf e s r = record { errors = e; stanzas = s; returned = r }
 
 -- a kind's table
-abbrev pub tableOf : Kind → Tables → Table
+abbrev pub tableOf : KindTwo → Tables → Table
 tableOf errors t = t .errors
 tableOf stanzas t = t .stanzas
 tableOf returned t = t .returned
 
 -- a kind's buffer
-abbrev pub bufferOf : Kind → Buffers → List ℕ
+abbrev pub bufferOf : KindTwo → BuffersTwo → List ℕ
 bufferOf errors b = b .errors
 bufferOf stanzas b = b .stanzas
 bufferOf returned b = b .returned
 
 -- what a kind's table shows, in the order of acceptance
-abbrev pub viewOf : Kind → Tables → Buffers → List Row
+abbrev pub viewOf : KindTwo → Tables → BuffersTwo → List Row
 viewOf k t b = view (tableOf k t) (bufferOf k b)
 
 -- ---- what is kept of an entry beside its payload
@@ -179,7 +180,7 @@ isClashing t other = false
 isClashing t (bad n) = false
 
 -- No. 8, no slot, or the buffer is too short
-abbrev pub isSpaceless : Tables → Buffers → CommandTwo → ℕ → Bool
+abbrev pub isSpaceless : Tables → BuffersTwo → CommandTwo → ℕ → Bool
 isSpaceless t b (ask w) n = false
 isSpaceless t b (stanza f) n = not (fits (t .stanzas) n (length (b .stanzas)))
 isSpaceless t b (key f) n = not (fits (t .returned) n (length (b .returned)))
@@ -254,19 +255,21 @@ faultOf done = 0
 faultOf other = 0
 faultOf (bad n) = n
 
--- 4, 5, 6, 9, 10, 11, at the plugin's own sending 19, then 8; 0 where there is none. n is the payload's length
-unfoldable pub decided : Bool → Tables → Buffers → CommandTwo → ℕ → ℕ
-decided own t b c n =
+-- 4, 5, 6, 9, 10, 11, at the plugin's own sending 19: all that the tables alone decide; 0 where there is none
+abbrev pub ruled : Bool → Tables → CommandTwo → ℕ
+ruled own t c =
     firstOf (faultOf c)
     (firstOf (when (isMissing t c) 6)
-    (firstOf (when (isSecondKey t c) 9)
-    (firstOf (when (isTooMany t c) 10)
-    (firstOf (when (isClashing t c) 11) (firstOf (when (own && isHeldBack t c) 19) (when (isSpaceless t b c n) 8))))))
+    (firstOf (when (isSecondKey t c) 9) (firstOf (when (isTooMany t c) 10) (firstOf (when (isClashing t c) 11) (when (own && isHeldBack t c) 19)))))
+
+-- then 8. n is the payload's length
+unfoldable pub decided : Bool → Tables → BuffersTwo → CommandTwo → ℕ → ℕ
+decided own t b c n = firstOf (ruled own t c) (when (isSpaceless t b c n) 8)
 
 -- ---- what an accepted command does
 
 -- one entry more in its kind's table: a stanza or a key with its file, an error with what it names; no other table changes
-abbrev pub applied : Tables → Buffers → CommandTwo → List ℕ → Tables
+abbrev pub applied : Tables → BuffersTwo → CommandTwo → List ℕ → Tables
 applied t b (ask w) p = t
 applied t b (stanza f) p = record {
   recipients = t .recipients;
@@ -300,7 +303,7 @@ applied t b other p = t
 applied t b (bad n) p = t
 
 -- and its payload in its kind's buffer; no other buffer changes
-abbrev pub filledBy : Tables → Buffers → CommandTwo → List ℕ → Buffers
+abbrev pub filledBy : Tables → BuffersTwo → CommandTwo → List ℕ → BuffersTwo
 filledBy t b (ask w) p = b
 filledBy t b (stanza f) p = buffersOf (b .errors) (kept (t .stanzas) p (b .stanzas)) (b .returned)
 filledBy t b (key f) p = buffersOf (b .errors) (b .stanzas) (kept (t .returned) p (b .returned))
@@ -310,7 +313,7 @@ filledBy t b other p = b
 filledBy t b (bad n) p = b
 
 -- the row that an accepted command adds to a kind's table: one in its own, none in another's
-abbrev pub rowsOf : CommandTwo → Kind → List ℕ → List Row
+abbrev pub rowsOf : CommandTwo → KindTwo → List ℕ → List Row
 rowsOf (ask w) k p = []
 rowsOf (stanza f) errors p = []
 rowsOf (stanza f) stanzas p = record { payload = p; index = f; mark = 0 } ∷ []

@@ -14,18 +14,18 @@ use Rattle.stanza.specs.Reading.{stanza, readFirst}
 use Rattle.tables.specs.Tables.{Row}
 use Rattle.responses.specs.Responses.{responseLine}
 use Rattle.responses.specs.declared.Response.{Response}
-use Rattle.session.specs.Commands as one-command
-use Rattle.session.specs.Commands.{Word, add-recipient, add-identity, wrap-file-key, recipient-stanza, done-word, other-word, wordIn, doneWord, lineSent}
-use Rattle.session.specs.PhaseOne as one
-use Rattle.session.specs.Views as one-kind
-use Rattle.session.specs.declared.commands.Machine.{Machine}
+use Rattle.phase_one.specs.Commands as one-command
+use Rattle.phase_one.specs.Commands.{WordOne, add-recipient, add-identity, wrap-file-key, recipient-stanza, done-word, other-word, wordIn, doneWord, lineSent}
+use Rattle.phase_one.specs.PhaseOne as one
+use Rattle.phase_one.specs.Views as one-kind
+use Rattle.session.specs.declared.opening.Machine.{Machine}
 use Rattle.conversation.specs.Calls.{Call, receive, send, receive-two, reply, send-two, respond, isClient, outcome, outputIn, writtenBy, State, after, written, lineRead, bodyRead, Accepted}
 use Rattle.conversation.specs.CommandsTwo as two-command
 use Rattle.conversation.specs.CommandsTwo.{CommandTwo}
-use Rattle.conversation.specs.Kinds.{Kind, first, second, Buffers, viewOf, ofFile}
+use Rattle.conversation.specs.Kinds.{first, second, Buffers, viewOf, ofFile}
 use Rattle.conversation.specs.PhaseTwo as two
 use Rattle.conversation.specs.ReceivingTwo.{atOnce, textOf}
-use Rattle.conversation.specs.Session.{Session, openedSession, opened}
+use Rattle.session.specs.Session.{Session, openedSession, opened}
 
 -- ---- lists
 
@@ -66,7 +66,7 @@ isDone t = same (wordOf t) doneWord
 -- ---- in phase one
 
 -- "unknown if its command is neither done nor named for that machine in the phase's table"
-abbrev pub isNamed : Word → Bool
+abbrev pub isNamed : WordOne → Bool
 isNamed add-recipient = true
 isNamed add-identity = true
 isNamed wrap-file-key = true
@@ -75,15 +75,15 @@ isNamed done-word = true
 isNamed other-word = false
 
 -- its command, by the machine and the plugin's name
-abbrev pub commandOf : Machine → List ℕ → List ℕ → one-command.Command
+abbrev pub commandOf : Machine → List ℕ → List ℕ → one-command.CommandOne
 commandOf machine name t = one.commandIn machine name (lineIn t) (bodyIn t)
 
 -- the rows that it makes in a kind's table
-abbrev pub rowsFrom : Machine → List ℕ → one-kind.Kind → List ℕ → List Row
+abbrev pub rowsFrom : Machine → List ℕ → one-kind.KindOne → List ℕ → List Row
 rowsFrom machine name k t = one-kind.rowsOf (commandOf machine name t) k (one.payloadIn machine name (lineIn t) (bodyIn t))
 
 -- it is a command of a kind: 4 and 5 do not refuse it, and it makes an entry there
-abbrev pub isOf : Machine → List ℕ → one-kind.Kind → List ℕ → Bool
+abbrev pub isOf : Machine → List ℕ → one-kind.KindOne → List ℕ → Bool
 isOf machine name k t = eqb (length (rowsFrom machine name k t)) 1
 
 -- ---- in phase two
@@ -151,6 +151,10 @@ pub record Phase : Type 0 where
 -- all of them
 abbrev pub blocksOf : Phase → List Block
 blocksOf p = p .ahead ++ (p .last ∷ [])
+
+-- their texts
+abbrev pub textsOf : Phase → List (List ℕ)
+textsOf p = map (λ x. x .text) (blocksOf p)
 
 -- the plugin end has no host that replies
 abbrev pub Quiet : Part → Block → Type 0
@@ -246,7 +250,7 @@ pub record JustDone (s : Session) : Type 0 where
   pub screen : Bool
   pub before : List CallWith
   pub client : All (λ c. isClient (c .call) ≡ true) before
-  pub word : Word
+  pub word : WordOne
   pub arguments : List ℕ
   pub body : List ℕ
   pub out : List ℕ
@@ -255,6 +259,18 @@ pub record JustDone (s : Session) : Type 0 where
   pub accepted : outcome (afterEach (opened machine name screen .session) before) buffers (send word arguments body out) .number ≡ 0
   pub reached : s ≡ outcome (afterEach (opened machine name screen .session) before) buffers (send word arguments body out) .session
 
+-- a plugin session that has just received done, whatever its calls before
+pub record JustReceived (s : Session) : Type 0 where
+  pub machine : List ℕ
+  pub name : List ℕ
+  pub before : List CallWith
+  pub plugin : All (λ c. isClient (c .call) ≡ false) before
+  pub text : List ℕ
+  pub buffers : Buffers
+  pub is-done : commandOf (s .machine) (s .name) text ≡ one-command.done
+  pub accepted : outcome (afterEach (opened machine name false .session) before) buffers (receive text) .number ≡ 0
+  pub reached : s ≡ outcome (afterEach (opened machine name false .session) before) buffers (receive text) .session
+
 -- "Phase one is heard by a session just opened, phase two by a client session that has just sent done"
 abbrev pub Starts : Part → Session → Type 0
 Starts one-part s = s ≡ openedSession (s .machine) (s .name) false
@@ -262,15 +278,15 @@ Starts two-part s = JustDone s
 
 -- buffers of equal lengths, for the kinds of the phase
 abbrev pub SameLengths : Part → Buffers → Buffers → Type 0
-SameLengths one-part b c = (k : one-kind.Kind) → length (one-kind.bufferOf k (b .first)) ≡ length (one-kind.bufferOf k (c .first))
-SameLengths two-part b c = (k : two.Kind) → length (two.bufferOf k (b .second)) ≡ length (two.bufferOf k (c .second))
+SameLengths one-part b c = (k : one-kind.KindOne) → length (one-kind.bufferOf k (b .first)) ≡ length (one-kind.bufferOf k (c .first))
+SameLengths two-part b c = (k : two.KindTwo) → length (two.bufferOf k (b .second)) ≡ length (two.bufferOf k (c .second))
 
 -- two sessions with their buffers from which two rearrangements are received: settings, views and lengths are equal
 pub record SameStart (part : Part) (x y : State) : Type 0 where
   pub machine : x .session .machine ≡ y .session .machine
   pub name : x .session .name ≡ y .session .name
   pub screen : x .session .screen ≡ y .session .screen
-  pub views : (k : one-kind.Kind) → viewOf (first k) (x .session .tables) (x .buffers) ≡ viewOf (first k) (y .session .tables) (y .buffers)
+  pub views : (k : one-kind.KindOne) → viewOf (first k) (x .session .tables) (x .buffers) ≡ viewOf (first k) (y .session .tables) (y .buffers)
   pub lengths : SameLengths part (x .buffers) (y .buffers)
 
 -- ---- two phases
@@ -282,7 +298,7 @@ isKept two-part machine x = isNamedTwo (commandIn machine (x .text)) || not (eqb
 
 -- what keeps its order: in phase one each kind, in phase two the errors, and of each file its stanzas
 pub data Strand : Type 0 where
-  of-kind : one-kind.Kind → Strand
+  of-kind : one-kind.KindOne → Strand
   of-errors : Strand
   of-file : ℕ → Strand
 
@@ -303,7 +319,7 @@ pub record Rearranged (part : Part) (machine : Machine) (name : List ℕ) (p q :
 
 -- equal tables, all seven; returned stanzas and keys file by file
 pub record SameTables (x y : State) : Type 0 where
-  pub views : (k : one-kind.Kind) → viewOf (first k) (x .session .tables) (x .buffers) ≡ viewOf (first k) (y .session .tables) (y .buffers)
+  pub views : (k : one-kind.KindOne) → viewOf (first k) (x .session .tables) (x .buffers) ≡ viewOf (first k) (y .session .tables) (y .buffers)
   pub errors : viewOf (second two.errors) (x .session .tables) (x .buffers) ≡ viewOf (second two.errors) (y .session .tables) (y .buffers)
   pub stanzas : (f : ℕ) → ofFile f (viewOf (second two.stanzas) (x .session .tables) (x .buffers)) ≡ ofFile f (viewOf (second two.stanzas) (y .session .tables) (y .buffers))
   pub returned : (f : ℕ) → ofFile f (viewOf (second two.returned) (x .session .tables) (x .buffers)) ≡ ofFile f (viewOf (second two.returned) (y .session .tables) (y .buffers))

@@ -6,32 +6,33 @@ use lib.ListN.{take, drop}
 use Rattle.refusal.specs.Pick.{pick}
 use Rattle.base64.specs.Lines.{bodyOf}
 use Rattle.stanza.specs.Reading.{Reading, stanza, refused, readFirst}
-use Rattle.session.specs.Commands.{Command, Word, wordOf}
-use Rattle.session.specs.PhaseOne.{Buffers, commandIn, numberOne, tablesOne, buffersOne}
-use Rattle.session.specs.Phases.{turnOne, closes, phaseAfter}
-use Rattle.conversation.specs.Session.{Session, moved, closed}
+use Rattle.phase_one.specs.Commands.{CommandOne, WordOne, wordOf}
+use Rattle.phase_one.specs.PhaseOne.{BuffersOne, commandIn, numberOne, tablesOne, buffersOne}
+use Rattle.phase_one.specs.Turns.{turnOne, phaseAfter}
+use Rattle.session.specs.Phases.{closes}
+use Rattle.session.specs.Session.{Session, moved, closed}
 
 -- which command it was and how many bytes were taken; or the number
 pub data Taking : Type 0 where
-  took : Word → ℕ → Taking
+  took : WordOne → ℕ → Taking
   declined : ℕ → Taking
 
 -- the answer to a command with the number n that took k bytes
-abbrev pub answerOf : ℕ → Command → ℕ → Taking
+abbrev pub answerOf : ℕ → CommandOne → ℕ → Taking
 answerOf n c k = pick (eqb n 0) (took (wordOf c) k) (declined n)
 
 -- the answer, the session and the four buffers afterwards
 pub record Received : Type 0 where
   pub answer : Taking
   pub session : Session
-  pub buffers : Buffers
+  pub buffers : BuffersOne
 
 -- a refusal: the buffers stay, and the session too unless the number closes it
-abbrev pub refusedReceipt : ℕ → Session → Buffers → Received
+abbrev pub refusedReceipt : ℕ → Session → BuffersOne → Received
 refusedReceipt n s b = record { answer = declined n; session = pick (closes n) (closed s) s; buffers = b }
 
 -- a whole stanza of k bytes, by its arguments' text and its body
-unfoldable pub receivedStanza : Session → Buffers → List ℕ → List ℕ → ℕ → Received
+unfoldable pub receivedStanza : Session → BuffersOne → List ℕ → List ℕ → ℕ → Received
 receivedStanza s b line body k =
     let n = numberOne (s .machine) (s .name) (s .tables) b 0 line body in
     let c = commandIn (s .machine) (s .name) line body in
@@ -44,10 +45,10 @@ receivedStanza s b line body k =
     (refusedReceipt n s b)
 
 -- a text, by what it is read as
-abbrev pub receivedAs : Reading → Session → List ℕ → Buffers → Received
+abbrev pub receivedAs : Reading → Session → List ℕ → BuffersOne → Received
 receivedAs (stanza e n k) s text b = receivedStanza s b (drop 3 (take e text)) (bodyOf (drop (e + 1) (take k text))) k
 receivedAs (refused n) s text b = refusedReceipt n s b
 
 -- a call: 13 and 14 before the text is looked at
-unfoldable pub received : Session → List ℕ → Buffers → Received
+unfoldable pub received : Session → List ℕ → BuffersOne → Received
 received s text b = pick (eqb (turnOne (s .phase)) 0) (receivedAs (readFirst text) s text b) (refusedReceipt (turnOne (s .phase)) s b)

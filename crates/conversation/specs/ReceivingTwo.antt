@@ -11,17 +11,17 @@ use Rattle.base64.specs.Lines.{bodyOf}
 use Rattle.stanza.specs.Grammar.{stanzaText}
 use Rattle.stanza.specs.Reading as reading
 use Rattle.stanza.specs.Reading.{Reading, readFirst}
-use Rattle.responses.specs.Responses.{responseLine, response}
+use Rattle.responses.specs.Responses.{responseLine}
 use Rattle.responses.specs.declared.Response.{Response}
 use Rattle.responses.specs.declared.Response.the-variants.{Ok, Fail, Unsupported}
-use Rattle.responses.specs.declared.WordTwo.{WordTwo}
-use Rattle.session.specs.PhaseOne.{firstOf}
+use Rattle.session.specs.declared.words.WordTwo.{WordTwo}
+use Rattle.refusal.specs.Verdict.{firstOf}
 use Rattle.session.specs.Phases.{closes}
 use Rattle.session.specs.declared.phases.Phase.{Phase}
 use Rattle.session.specs.declared.phases.Phase.the-variants.{Two, Awaiting, Ended}
 use Rattle.conversation.specs.CommandsTwo.{CommandTwo, ask, stanza, key, error, done, other, bad, commandTwo, wordOf, payloadOf}
-use Rattle.conversation.specs.PhaseTwo.{Buffers, decided, applied, filledBy}
-use Rattle.conversation.specs.Session.{Session, moved, closed}
+use Rattle.conversation.specs.PhaseTwo.{BuffersTwo, decided, applied, filledBy}
+use Rattle.session.specs.Session.{Session, moved, closed}
 use Rattle.conversation.specs.Sending.{shortness}
 use Rattle.conversation.specs.TurnsTwo.{turnTwo}
 
@@ -64,19 +64,19 @@ pub data Taking : Type 0 where
 pub record Received : Type 0 where
   pub answer : Taking
   pub session : Session
-  pub buffers : Buffers
+  pub buffers : BuffersTwo
   pub output : List ℕ
 
 -- a refusal: the buffers stay, and the session too unless the number closes it
-abbrev pub refusedReceipt : ℕ → Session → Buffers → List ℕ → Received
+abbrev pub refusedReceipt : ℕ → Session → BuffersTwo → List ℕ → Received
 refusedReceipt n s b out = record { answer = declined n; session = pick (closes n) (closed s) s; buffers = b; output = out }
 
 -- the number of a whole stanza, all but 15: by its arguments' text and its body
-abbrev pub numberReceived : Session → Buffers → List ℕ → List ℕ → ℕ
+abbrev pub numberReceived : Session → BuffersTwo → List ℕ → List ℕ → ℕ
 numberReceived s b line body = let c = commandTwo (s .machine) line body in decided false (s .tables) b c (length (payloadOf c line body))
 
 -- a whole stanza of k bytes
-unfoldable pub receivedStanza : Session → Buffers → List ℕ → List ℕ → List ℕ → ℕ → Received
+unfoldable pub receivedStanza : Session → BuffersTwo → List ℕ → List ℕ → List ℕ → ℕ → Received
 receivedStanza s b out line body k =
     let c = commandTwo (s .machine) line body in
     let p = payloadOf c line body in
@@ -92,10 +92,10 @@ receivedStanza s b out line body k =
     (refusedReceipt n s b out)
 
 -- a text, by what it is read as
-abbrev pub receivedAs : Reading → Session → List ℕ → Buffers → List ℕ → Received
+abbrev pub receivedAs : Reading → Session → List ℕ → BuffersTwo → List ℕ → Received
 receivedAs (reading.stanza e n k) s text b out = receivedStanza s b out (drop 3 (take e text)) (bodyOf (drop (e + 1) (take k text))) k
 receivedAs (reading.refused n) s text b out = refusedReceipt n s b out
 
 -- a call: 13, 14, 1 to 3, then 4, 5, 6, 9, 10, 11, 8, 15
-unfoldable pub received : Session → List ℕ → Buffers → List ℕ → Received
+unfoldable pub received : Session → List ℕ → BuffersTwo → List ℕ → Received
 received s text b out = pick (eqb (turnTwo (s .phase)) 0) (receivedAs (readFirst text) s text b out) (refusedReceipt (turnTwo (s .phase)) s b out)

@@ -8,15 +8,13 @@ use Rattle.refusal.specs.Output.{Answer, bytes, refused, filled}
 use Rattle.refusal.specs.Pick.{pick}
 use Rattle.stanza.specs.Grammar.{stanzaText}
 use Rattle.stanza.specs.Writing.{isWritable}
-use Rattle.responses.specs.Responses.{fitsWhole, responseLine, response}
+use Rattle.responses.specs.Responses.{fitsWhole, responseLine}
 use Rattle.responses.specs.declared.Response.{Response}
-use Rattle.responses.specs.declared.WordTwo.{WordTwo}
-use Rattle.session.specs.PhaseOne.{firstOf}
-use Rattle.session.specs.declared.phases.Phase.{Phase}
-use Rattle.session.specs.declared.phases.Phase.the-variants.{One, Two, Awaiting, Ended, Closed}
-use Rattle.conversation.specs.Session.{Session}
+use Rattle.session.specs.declared.words.WordTwo.{WordTwo}
+use Rattle.refusal.specs.Verdict.{firstOf}
+use Rattle.session.specs.Session.{Session}
 use Rattle.conversation.specs.Sending.{shortness}
-use Rattle.conversation.specs.TurnsTwo.{answered}
+use Rattle.conversation.specs.TurnsTwo.{Due, due, undue, dueIn, answered}
 
 -- how many bytes were written, or the number; the session and the output buffer afterwards
 pub record Replied : Type 0 where
@@ -39,14 +37,11 @@ repliedTo w s r body out =
     let n = firstOf (numberReplied w r body) (shortness text out) in
     pick (eqb n 0) (record { answer = bytes (length text); session = answered s; output = filled text out }) (refusedReply n s out)
 
--- in each phase: 13, 14, 12, 17, 15
-abbrev pub repliedIn : Phase → Session → Response → List ℕ → List ℕ → Replied
-repliedIn One s r body out = refusedReply 14 s out
-repliedIn Two s r body out = refusedReply 14 s out
-repliedIn (Awaiting w) s r body out = repliedTo w s r body out
-repliedIn Ended s r body out = refusedReply 13 s out
-repliedIn Closed s r body out = refusedReply 13 s out
+-- by whether an answer is due: 13, 14, 12, 17, 15
+abbrev pub repliedBy : Due → Session → Response → List ℕ → List ℕ → Replied
+repliedBy (due w) s r body out = repliedTo w s r body out
+repliedBy (undue n) s r body out = refusedReply n s out
 
 -- a call
 abbrev pub replied : Session → Response → List ℕ → List ℕ → Replied
-replied s r body out = repliedIn (s .phase) s r body out
+replied s r body out = repliedBy (dueIn (s .phase)) s r body out

@@ -10,14 +10,12 @@ use Rattle.stanza.specs.Reading as reading
 use Rattle.stanza.specs.Reading.{Reading, readFirst}
 use Rattle.responses.specs.Responses.{fitsWhole, ResponseRead, response, nothing, responseOf}
 use Rattle.responses.specs.declared.Response.{Response}
-use Rattle.responses.specs.declared.WordTwo.{WordTwo}
-use Rattle.session.specs.PhaseOne.{firstOf}
+use Rattle.session.specs.declared.words.WordTwo.{WordTwo}
+use Rattle.refusal.specs.Verdict.{firstOf}
 use Rattle.session.specs.Phases.{closes}
-use Rattle.session.specs.declared.phases.Phase.{Phase}
-use Rattle.session.specs.declared.phases.Phase.the-variants.{One, Two, Awaiting, Ended, Closed}
-use Rattle.conversation.specs.Session.{Session, closed}
+use Rattle.session.specs.Session.{Session, closed}
 use Rattle.conversation.specs.Sending.{shortness}
-use Rattle.conversation.specs.TurnsTwo.{answered}
+use Rattle.conversation.specs.TurnsTwo.{Due, due, undue, dueIn, answered}
 
 -- which response it was, how many bytes were taken and how many its body has, which is written; or the number
 pub data Answering : Type 0 where
@@ -46,14 +44,11 @@ abbrev pub respondedText : Reading → WordTwo → Session → List ℕ → List
 respondedText (reading.stanza e n k) w s text out = respondedAs w s (responseOf (drop 3 (take e text))) (bodyOf (drop (e + 1) (take k text))) k out
 respondedText (reading.refused n) w s text out = refusedResponse n s out
 
--- in each phase: 13, 14
-abbrev pub respondedIn : Phase → Session → List ℕ → List ℕ → Responded
-respondedIn One s text out = refusedResponse 14 s out
-respondedIn Two s text out = refusedResponse 14 s out
-respondedIn (Awaiting w) s text out = respondedText (readFirst text) w s text out
-respondedIn Ended s text out = refusedResponse 13 s out
-respondedIn Closed s text out = refusedResponse 13 s out
+-- by whether a response is due: 13, 14
+abbrev pub respondedBy : Due → Session → List ℕ → List ℕ → Responded
+respondedBy (due w) s text out = respondedText (readFirst text) w s text out
+respondedBy (undue n) s text out = refusedResponse n s out
 
 -- a call
 abbrev pub responded : Session → List ℕ → List ℕ → Responded
-responded s text out = respondedIn (s .phase) s text out
+responded s text out = respondedBy (dueIn (s .phase)) s text out

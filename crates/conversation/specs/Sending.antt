@@ -8,20 +8,20 @@ use Rattle.refusal.specs.Output.{Answer, bytes, refused, overflows, filled}
 use Rattle.refusal.specs.Pick.{pick}
 use Rattle.stanza.specs.Grammar.{stanzaText}
 use Rattle.stanza.specs.Writing.{isWritable}
-use Rattle.session.specs.Commands.{Word, lineSent}
-use Rattle.session.specs.PhaseOne.{Buffers, commandIn, numberOne, tablesOne, buffersOne}
-use Rattle.session.specs.Phases.{turnOne, phaseAfter}
-use Rattle.conversation.specs.Session.{Session, moved}
+use Rattle.phase_one.specs.Commands.{WordOne, lineSent}
+use Rattle.phase_one.specs.PhaseOne.{BuffersOne, commandIn, numberOne, tablesOne, buffersOne}
+use Rattle.phase_one.specs.Turns.{turnOne, phaseAfter}
+use Rattle.session.specs.Session.{Session, moved}
 
 -- how many bytes were written, or the number; the session, the four buffers and the output buffer afterwards
 pub record Sent : Type 0 where
   pub answer : Answer
   pub session : Session
-  pub buffers : Buffers
+  pub buffers : BuffersOne
   pub output : List ℕ
 
 -- a refusal: everything stays
-abbrev pub refusedSending : ℕ → Session → Buffers → List ℕ → Sent
+abbrev pub refusedSending : ℕ → Session → BuffersOne → List ℕ → Sent
 refusedSending n s b out = record { answer = refused n; session = s; buffers = b; output = out }
 
 -- No. 15, output longer than the buffer; else 0
@@ -29,7 +29,7 @@ abbrev pub shortness : List ℕ → List ℕ → ℕ
 shortness text out = pick (overflows text out) 15 0
 
 -- a stanza that can be written, by its arguments' text and its body: judged as the text that it makes, before anything is written
-unfoldable pub sentStanza : Session → Buffers → List ℕ → List ℕ → List ℕ → Sent
+unfoldable pub sentStanza : Session → BuffersOne → List ℕ → List ℕ → List ℕ → Sent
 sentStanza s b line body out =
     let late = shortness (stanzaText line body) out in
     let n = numberOne (s .machine) (s .name) (s .tables) b late line body in
@@ -43,10 +43,10 @@ sentStanza s b line body out =
     (refusedSending n s b out)
 
 -- the arguments' text: No. 17 where it and the body make no stanza
-abbrev pub sentLine : Session → Buffers → List ℕ → List ℕ → List ℕ → Sent
+abbrev pub sentLine : Session → BuffersOne → List ℕ → List ℕ → List ℕ → Sent
 sentLine s b line body out = pick (isWritable line body) (sentStanza s b line body out) (refusedSending 17 s b out)
 
 -- a call: the command, its arguments' text, its body, the buffers and the output buffer
-unfoldable pub sent : Session → Word → List ℕ → List ℕ → Buffers → List ℕ → Sent
+unfoldable pub sent : Session → WordOne → List ℕ → List ℕ → BuffersOne → List ℕ → Sent
 sent s word arguments body b out =
     pick (eqb (turnOne (s .phase)) 0) (sentLine s b (lineSent word arguments) body out) (refusedSending (turnOne (s .phase)) s b out)

@@ -9,7 +9,7 @@ use Rattle.stanza.specs.Arguments.{isGraphic, words, before}
 use Rattle.stanza.specs.Automaton.{next, verdict, scan}
 use Rattle.stanza.specs.Index.{digits, readIndex, decimal, decimalWith}
 use Rattle.stanza.specs.Reading.{found}
-use Rattle.session.specs.Commands.{afterSpace}
+use Rattle.phase_one.specs.Commands.{afterSpace}
 use Rattle.conversation.specs.Calls.{numbers}
 use Rattle.conversation.specs.Receiving.{received, receivedStanza}
 use Rattle.conversation.specs.Responding.{respondedAs}

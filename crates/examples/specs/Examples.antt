@@ -5,7 +5,6 @@ use mathlib.Core.Path.{_≡_}
 use mathlib.Core.Bool.{false}
 use mathlib.Core.List.{List, [], _∷_, _++_, map}
 use lib.ListN.{length, replicate}
-use Rattle.base64.specs.Code.{encoded}
 use Rattle.base64.specs.Lines.{linesOf}
 use Rattle.stanza.specs.Grammar.{stanzaText}
 use Rattle.stanza.specs.Index as index
@@ -13,19 +12,19 @@ use Rattle.stanza.specs.Reading.{Reading, stanza, refused, readFirst}
 use Rattle.responses.specs.Responses.{response, responseOf}
 use Rattle.responses.specs.declared.Response.{Response}
 use Rattle.responses.specs.declared.Response.the-variants.{No}
-use Rattle.responses.specs.declared.WordTwo.{WordTwo}
-use Rattle.responses.specs.declared.WordTwo.the-variants.{Confirm}
-use Rattle.session.specs.Commands.{recipientStanza}
-use Rattle.session.specs.PhaseOne as one
-use Rattle.session.specs.PhaseOne.{openedTables}
-use Rattle.session.specs.declared.commands.Machine.the-variants.{IdentityV1}
+use Rattle.session.specs.declared.words.WordTwo.{WordTwo}
+use Rattle.session.specs.declared.words.WordTwo.the-variants.{Confirm}
+use Rattle.phase_one.specs.Commands.{recipientStanza}
+use Rattle.phase_one.specs.PhaseOne as one
+use Rattle.session.specs.Tables.{openedTables}
+use Rattle.session.specs.declared.opening.Machine.the-variants.{IdentityV1}
 use Rattle.session.specs.declared.phases.Phase.the-variants.{Awaiting}
 use Rattle.conversation.specs.Calls.{Call, receive, numbers}
 use Rattle.conversation.specs.Kinds.{Buffers, buffersOf}
 use Rattle.conversation.specs.PhaseTwo as two
 use Rattle.conversation.specs.Phases.{lineIn}
 use Rattle.conversation.specs.Responding.{took-response, responded}
-use Rattle.conversation.specs.Session.{Session, moved, openedSession}
+use Rattle.session.specs.Session.{Session, moved, openedSession}
 
 -- an example: a text is read so; arguments and a body make so many bytes; so many body bytes make a line of so many characters and then these
 -- bytes; a text is read as an index so; header stanzas of these files, received one behind the other, give these numbers; a text is this response, and
@@ -34,7 +33,7 @@ pub data Row : Type 0 where
   reads : List ℕ → Reading → Row
   writes : List ℕ → List ℕ → ℕ → Row
   makes : ℕ → ℕ → List ℕ → Row
-  counts : List ℕ → index.Reading → Row
+  counts : List ℕ → index.ReadIndex → Row
   files : List ℕ → List ℕ → Row
   answers : List ℕ → WordTwo → Response → Row
 

@@ -42,12 +42,12 @@ takenOr old (reading.stanza line body taken) = taken
 takenOr old (reading.refused k) = old
 
 -- reading an index: the number given back
-abbrev pub indexNumber : index.Reading → ℕ
+abbrev pub indexNumber : index.ReadIndex → ℕ
 indexNumber (index.number n) = 0
 indexNumber (index.refused k) = k
 
 -- .. its value
-abbrev pub valueOr : ℕ → index.Reading → ℕ
+abbrev pub valueOr : ℕ → index.ReadIndex → ℕ
 valueOr old (index.number n) = n
 valueOr old (index.refused k) = old
 

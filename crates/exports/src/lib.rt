@@ -13,7 +13,7 @@ ghost use Rattle.exports.specs.Results.{numberIn, lengthOr, bodyAt};
 ghost use Rattle.exports.specs.Results.{readNumber, lineOr, bodyOr, takenOr};
 ghost use Rattle.exports.specs.Results.{indexNumber, valueOr};
 ghost use Rattle.exports.specs.Results.{nameOr, namedOr};
-use bech32::Kind;
+use bech32::TextKind;
 use refusal::Written;
 use stanza::First;
 use stanza::Index;
@@ -132,7 +132,7 @@ pub extern "C" fn flugremio_read_recipient(
     ensures buffer { λ _. ⌜ now (out .exit) ≡ readBuffer (parse recipient (now (text .entry))) (now (out .entry)) ⌝ }
     ensures length { λ _. ⌜ now (length .exit) ≡ lengthOr (now (length .entry)) (readAnswer (parse recipient (now (text .entry))) (now (out .entry))) ⌝ }
 {
-    read_text(Kind::Recipient, text, name, named, out, length)
+    read_text(TextKind::Recipient, text, name, named, out, length)
 }
 
 // The same for an identity; its name is given in lower case too.
@@ -150,12 +150,12 @@ pub extern "C" fn flugremio_read_identity(
     ensures buffer { λ _. ⌜ now (out .exit) ≡ readBuffer (parse identity (now (text .entry))) (now (out .entry)) ⌝ }
     ensures length { λ _. ⌜ now (length .exit) ≡ lengthOr (now (length .entry)) (readAnswer (parse identity (now (text .entry))) (now (out .entry))) ⌝ }
 {
-    read_text(Kind::Identity, text, name, named, out, length)
+    read_text(TextKind::Identity, text, name, named, out, length)
 }
 
 // The same for a text of the kind.
 fn read_text(
-    kind: Kind,
+    kind: TextKind,
     text: &[u8],
     name: &mut [u8; 32],
     named: &mut usize,
@@ -195,7 +195,7 @@ pub extern "C" fn flugremio_write_recipient(
     ensures buffer { λ _. ⌜ now (out .exit) ≡ writeBuffer recipient (now (name .entry)) (now (payload .entry)) (now (out .entry)) ⌝ }
     ensures length { λ _. ⌜ now (length .exit) ≡ lengthOr (now (length .entry)) (writeAnswer recipient (now (name .entry)) (now (payload .entry)) (now (out .entry))) ⌝ }
 {
-    write_text(Kind::Recipient, name, payload, out, length)
+    write_text(TextKind::Recipient, name, payload, out, length)
 }
 
 // The same for an identity; its name is taken in lower case too.
@@ -210,11 +210,11 @@ pub extern "C" fn flugremio_write_identity(
     ensures buffer { λ _. ⌜ now (out .exit) ≡ writeBuffer identity (now (name .entry)) (now (payload .entry)) (now (out .entry)) ⌝ }
     ensures length { λ _. ⌜ now (length .exit) ≡ lengthOr (now (length .entry)) (writeAnswer identity (now (name .entry)) (now (payload .entry)) (now (out .entry))) ⌝ }
 {
-    write_text(Kind::Identity, name, payload, out, length)
+    write_text(TextKind::Identity, name, payload, out, length)
 }
 
 // The same for a text of the kind.
-fn write_text(kind: Kind, name: &[u8], payload: &[u8], out: &mut [u8], length: &mut usize) -> u8
+fn write_text(kind: TextKind, name: &[u8], payload: &[u8], out: &mut [u8], length: &mut usize) -> u8
     ensures number { λ r. ⌜ r ≡ numberIn (writeAnswer (formOf kind) (now (name .entry)) (now (payload .entry)) (now (out .entry))) ⌝ }
     ensures buffer { λ _. ⌜ now (out .exit) ≡ writeBuffer (formOf kind) (now (name .entry)) (now (payload .entry)) (now (out .entry)) ⌝ }
     ensures length { λ _. ⌜ now (length .exit) ≡ lengthOr (now (length .entry)) (writeAnswer (formOf kind) (now (name .entry)) (now (payload .entry)) (now (out .entry))) ⌝ }

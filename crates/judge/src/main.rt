@@ -10,7 +10,8 @@ use judging::Judging;
 use judging::Progress;
 use libc::STDERR_FILENO;
 use output::print;
-ghost use Prim.Native.Nat.{_+_, _<_, _≤_};
+use session::Session;
+ghost use Prim.Native.Nat.{_<_, _≤_};
 ghost use mathlib.Core.Path.{_≡_};
 ghost use mathlib.Core.Bool.{true};
 ghost use lib.ListN.{length, take, drop};
@@ -29,7 +30,16 @@ fn main() {
     let mut recipients = [0u8; 16384];
     let mut identities = [0u8; 16384];
     let mut keys = [0u8; 1024];
-    let judged = run(&mut window, &mut recipients, &mut identities, &mut keys);
+    let mut slots = Session::open_slots();
+    let mut header_slots = Session::open_header_slots();
+    let judged = run(
+        &mut window,
+        &mut slots,
+        &mut header_slots,
+        &mut recipients,
+        &mut identities,
+        &mut keys,
+    );
     if !print(judged) {
         io::write_all(STDERR_FILENO, b"judge: standard output failed\n");
     }
@@ -37,7 +47,14 @@ fn main() {
 
 // Reads up to done, a refusal or the end of the input. A proved loop has to end, and nothing says that the input does, so the turns are counted down from a
 // number that no run uses up.
-fn run(window: &mut [u8], recipients: &mut [u8], identities: &mut [u8], keys: &mut [u8]) -> Judged
+fn run(
+    window: &mut [u8],
+    slots: &mut [[usize; 4]; Session::OTHER_SLOTS],
+    header_slots: &mut [[usize; 4]; Session::HEADER_STANZAS],
+    recipients: &mut [u8],
+    identities: &mut [u8],
+    keys: &mut [u8],
+) -> Judged
     requires { ⌜ 8192 ≤ length (now window) ⌝ }
 {
     let mut s = State {
@@ -47,7 +64,7 @@ fn run(window: &mut [u8], recipients: &mut [u8], identities: &mut [u8], keys: &m
     };
     let mut turns = u64::MAX;
     while turns > 0 && s.more {
-        s = run_turn(s, window, recipients, identities, keys);
+        s = run_turn(s, window, slots, header_slots, recipients, identities, keys);
         turns -= 1;
     }
     s.judging.numbers()
@@ -57,6 +74,8 @@ fn run(window: &mut [u8], recipients: &mut [u8], identities: &mut [u8], keys: &m
 fn run_turn(
     s: State,
     window: &mut [u8],
+    slots: &mut [[usize; 4]; Session::OTHER_SLOTS],
+    header_slots: &mut [[usize; 4]; Session::HEADER_STANZAS],
     recipients: &mut [u8],
     identities: &mut [u8],
     keys: &mut [u8],
@@ -71,6 +90,8 @@ fn run_turn(
         window,
         end,
         end == left,
+        slots,
+        header_slots,
         recipients,
         identities,
         keys,
@@ -83,16 +104,26 @@ fn judge_chunk(
     window: &mut [u8],
     end: usize,
     last: bool,
+    slots: &mut [[usize; 4]; Session::OTHER_SLOTS],
+    header_slots: &mut [[usize; 4]; Session::HEADER_STANZAS],
     recipients: &mut [u8],
     identities: &mut [u8],
     keys: &mut [u8],
 ) -> State
     requires { ⌜ end ≤ length (now window) ⌝ }
-    ensures cut { λ r. ⌜ Cut last (standingOf judging) (buffersIn (now (recipients .entry)) (now (identities .entry)) (now (keys .entry))) (take end (now (window .entry))) (turnSaid (r .judging) (now (recipients .exit)) (now (identities .exit)) (now (keys .exit))) ⌝ }
+    ensures cut { λ r. ⌜ Cut last (standingOf judging (now (slots .entry)) (now («header_slots» .entry))) (buffersIn (now (recipients .entry)) (now (identities .entry)) (now (keys .entry))) (take end (now (window .entry))) (turnSaid (r .judging) (now (slots .exit)) (now («header_slots» .exit)) (now (recipients .exit)) (now (identities .exit)) (now (keys .exit))) ⌝ }
     ensures rest { λ r. ⌜ take (r .left) (now (window .exit)) ≡ drop (r .judging .taken) (take end (now (window .entry))) ⌝ }
     ensures short { λ r. ⌜ (r .left ≤ end) × (r .more ≡ true → r .left < 8192) ⌝ }
 {
-    let j = judging.judge_window(&window[..end], last, recipients, identities, keys);
+    let j = judging.judge_window(
+        &window[..end],
+        last,
+        slots,
+        header_slots,
+        recipients,
+        identities,
+        keys,
+    );
     let left = keep_rest(window, j.taken, end);
     let progress = j.progress;
     match progress {

@@ -6,12 +6,12 @@ use mathlib.Core.Bool.{Bool, true, false}
 use mathlib.Core.List.{List, [], _++_}
 use lib.ListN.{length, drop}
 use Rattle.stanza.specs.Reading.{refused, readFirst}
-use Rattle.conversation.specs.Session.{Session}
-use Rattle.session.specs.PhaseOne.{Buffers}
+use Rattle.session.specs.Session.{Session}
+use Rattle.phase_one.specs.PhaseOne.{BuffersOne}
 use Rattle.judging.specs.Judging.{Judged, Standing, going, stopped, Turn, turnOf, behind, judgedFrom}
 
 -- what a turn t promises that judged a window, from d with the buffers b
-pub record Cut (last : Bool) (d : Standing) (b : Buffers) (window : List ℕ) (t : Turn) : Type 0 where
+pub record Cut (last : Bool) (d : Standing) (b : BuffersOne) (window : List ℕ) (t : Turn) : Type 0 where
   -- however the input goes on, its verdict is what t gives on what t left and the rest
   pub same : (rest : List ℕ) → (last ≡ true → rest ≡ []) →
       judgedFrom true d b (window ++ rest) ≡ behind (t .taken) (judgedFrom true (t .standing) (t .buffers) (drop (t .taken) window ++ rest))

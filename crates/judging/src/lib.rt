@@ -1,19 +1,20 @@
 // Judging a recorded phase one of recipient-v1: stanza after stanza up to done or a refusal, window by window of the input. How the input is cut does not show.
 ghost use mathlib.Core.Path.{_≡_};
-ghost use Prim.Native.Nat.{_≤_};
+ghost use Prim.Native.Nat.{ℕ, _≤_};
+ghost use mathlib.Core.List.{List};
 ghost use lib.ListN.{length, drop};
 ghost use Rattle.refusal.specs.Number.{numberOf};
-ghost use Rattle.session.specs.Commands.{wordSaid};
-ghost use Rattle.session.specs.PhaseOne.{tablesOf};
-ghost use Rattle.plugin.specs.Session.{sessionOf};
+ghost use Rattle.phase_one.specs.Commands.{wordSaid};
+ghost use Rattle.session.specs.Tables.{tablesIn, openedSlots, openedHeaderSlots};
+ghost use Rattle.session.specs.Session.{sessionOf};
 ghost use Rattle.judging.specs.Judging.{counted, going, isDone, behindCommand, behindRefusal, turned, behind, judgedFrom, start, judgedText, numbersOf};
 ghost use Rattle.judging.specs.Windows.{Cut};
 ghost use Rattle.judging.specs.Said.{judgedSaid, buffersIn, standingIn, standingOf, turnSaid};
-use plugin::Session;
+use phase_one::WordOne;
 use plugin::Taking;
 use refusal::Refusal;
+use session::Session;
 use session::Tables;
-use session::Word;
 
 // What the judging program writes: how many entries each kind has, and the answer, 0 behind done, else the number of the refusal.
 pub struct Judged {
@@ -39,7 +40,7 @@ pub struct Judging {
 
 // The counts of tables, and an answer.
 fn count(tables: Tables, answer: u8) -> Judged
-    ensures { λ r. ⌜ judgedSaid r ≡ counted (tablesOf tables) answer ⌝ }
+    ensures { λ r. ⌜ ((xs hs : List (List ℕ)) → judgedSaid r ≡ counted (tablesIn tables xs hs) answer) ⌝ }
 {
     Judged {
         recipients: tables.recipients.count,
@@ -51,22 +52,22 @@ fn count(tables: Tables, answer: u8) -> Judged
 }
 
 // Whether a command is done.
-fn is_done(word: Word) -> bool
+fn is_done(word: WordOne) -> bool
     ensures { λ r. ⌜ r ≡ isDone (wordSaid word) ⌝ }
 {
     match word {
-        Word::Done => true,
-        Word::AddRecipient => false,
-        Word::AddIdentity => false,
-        Word::WrapFileKey => false,
-        Word::RecipientStanza => false,
-        Word::Other => false,
+        WordOne::Done => true,
+        WordOne::AddRecipient => false,
+        WordOne::AddIdentity => false,
+        WordOne::WrapFileKey => false,
+        WordOne::RecipientStanza => false,
+        WordOne::Other => false,
     }
 }
 
 // Where judging stands behind a command: done stops it.
-fn behind_command(word: Word, session: Session) -> Progress
-    ensures { λ r. ⌜ standingIn r (sessionOf session) ≡ behindCommand (wordSaid word) (sessionOf session) ⌝ }
+fn behind_command(word: WordOne, session: Session) -> Progress
+    ensures { λ r. ⌜ ((xs hs : List (List ℕ)) → standingIn r (sessionOf session xs hs) ≡ behindCommand (wordSaid word) (sessionOf session xs hs)) ⌝ }
 {
     if is_done(word) {
         return Progress::Stopped(count(session.tables, 0));
@@ -76,7 +77,7 @@ fn behind_command(word: Word, session: Session) -> Progress
 
 // Where judging stands behind a refusal: it stops, but an unfinished stanza waits for more where the window is not the last.
 fn behind_refusal(r: Refusal, last: bool, session: Session) -> Progress
-    ensures { λ p. ⌜ standingIn p (sessionOf session) ≡ behindRefusal last (numberOf r) (sessionOf session) ⌝ }
+    ensures { λ p. ⌜ ((xs hs : List (List ℕ)) → standingIn p (sessionOf session xs hs) ≡ behindRefusal last (numberOf r) (sessionOf session xs hs)) ⌝ }
 {
     let number = refusal::number(r);
     if number == 2 && !last {
@@ -91,15 +92,26 @@ fn advance(
     window: &[u8],
     at: usize,
     last: bool,
+    slots: &mut [[usize; 4]; Session::OTHER_SLOTS],
+    header_slots: &mut [[usize; 4]; Session::HEADER_STANZAS],
     recipients: &mut [u8],
     identities: &mut [u8],
     keys: &mut [u8],
 ) -> Judging
     requires { ⌜ at ≤ length (now window) ⌝ }
-    ensures { λ r. ⌜ turnSaid r (now (recipients .exit)) (now (identities .exit)) (now (keys .exit)) ≡ behind at (turned last (sessionOf session) (buffersIn (now (recipients .entry)) (now (identities .entry)) (now (keys .entry))) (drop at (now (window .entry)))) ⌝ }
+    ensures { λ r. ⌜ turnSaid r (now (slots .exit)) (now («header_slots» .exit)) (now (recipients .exit)) (now (identities .exit)) (now (keys .exit)) ≡ behind at (turned last (sessionOf session (now (slots .entry)) (now («header_slots» .entry))) (buffersIn (now (recipients .entry)) (now (identities .entry)) (now (keys .entry))) (drop at (now (window .entry)))) ⌝ }
 {
     let mut headers = [0u8; 0];
-    let received = session.receive(&window[at..], recipients, identities, keys, &mut headers);
+    let received = plugin::receive(
+        session,
+        &window[at..],
+        slots,
+        header_slots,
+        recipients,
+        identities,
+        keys,
+        &mut headers,
+    );
     let answer = received.answer;
     let after = received.session;
     match answer {
@@ -122,9 +134,9 @@ fn advance(
 impl Judging {
     // Nothing judged yet: a session of recipient-v1 just opened. The plugin's name does not show in the numbers.
     pub fn open() -> Judging
-        ensures { λ r. ⌜ (standingOf r ≡ going start) × (r .taken ≡ 0) ⌝ }
+        ensures { λ r. ⌜ (standingOf r openedSlots openedHeaderSlots ≡ going start) × (r .taken ≡ 0) ⌝ }
     {
-        let opening = Session::open(b"recipient-v1", b"judge");
+        let opening = Session::open_plugin(b"recipient-v1", b"judge");
         let session = opening.session;
         Judging {
             session: session,
@@ -139,12 +151,14 @@ impl Judging {
         self,
         window: &[u8],
         last: bool,
+        slots: &mut [[usize; 4]; Session::OTHER_SLOTS],
+        header_slots: &mut [[usize; 4]; Session::HEADER_STANZAS],
         recipients: &mut [u8],
         identities: &mut [u8],
         keys: &mut [u8],
     ) -> Judging
-        ensures exact { λ r. ⌜ turnSaid r (now (recipients .exit)) (now (identities .exit)) (now (keys .exit)) ≡ judgedFrom last (standingOf self) (buffersIn (now (recipients .entry)) (now (identities .entry)) (now (keys .entry))) (now (window .entry)) ⌝ }
-        ensures any_cut { λ r. ⌜ Cut last (standingOf self) (buffersIn (now (recipients .entry)) (now (identities .entry)) (now (keys .entry))) (now (window .entry)) (turnSaid r (now (recipients .exit)) (now (identities .exit)) (now (keys .exit))) ⌝ }
+        ensures exact { λ r. ⌜ turnSaid r (now (slots .exit)) (now («header_slots» .exit)) (now (recipients .exit)) (now (identities .exit)) (now (keys .exit)) ≡ judgedFrom last (standingOf self (now (slots .entry)) (now («header_slots» .entry))) (buffersIn (now (recipients .entry)) (now (identities .entry)) (now (keys .entry))) (now (window .entry)) ⌝ }
+        ensures any_cut { λ r. ⌜ Cut last (standingOf self (now (slots .entry)) (now («header_slots» .entry))) (buffersIn (now (recipients .entry)) (now (identities .entry)) (now (keys .entry))) (now (window .entry)) (turnSaid r (now (slots .exit)) (now («header_slots» .exit)) (now (recipients .exit)) (now (identities .exit)) (now (keys .exit))) ⌝ }
     {
         let mut j = self;
         j.taken = 0;
@@ -154,7 +168,17 @@ impl Judging {
                 return j;
             }
             let at = j.taken;
-            j = advance(j.session, window, at, last, recipients, identities, keys);
+            j = advance(
+                j.session,
+                window,
+                at,
+                last,
+                slots,
+                header_slots,
+                recipients,
+                identities,
+                keys,
+            );
             if j.taken == at {
                 return j;
             }
@@ -163,7 +187,7 @@ impl Judging {
 
     // The five numbers. Where judging goes on the input has ended before done: 2.
     pub fn numbers(self) -> Judged
-        ensures { λ r. ⌜ judgedSaid r ≡ numbersOf (standingOf self) ⌝ }
+        ensures { λ r. ⌜ ((xs hs : List (List ℕ)) → judgedSaid r ≡ numbersOf (standingOf self xs hs)) ⌝ }
     {
         let progress = self.progress;
         match progress {
@@ -179,6 +203,16 @@ pub fn judge(text: &[u8], recipients: &mut [u8], identities: &mut [u8], keys: &m
     ensures buffers { λ _. ⌜ buffersIn (now (recipients .exit)) (now (identities .exit)) (now (keys .exit)) ≡ judgedText (buffersIn (now (recipients .entry)) (now (identities .entry)) (now (keys .entry))) (now (text .entry)) .buffers ⌝ }
 {
     let begun = Judging::open();
-    let judging = begun.judge_window(text, true, recipients, identities, keys);
+    let mut slots = Session::open_slots();
+    let mut header_slots = Session::open_header_slots();
+    let judging = begun.judge_window(
+        text,
+        true,
+        &mut slots,
+        &mut header_slots,
+        recipients,
+        identities,
+        keys,
+    );
     judging.numbers()
 }

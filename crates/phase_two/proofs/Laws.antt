@@ -1,3 +1,3 @@
 -- What is shown of the definitions of phase two, for its code.
-pub mod Application
+pub mod Steps
 pub mod AtOnce

@@ -3,9 +3,9 @@ ghost use mathlib.Core.Path.{_≡_};
 ghost use lib.ListN.{length};
 ghost use Rattle.refusal.specs.Output.{said, answered, filled};
 ghost use Rattle.conversation.specs.ReceivingTwo.{atOnce, textOf};
-ghost use Rattle.commands_two.specs.Commands.{commandSaid};
+ghost use Rattle.phase_two_commands.specs.Commands.{commandSaid};
 ghost use Rattle.phase_two.specs.AtOnce.{atOnceSaid};
-use commands_two::CommandTwo;
+use phase_two_commands::CommandTwo;
 use refusal::Written;
 use responses::Response;
 

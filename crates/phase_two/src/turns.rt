@@ -1,15 +1,20 @@
 // Whose turn it is in phase two, and the phase behind a command.
 ghost use mathlib.Core.Path.{_≡_};
-ghost use Rattle.session.specs.PhaseOne.{verdictSaid};
-ghost use Rattle.conversation.specs.TurnsTwo.{turnTwo};
+ghost use lib.Dec.{eqb};
+ghost use Rattle.refusal.specs.Pick.{pick};
+ghost use Rattle.refusal.specs.Verdict.{verdictSaid};
+ghost use Rattle.session.specs.Phases.{phaseRefused};
+ghost use Rattle.conversation.specs.TurnsTwo.{turnTwo, dueIn};
 ghost use Rattle.conversation.specs.ReceivingTwo.{phaseReceived};
 ghost use Rattle.conversation.specs.SendingTwo.{phaseSent};
-ghost use Rattle.commands_two.specs.Commands.{commandSaid};
-use commands_two::CommandTwo;
+ghost use Rattle.phase_two_commands.specs.Commands.{commandSaid};
+ghost use Rattle.phase_two.specs.Turns.{dueSaid};
+use phase_two_commands::CommandTwo;
 use refusal::Refusal;
-use responses::WordTwo;
+use refusal::Verdict;
 use session::Phase;
-use session::Verdict;
+use session::WordTwo;
+use session::phase_refused;
 
 // Whether it is the turn of a command of phase two: 13 where the session is closed or has ended, 14 in phase one or while an answer is due.
 pub fn turn_two(phase: Phase) -> Verdict
@@ -24,8 +29,8 @@ pub fn turn_two(phase: Phase) -> Verdict
     }
 }
 
-// The phase behind an accepted command of phase two that was received.
-pub fn phase_received_two(screen: bool, command: CommandTwo) -> Phase
+// The phase behind an accepted command that was received.
+fn phase_taken(screen: bool, command: CommandTwo) -> Phase
     ensures { λ r. ⌜ r ≡ phaseReceived screen (commandSaid command) ⌝ }
 {
     match command {
@@ -44,8 +49,8 @@ pub fn phase_received_two(screen: bool, command: CommandTwo) -> Phase
     }
 }
 
-// The phase behind an accepted command of phase two that was sent.
-pub fn phase_sent_two(command: CommandTwo) -> Phase
+// The phase behind an accepted command that was sent.
+fn phase_spoken(command: CommandTwo) -> Phase
     ensures { λ r. ⌜ r ≡ phaseSent (commandSaid command) ⌝ }
 {
     match command {
@@ -56,5 +61,48 @@ pub fn phase_sent_two(command: CommandTwo) -> Phase
         CommandTwo::Done => Phase::Ended,
         CommandTwo::Other => Phase::Awaiting(WordTwo::Other),
         CommandTwo::Refused(_) => Phase::Two,
+    }
+}
+
+// The phase behind a command that was received in a phase.
+pub fn phase_received_two(
+    phase: Phase,
+    screen: bool,
+    verdict: Verdict,
+    command: CommandTwo,
+) -> Phase
+    ensures { λ r. ⌜ r ≡ pick (eqb (verdictSaid verdict) 0) (phaseReceived screen (commandSaid command)) (phaseRefused phase (verdictSaid verdict)) ⌝ }
+{
+    match verdict {
+        Verdict::Accepted => phase_taken(screen, command),
+        Verdict::Refused(r) => phase_refused(phase, r),
+    }
+}
+
+// The phase behind a command that was sent in a phase: no refusal closes the session.
+pub fn phase_sent_two(phase: Phase, verdict: Verdict, command: CommandTwo) -> Phase
+    ensures { λ r. ⌜ r ≡ pick (eqb (verdictSaid verdict) 0) (phaseSent (commandSaid command)) phase ⌝ }
+{
+    match verdict {
+        Verdict::Accepted => phase_spoken(command),
+        Verdict::Refused(_) => phase,
+    }
+}
+
+// Whether an answer is due: the command that awaits it; or 13 where the session is closed or has ended, 14 where nothing is awaited.
+pub enum Due {
+    Command(WordTwo),
+    Refused(Refusal),
+}
+
+pub fn answer_due(phase: Phase) -> Due
+    ensures { λ r. ⌜ dueSaid r ≡ dueIn phase ⌝ }
+{
+    match phase {
+        Phase::One => Due::Refused(Refusal::OutOfTurn),
+        Phase::Two => Due::Refused(Refusal::OutOfTurn),
+        Phase::Awaiting(word) => Due::Command(word),
+        Phase::Ended => Due::Refused(Refusal::SessionOver),
+        Phase::Closed => Due::Refused(Refusal::SessionOver),
     }
 }

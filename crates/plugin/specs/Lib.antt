@@ -1,5 +1,4 @@
--- What the plugin end's values stand for.
-pub mod Session
+-- What the plugin end's answers stand for.
 pub mod Receiving
 pub mod Responding
 pub mod Sending

@@ -1,14 +1,14 @@
-// The plugin end: its session, opened by a machine's and a plugin's name; phase one received; commands of phase two sent, and responses received. Payloads
-// are kept in buffers that each call is lent.
+// The plugin end: phase one received; phase two sent, and the client's responses. Its session is opened by `session::Session`; payloads and entries are kept in
+// buffers and slots that each call is lent.
 mod receiving;
 mod responding;
 mod sending;
-mod sessions;
 
 pub use receiving::Received;
 pub use receiving::Taking;
+pub use receiving::receive;
 pub use responding::Answering;
 pub use responding::Responded;
+pub use responding::receive_response;
 pub use sending::Sent;
-pub use sessions::Opening;
-pub use sessions::Session;
+pub use sending::send;

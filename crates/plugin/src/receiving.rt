@@ -1,30 +1,28 @@
 // Phase one received: a command of the client, judged and kept.
 ghost use mathlib.Core.Path.{_≡_};
-ghost use lib.ListN.{take, drop};
-ghost use Rattle.refusal.specs.Number.{numberOf};
-ghost use Rattle.base64.specs.Lines.{bodyOf};
-ghost use Rattle.stanza.specs.Reading.{readFirst, stanza};
-ghost use Rattle.session.specs.Commands.{commandSaid};
-ghost use Rattle.session.specs.PhaseOne.{buffersOf, tablesOf, verdictSaid};
+ghost use mathlib.Core.List.{List};
+ghost use Prim.Native.Nat.{ℕ};
+ghost use Rattle.refusal.specs.Verdict.{verdictSaid};
 ghost use Rattle.stanza.specs.Parts.{argumentsIn, bodyIn};
-ghost use Rattle.conversation.specs.Receiving.{answerOf, received, receivedAs, receivedStanza};
-ghost use Rattle.plugin.specs.Session.{sessionIn, sessionOf};
-ghost use Rattle.plugin.specs.Receiving.{takingSaid, receivedSaid, takenSaid};
-use crate::sessions::Session;
-use bech32::Name;
+ghost use Rattle.session.specs.Session.{sessionOf};
+ghost use Rattle.phase_one.specs.Commands.{commandSaid};
+ghost use Rattle.phase_one.specs.PhaseOne.{buffersOf};
+ghost use Rattle.conversation.specs.Receiving.{answerOf, received, receivedStanza};
+ghost use Rattle.plugin.specs.Receiving.{takingSaid, receivedSaid};
+use phase_one::CommandOne;
+use phase_one::WordOne;
+use phase_one::step_one;
 use refusal::Refusal;
-use session::Command;
-use session::Machine;
-use session::Phase;
-use session::Tables;
-use session::Verdict;
-use session::Word;
+use refusal::Verdict;
+use session::Session;
+use session::front;
 use stanza::First;
 use stanza::Stanza;
+use tables::Coding;
 
 // Which command was received and how many bytes of the text it took; or the refusal.
 pub enum Taking {
-    Command(Word, usize),
+    Command(WordOne, usize),
     Refused(Refusal),
 }
 
@@ -33,51 +31,45 @@ pub struct Received {
     pub session: Session,
 }
 
-// What becomes of the parts of a session that a command changes.
-struct Taken {
-    answer: Taking,
-    phase: Phase,
-    tables: Tables,
-}
-
 // The answer to a command that was judged.
-fn answer_to(verdict: Verdict, command: Command, taken: usize) -> Taking
-    ensures { λ r. ⌜ takingSaid r ≡ answerOf (verdictSaid verdict) (commandSaid command) taken ⌝ }
+fn answer_to(verdict: Verdict, command: CommandOne, taken: usize) -> Taking
+    ensures { λ r. ⌜ ((plugin line : List ℕ) (n : ℕ) → takingSaid r ≡ answerOf (verdictSaid verdict) (commandSaid plugin line n command) taken) ⌝ }
 {
     match verdict {
-        Verdict::Accepted => Taking::Command(session::word_of(command), taken),
+        Verdict::Accepted => Taking::Command(phase_one::word_of(command), taken),
         Verdict::Refused(r) => Taking::Refused(r),
     }
 }
 
 // A whole stanza at the front of a text.
 fn receive_stanza(
-    machine: Machine,
-    name: Name,
-    tables: Tables,
+    session: Session,
     text: &[u8],
     s: Stanza,
+    slots: &mut [[usize; 4]],
+    header_slots: &mut [[usize; 4]],
     recipients: &mut [u8],
     identities: &mut [u8],
     keys: &mut [u8],
     headers: &mut [u8],
-) -> Taken
-    requires { ⌜ readFirst (now text) ≡ stanza (s .line) (s .body) (s .taken) ⌝ }
-    ensures { λ r. ⌜ takenSaid machine name r (now (recipients .exit)) (now (identities .exit)) (now (keys .exit)) (now (headers .exit)) ≡ receivedStanza (sessionIn machine name Phase.One tables) (buffersOf (now (recipients .entry)) (now (identities .entry)) (now (keys .entry)) (now (headers .entry))) (argumentsIn (now (text .entry)) s) (bodyIn (now (text .entry)) s) (s .taken) ⌝ }
+) -> Received
+    ensures { λ r. ⌜ receivedSaid r (now (slots .exit)) (now («header_slots» .exit)) (now (recipients .exit)) (now (identities .exit)) (now (keys .exit)) (now (headers .exit)) ≡ receivedStanza (sessionOf session (now (slots .entry)) (now («header_slots» .entry))) (buffersOf (now (recipients .entry)) (now (identities .entry)) (now (keys .entry)) (now (headers .entry))) (argumentsIn (now (text .entry)) s) (bodyIn (now (text .entry)) s) (s .taken) ⌝ }
 {
-    let line = stanza::arguments_of(text, s);
-    let mut store = [0u8; 6144];
-    let n = session::decode(text, s, &mut store);
+    let machine = session.machine;
+    let before = session.phase;
+    let name = session.name;
     let bytes = name.bytes;
     let length = name.length;
-    let plugin = session::name_text(&bytes, length);
-    let step = session::step_one(
+    let step = step_one(
         machine,
-        plugin,
-        tables,
+        front(&bytes, length),
+        session.tables,
         Verdict::Accepted,
-        line,
-        session::name_text(&store, n),
+        stanza::arguments_of(text, s),
+        Coding::Lines,
+        stanza::lines_of(text, s),
+        slots,
+        header_slots,
         recipients,
         identities,
         keys,
@@ -87,94 +79,52 @@ fn receive_stanza(
     let command = step.command;
     let after = step.tables;
     let answer = answer_to(verdict, command, s.taken);
-    let phase = session::phase_received(verdict, command);
-    Taken {
+    let phase = phase_one::phase_received(before, verdict, command);
+    Received {
         answer: answer,
-        phase: phase,
-        tables: after,
+        session: session.moved(phase, after),
     }
 }
 
-// A text in phase one.
-fn receive_text(
-    machine: Machine,
-    name: Name,
-    tables: Tables,
+// A command of phase one at the front of a text: what it was, and the session. 13, 14, 1 to 3, 4, 5, 7 or 8 where it is refused: then tables, slots and buffers
+// stay as they were.
+pub fn receive(
+    session: Session,
     text: &[u8],
+    slots: &mut [[usize; 4]; Session::OTHER_SLOTS],
+    header_slots: &mut [[usize; 4]; Session::HEADER_STANZAS],
     recipients: &mut [u8],
     identities: &mut [u8],
     keys: &mut [u8],
     headers: &mut [u8],
-) -> Taken
-    ensures { λ r. ⌜ takenSaid machine name r (now (recipients .exit)) (now (identities .exit)) (now (keys .exit)) (now (headers .exit)) ≡ receivedAs (readFirst (now (text .entry))) (sessionIn machine name Phase.One tables) (now (text .entry)) (buffersOf (now (recipients .entry)) (now (identities .entry)) (now (keys .entry)) (now (headers .entry))) ⌝ }
+) -> Received
+    ensures { λ r. ⌜ receivedSaid r (now (slots .exit)) (now («header_slots» .exit)) (now (recipients .exit)) (now (identities .exit)) (now (keys .exit)) (now (headers .exit)) ≡ received (sessionOf session (now (slots .entry)) (now («header_slots» .entry))) (now (text .entry)) (buffersOf (now (recipients .entry)) (now (identities .entry)) (now (keys .entry)) (now (headers .entry))) ⌝ }
 {
-    let first = stanza::read(text);
-    match first {
-        First::Stanza(s) => receive_stanza(
-            machine,
-            name,
-            tables,
-            text,
-            s,
-            recipients,
-            identities,
-            keys,
-            headers,
-        ),
-        First::Refused(r) => Taken {
+    let phase = session.phase;
+    let turn = phase_one::turn_one(phase);
+    match turn {
+        Verdict::Refused(r) => Received {
             answer: Taking::Refused(r),
-            phase: session::phase_refused(Phase::One, r),
-            tables: tables,
+            session: session,
         },
-    }
-}
-
-impl Session {
-    // A command of phase one at the front of a text: what it was, and the session. 13, 14, 1 to 3, 4, 5, 7 or 8 where it is refused: then tables and
-    // buffers stay as they were.
-    pub fn receive(
-        self,
-        text: &[u8],
-        recipients: &mut [u8],
-        identities: &mut [u8],
-        keys: &mut [u8],
-        headers: &mut [u8],
-    ) -> Received
-        ensures { λ r. ⌜ receivedSaid r (now (recipients .exit)) (now (identities .exit)) (now (keys .exit)) (now (headers .exit)) ≡ received (sessionOf self) (now (text .entry)) (buffersOf (now (recipients .entry)) (now (identities .entry)) (now (keys .entry)) (now (headers .entry))) ⌝ }
-    {
-        let phase = self.phase;
-        let turn = session::turn_one(phase);
-        match turn {
-            Verdict::Refused(r) => Received {
-                answer: Taking::Refused(r),
-                session: self,
-            },
-            Verdict::Accepted => {
-                let machine = self.machine;
-                let name = self.name;
-                let taken = receive_text(
-                    machine,
-                    name,
-                    self.tables,
+        Verdict::Accepted => {
+            let first = stanza::read(text);
+            match first {
+                First::Stanza(s) => receive_stanza(
+                    session,
                     text,
+                    s,
+                    slots,
+                    header_slots,
                     recipients,
                     identities,
                     keys,
                     headers,
-                );
-                let answer = taken.answer;
-                let after = taken.phase;
-                let tables = taken.tables;
-                let session = Session {
-                    machine: machine,
-                    phase: after,
-                    name: name,
-                    tables: tables,
-                };
-                Received {
-                    answer: answer,
-                    session: session,
-                }
+                ),
+                First::Refused(r) => Received {
+                    answer: Taking::Refused(r),
+                    session: session.moved(session::phase_refused(phase, r), session.tables),
+                },
             }
         }
     }

@@ -1,21 +1,21 @@
-// Phase two: a response of the client, and its body.
+// Phase two: the client's response to the command that awaits it, judged, and its body decoded.
 ghost use mathlib.Core.Path.{_≡_};
-ghost use Rattle.bech32.specs.declared.human.Name.{Name};
+ghost use mathlib.Core.List.{List};
+ghost use Prim.Native.Nat.{ℕ};
 ghost use Rattle.stanza.specs.Parts.{argumentsIn, bodyIn};
 ghost use Rattle.stanza.specs.Reading.{readFirst, stanza};
 ghost use Rattle.responses.specs.Responses.{response, responseOf};
-ghost use Rattle.session.specs.declared.commands.Machine.{Machine};
-ghost use Rattle.session.specs.declared.phase_one.Tables.{Tables};
-ghost use Rattle.conversation.specs.Responding.{responded, respondedText, respondedAs};
-ghost use Rattle.plugin.specs.Session.{sessionIn, sessionOf};
-ghost use Rattle.plugin.specs.Responding.{respondedSaid, repliedSaid};
-use crate::sessions::Session;
+ghost use Rattle.session.specs.Session.{sessionOf};
+ghost use Rattle.conversation.specs.Responding.{responded, respondedText, respondedAs, refusedResponse};
+ghost use Rattle.plugin.specs.Responding.{respondedSaid};
+use phase_two::Due;
 use refusal::Refusal;
 use refusal::Written;
-use responses::Reading;
+use responses::ReadResponse;
 use responses::Response;
-use responses::WordTwo;
 use session::Phase;
+use session::Session;
+use session::WordTwo;
 use stanza::First;
 use stanza::Stanza;
 
@@ -30,114 +30,89 @@ pub struct Responded {
     pub session: Session,
 }
 
-// The answer, and the phase behind it.
-struct Replied {
-    answer: Answering,
-    phase: Phase,
+// A session closed by a response that does not fit.
+fn unfit(session: Session) -> Responded
+    ensures { λ r. ⌜ ((xs hs : List (List ℕ)) (out : List ℕ) → respondedSaid r xs hs out ≡ refusedResponse 12 (sessionOf session xs hs) out) ⌝ }
+{
+    Responded {
+        answer: Answering::Refused(Refusal::UnfitResponse),
+        session: session.moved(Phase::Closed, session.tables),
+    }
 }
 
 // A response to the command that awaits it.
 fn receive_fitting(
+    session: Session,
     word: WordTwo,
     found: Response,
     text: &[u8],
     s: Stanza,
     out: &mut [u8],
-) -> Replied
+) -> Responded
     requires { ⌜ readFirst (now text) ≡ stanza (s .line) (s .body) (s .taken) ⌝ }
-    ensures { λ r. ⌜ ((machine : Machine) (name : Name) (tables : Tables) → repliedSaid machine name tables r (now (out .exit)) ≡ respondedAs word (sessionIn machine name (Phase.Awaiting word) tables) (response found) (bodyIn (now (text .entry)) s) (s .taken) (now (out .entry))) ⌝ }
+    ensures { λ r. ⌜ ((xs hs : List (List ℕ)) → respondedSaid r xs hs (now (out .exit)) ≡ respondedAs word (sessionOf session xs hs) (response found) (bodyIn (now (text .entry)) s) (s .taken) (now (out .entry))) ⌝ }
 {
     if !responses::fits_whole(word, found, s.body) {
-        return Replied {
-            answer: Answering::Refused(Refusal::UnfitResponse),
-            phase: Phase::Closed,
-        };
+        return unfit(session);
     }
     let written = stanza::body_of(text, s, out);
     match written {
-        Written::Bytes(n) => Replied {
+        Written::Bytes(n) => Responded {
             answer: Answering::Response(found, s.taken, n),
-            phase: Phase::Two,
+            session: session.moved(Phase::Two, session.tables),
         },
-        Written::Refused(r) => Replied {
+        Written::Refused(r) => Responded {
             answer: Answering::Refused(r),
-            phase: Phase::Awaiting(word),
+            session: session,
         },
     }
 }
 
-// A whole stanza at the front of a text.
-fn receive_answer(word: WordTwo, text: &[u8], s: Stanza, out: &mut [u8]) -> Replied
+// A whole stanza while a command awaits its response.
+fn receive_stanza(
+    session: Session,
+    word: WordTwo,
+    text: &[u8],
+    s: Stanza,
+    out: &mut [u8],
+) -> Responded
     requires { ⌜ readFirst (now text) ≡ stanza (s .line) (s .body) (s .taken) ⌝ }
-    ensures { λ r. ⌜ ((machine : Machine) (name : Name) (tables : Tables) → repliedSaid machine name tables r (now (out .exit)) ≡ respondedAs word (sessionIn machine name (Phase.Awaiting word) tables) (responseOf (argumentsIn (now (text .entry)) s)) (bodyIn (now (text .entry)) s) (s .taken) (now (out .entry))) ⌝ }
+    ensures { λ r. ⌜ ((xs hs : List (List ℕ)) → respondedSaid r xs hs (now (out .exit)) ≡ respondedAs word (sessionOf session xs hs) (responseOf (argumentsIn (now (text .entry)) s)) (bodyIn (now (text .entry)) s) (s .taken) (now (out .entry))) ⌝ }
 {
-    let line = stanza::arguments_of(text, s);
-    let reading = responses::read_line(line);
+    let reading = responses::read_line(stanza::arguments_of(text, s));
     match reading {
-        Reading::Response(found) => receive_fitting(word, found, text, s, out),
-        Reading::Nothing => Replied {
-            answer: Answering::Refused(Refusal::UnfitResponse),
-            phase: Phase::Closed,
-        },
+        ReadResponse::Response(found) => receive_fitting(session, word, found, text, s, out),
+        ReadResponse::Nothing => unfit(session),
     }
 }
 
 // A text while a command awaits its response.
-fn receive_awaited(word: WordTwo, text: &[u8], out: &mut [u8]) -> Replied
-    ensures { λ r. ⌜ ((machine : Machine) (name : Name) (tables : Tables) → repliedSaid machine name tables r (now (out .exit)) ≡ respondedText (readFirst (now (text .entry))) word (sessionIn machine name (Phase.Awaiting word) tables) (now (text .entry)) (now (out .entry))) ⌝ }
+fn receive_awaited(session: Session, word: WordTwo, text: &[u8], out: &mut [u8]) -> Responded
+    ensures { λ r. ⌜ ((xs hs : List (List ℕ)) → respondedSaid r xs hs (now (out .exit)) ≡ respondedText (readFirst (now (text .entry))) word (sessionOf session xs hs) (now (text .entry)) (now (out .entry))) ⌝ }
 {
+    let phase = session.phase;
     let first = stanza::read(text);
     match first {
-        First::Stanza(s) => receive_answer(word, text, s, out),
-        First::Refused(r) => Replied {
+        First::Refused(r) => Responded {
             answer: Answering::Refused(r),
-            phase: session::phase_refused(Phase::Awaiting(word), r),
+            session: session.moved(session::phase_refused(phase, r), session.tables),
         },
+        First::Stanza(s) => receive_stanza(session, word, text, s, out),
     }
 }
 
-impl Session {
-    // A response at the front of a text: which it was, its body at the front of `out`, and the session. 13, 14, 1 to 3, 12 or 15 where it is refused: then
-    // `out` stays as it was.
-    pub fn receive_response(self, text: &[u8], out: &mut [u8]) -> Responded
-        ensures { λ r. ⌜ respondedSaid r (now (out .exit)) ≡ responded (sessionOf self) (now (text .entry)) (now (out .entry)) ⌝ }
-    {
-        let phase = self.phase;
-        match phase {
-            Phase::One => Responded {
-                answer: Answering::Refused(Refusal::OutOfTurn),
-                session: self,
-            },
-            Phase::Two => Responded {
-                answer: Answering::Refused(Refusal::OutOfTurn),
-                session: self,
-            },
-            Phase::Awaiting(word) => {
-                let machine = self.machine;
-                let name = self.name;
-                let tables = self.tables;
-                let replied = receive_awaited(word, text, out);
-                let answer = replied.answer;
-                let after = replied.phase;
-                let session = Session {
-                    machine: machine,
-                    phase: after,
-                    name: name,
-                    tables: tables,
-                };
-                Responded {
-                    answer: answer,
-                    session: session,
-                }
-            }
-            Phase::Ended => Responded {
-                answer: Answering::Refused(Refusal::SessionOver),
-                session: self,
-            },
-            Phase::Closed => Responded {
-                answer: Answering::Refused(Refusal::SessionOver),
-                session: self,
-            },
-        }
+// A response at the front of a text: which it was, its body at the front of `out`, and the session. 13, 14, 1 to 3, 12 or 15 where it is refused: then `out`
+// stays as it was. It needs no slots: whatever they hold, the tables stay.
+pub fn receive_response(session: Session, text: &[u8], out: &mut [u8]) -> Responded
+    ensures { λ r. ⌜ ((xs hs : List (List ℕ)) → respondedSaid r xs hs (now (out .exit)) ≡ responded (sessionOf session xs hs) (now (text .entry)) (now (out .entry))) ⌝ }
+{
+    let phase = session.phase;
+    let due = phase_two::answer_due(phase);
+    match due {
+        Due::Refused(r) => Responded {
+            answer: Answering::Refused(r),
+            session: session,
+        },
+        Due::Command(word) => receive_awaited(session, word, text, out),
     }
 }

@@ -4,3 +4,4 @@ pub mod Output
 pub mod Pick
 pub mod Run
 pub mod Same
+pub mod Verdict

@@ -8,11 +8,11 @@ use crate::print::print_number;
 use crate::print::print_ok;
 use crate::print::print_words;
 use judging::Judged;
+use phase_one::WordOne;
 use refusal::Refusal;
 use refusal::Written;
 use responses::Response;
-use responses::WordTwo;
-use session::Word;
+use session::WordTwo;
 
 // The words of the commands and the responses that are received, which number them.
 pub const NAMES: [u8; 152] =
@@ -44,14 +44,14 @@ pub fn answer_of(written: Written) -> Answer {
 }
 
 // The number of the word of a command of phase one.
-pub fn number_one(word: Word) -> usize {
+pub fn number_one(word: WordOne) -> usize {
     match word {
-        Word::AddRecipient => 0,
-        Word::AddIdentity => 1,
-        Word::WrapFileKey => 2,
-        Word::RecipientStanza => 3,
-        Word::Done => 4,
-        Word::Other => 5,
+        WordOne::AddRecipient => 0,
+        WordOne::AddIdentity => 1,
+        WordOne::WrapFileKey => 2,
+        WordOne::RecipientStanza => 3,
+        WordOne::Done => 4,
+        WordOne::Other => 5,
     }
 }
 

@@ -12,8 +12,8 @@ use crate::print::print_words;
 use crate::words::Words;
 use crate::words::last_word;
 use crate::words::word;
-use bech32::Kind;
-use bech32::Reading;
+use bech32::ReadText;
+use bech32::TextKind;
 use profile::Conformity;
 use refusal::Written;
 use script::Call;
@@ -68,10 +68,10 @@ fn call_buffered(
 ) -> Answer {
     match call {
         Call::Write => call_write(text, w, buffer),
-        Call::Recipient => call_read(Kind::Recipient, text, w, buffer, out, at),
-        Call::Identity => call_read(Kind::Identity, text, w, buffer, out, at),
-        Call::WriteRecipient => call_encode(Kind::Recipient, text, w, buffer),
-        Call::WriteIdentity => call_encode(Kind::Identity, text, w, buffer),
+        Call::Recipient => call_read(TextKind::Recipient, text, w, buffer, out, at),
+        Call::Identity => call_read(TextKind::Identity, text, w, buffer, out, at),
+        Call::WriteRecipient => call_encode(TextKind::Recipient, text, w, buffer),
+        Call::WriteIdentity => call_encode(TextKind::Identity, text, w, buffer),
         _ => Answer::Bad,
     }
 }
@@ -172,7 +172,7 @@ fn call_judge(text: &[u8], w: Words) -> Answer {
 
 // recipient TEXT OUT, identity TEXT OUT
 fn call_read(
-    kind: Kind,
+    kind: TextKind,
     text: &[u8],
     w: Words,
     buffer: &mut [u8],
@@ -187,7 +187,7 @@ fn call_read(
 }
 
 // The line of a recipient or an identity, whose payload is at the front of the buffer.
-fn print_reading(reading: Reading, buffer: &[u8], out: &mut Output, at: usize) -> Answer {
+fn print_reading(reading: ReadText, buffer: &[u8], out: &mut Output, at: usize) -> Answer {
     let answer = reading.answer;
     let name = reading.name;
     let bytes = name.bytes;
@@ -201,7 +201,7 @@ fn print_reading(reading: Reading, buffer: &[u8], out: &mut Output, at: usize) -
 }
 
 // write-recipient NAME PAYLOAD OUT, write-identity NAME PAYLOAD OUT
-fn call_encode(kind: Kind, text: &[u8], w: Words, buffer: &mut [u8]) -> Answer {
+fn call_encode(kind: TextKind, text: &[u8], w: Words, buffer: &mut [u8]) -> Answer {
     if w.count != 4 {
         return Answer::Bad;
     }

@@ -2,19 +2,19 @@
 use crate::answers::Answer;
 use crate::answers::answer_of;
 use crate::answers::number_one;
+use crate::host::HeaderSlots;
 use crate::host::Host;
+use crate::host::Slots;
 use crate::host::Turn;
-use crate::host::from_plugin;
-use crate::host::to_plugin;
 use crate::parts::cut;
 use crate::words::Words;
 use crate::words::joined_words;
 use crate::words::word;
 use client::Sent;
+use phase_one::WordOne;
 use plugin::Received;
 use plugin::Taking;
-use script::Command;
-use session::Word;
+use script::CommandChoice;
 
 // send COMMAND ARGS BODY OUT, where OUT is n
 pub fn send_one(
@@ -23,6 +23,8 @@ pub fn send_one(
     w: Words,
     buffer: &mut [u8],
     host: Host,
+    slots: &mut Slots,
+    header_slots: &mut HeaderSlots,
     recipients: &mut [u8],
     identities: &mut [u8],
     keys: &mut [u8],
@@ -30,10 +32,13 @@ pub fn send_one(
 ) -> Turn {
     let lengths = host.lengths;
     let command = command_one(word(text, w, 1));
-    let sent = host.session.send(
+    let sent = client::send(
+        host.session,
         command,
         arguments_one(command, text, w),
         word(text, w, 3),
+        slots,
+        header_slots,
         cut(recipients, lengths.recipients),
         cut(identities, lengths.identities),
         cut(keys, lengths.keys),
@@ -44,22 +49,22 @@ pub fn send_one(
 }
 
 // The command that a word names.
-fn command_one(name: &[u8]) -> Word {
+fn command_one(name: &[u8]) -> WordOne {
     let command = script::choose_command(name);
     match command {
-        Command::AddRecipient => Word::AddRecipient,
-        Command::AddIdentity => Word::AddIdentity,
-        Command::WrapFileKey => Word::WrapFileKey,
-        Command::RecipientStanza => Word::RecipientStanza,
-        Command::Done => Word::Done,
-        Command::Other => Word::Other,
+        CommandChoice::AddRecipient => WordOne::AddRecipient,
+        CommandChoice::AddIdentity => WordOne::AddIdentity,
+        CommandChoice::WrapFileKey => WordOne::WrapFileKey,
+        CommandChoice::RecipientStanza => WordOne::RecipientStanza,
+        CommandChoice::Done => WordOne::Done,
+        CommandChoice::Other => WordOne::Other,
     }
 }
 
 // The arguments' text of a command; any other word stands first in it.
-fn arguments_one(command: Word, text: &[u8], w: Words) -> &[u8] {
+fn arguments_one(command: WordOne, text: &[u8], w: Words) -> &[u8] {
     match command {
-        Word::Other => joined_words(text, w),
+        WordOne::Other => joined_words(text, w),
         _ => word(text, w, 2),
     }
 }
@@ -80,14 +85,19 @@ pub fn receive_one(
     text: &[u8],
     w: Words,
     host: Host,
+    slots: &mut Slots,
+    header_slots: &mut HeaderSlots,
     recipients: &mut [u8],
     identities: &mut [u8],
     keys: &mut [u8],
     headers: &mut [u8],
 ) -> Turn {
     let lengths = host.lengths;
-    let received = to_plugin(host.session).receive(
+    let received = plugin::receive(
+        host.session,
         word(text, w, 1),
+        slots,
+        header_slots,
         cut(recipients, lengths.recipients),
         cut(identities, lengths.identities),
         cut(keys, lengths.keys),
@@ -100,7 +110,7 @@ pub fn receive_one(
 fn keep_received(received: Received, mut host: Host) -> Turn {
     let taking = received.answer;
     let session = received.session;
-    host.session = from_plugin(session);
+    host.session = session;
     Turn {
         answer: answer_taken(taking),
         host: host,

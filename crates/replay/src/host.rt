@@ -1,6 +1,11 @@
 // What is open: a session of either end or none, and the lengths of the buffers that each call of it is lent.
 use crate::answers::Answer;
-use client::Session;
+use session::Session;
+
+// The slots of a session's header stanzas, and of its other kinds.
+pub type HeaderSlots = [[usize; 4]; Session::HEADER_STANZAS];
+
+pub type Slots = [[usize; 4]; Session::OTHER_SLOTS];
 
 // Which end is open.
 pub enum End {
@@ -20,8 +25,7 @@ pub struct Lengths {
     pub returned: usize,
 }
 
-// The session is kept as one of the client end; one of the plugin end has the same parts but for the screen. Behind its length a buffer has
-// zeros.
+// Behind its length a buffer has zeros.
 pub struct Host {
     pub end: End,
     pub lengths: Lengths,
@@ -63,34 +67,5 @@ pub fn answered(answer: Answer, host: Host) -> Turn {
     Turn {
         answer: answer,
         host: host,
-    }
-}
-
-// A session of the plugin end from its parts.
-pub fn to_plugin(session: Session) -> plugin::Session {
-    let machine = session.machine;
-    let phase = session.phase;
-    let name = session.name;
-    let tables = session.tables;
-    plugin::Session {
-        machine: machine,
-        phase: phase,
-        name: name,
-        tables: tables,
-    }
-}
-
-// The parts of a session of the plugin end.
-pub fn from_plugin(session: plugin::Session) -> Session {
-    let machine = session.machine;
-    let phase = session.phase;
-    let name = session.name;
-    let tables = session.tables;
-    Session {
-        machine: machine,
-        phase: phase,
-        screen: false,
-        name: name,
-        tables: tables,
     }
 }

@@ -16,6 +16,8 @@ mod turns;
 mod words;
 
 use answers::print_answer;
+use host::HeaderSlots;
+use host::Slots;
 use host::no_session;
 use lines::Line;
 use lines::advance;
@@ -24,6 +26,7 @@ use parts::Buffer;
 use parts::front;
 use print::Output;
 use print::flush;
+use session::Session;
 use turns::make_call;
 use words::read_line;
 
@@ -34,6 +37,8 @@ fn main() {
     let mut text = io::large_buffer();
     let mut buffer = io::large_buffer();
     let mut out = [0u8; 131072];
+    let mut slots = Session::open_slots();
+    let mut header_slots = Session::open_header_slots();
     let mut recipients = [0u8; 65536];
     let mut identities = [0u8; 65536];
     let mut keys = [0u8; 65536];
@@ -47,6 +52,8 @@ fn main() {
         &mut text,
         &mut buffer,
         &mut out,
+        &mut slots,
+        &mut header_slots,
         &mut recipients,
         &mut identities,
         &mut keys,
@@ -65,6 +72,8 @@ fn run(
     text: &mut Buffer,
     buffer: &mut Buffer,
     out: &mut Output,
+    slots: &mut Slots,
+    header_slots: &mut HeaderSlots,
     recipients: &mut Buffer,
     identities: &mut Buffer,
     keys: &mut Buffer,
@@ -86,6 +95,8 @@ fn run(
             out,
             s.at,
             host,
+            slots,
+            header_slots,
             recipients,
             identities,
             keys,

@@ -4,11 +4,12 @@ use crate::parts::LONGEST;
 use crate::words::Words;
 use crate::words::last_word;
 use crate::words::word;
-use bech32::Kind;
+use bech32::TextKind;
 use responses::Response;
 use script::Call;
+use script::KindChoice;
 use script::Number;
-use script::Reply;
+use script::ReplyChoice;
 
 // A call that needs no session; one that opens a session or sets the lengths of its buffers; one of phase one or of phase two; an entry by
 // kind and number; all tables; one that no open session takes; or no call.
@@ -17,7 +18,7 @@ pub enum Request {
     Setting(Call),
     PhaseOne(TalkOne),
     PhaseTwo(TalkTwo),
-    Entry(Kind, usize),
+    Entry(TextKind, usize),
     Show,
     Missing,
     Bad,
@@ -106,12 +107,12 @@ fn read_reply(text: &[u8], w: Words) -> Request {
     let n = v as usize;
     let reply = script::choose_reply(word(text, w, 1));
     match reply {
-        Reply::Ok => Request::PhaseTwo(TalkTwo::Reply(Response::Ok, n)),
-        Reply::Yes => Request::PhaseTwo(TalkTwo::Reply(Response::Yes, n)),
-        Reply::No => Request::PhaseTwo(TalkTwo::Reply(Response::No, n)),
-        Reply::Fail => Request::PhaseTwo(TalkTwo::Reply(Response::Fail, n)),
-        Reply::Unsupported => Request::PhaseTwo(TalkTwo::Reply(Response::Unsupported, n)),
-        Reply::Other => Request::Bad,
+        ReplyChoice::Ok => Request::PhaseTwo(TalkTwo::Reply(Response::Ok, n)),
+        ReplyChoice::Yes => Request::PhaseTwo(TalkTwo::Reply(Response::Yes, n)),
+        ReplyChoice::No => Request::PhaseTwo(TalkTwo::Reply(Response::No, n)),
+        ReplyChoice::Fail => Request::PhaseTwo(TalkTwo::Reply(Response::Fail, n)),
+        ReplyChoice::Unsupported => Request::PhaseTwo(TalkTwo::Reply(Response::Unsupported, n)),
+        ReplyChoice::Other => Request::Bad,
     }
 }
 
@@ -137,9 +138,9 @@ fn read_entry(text: &[u8], w: Words) -> Request {
     };
     let kind = script::choose_kind(word(text, w, 1));
     match kind {
-        script::Kind::Recipient => Request::Entry(Kind::Recipient, n as usize),
-        script::Kind::Identity => Request::Entry(Kind::Identity, n as usize),
-        script::Kind::Other => Request::Bad,
+        KindChoice::Recipient => Request::Entry(TextKind::Recipient, n as usize),
+        KindChoice::Identity => Request::Entry(TextKind::Identity, n as usize),
+        KindChoice::Other => Request::Bad,
     }
 }
 

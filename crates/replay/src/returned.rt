@@ -1,5 +1,7 @@
 // What `show` prints of phase two, by the library's look-ups: the errors, and the stanzas and keys that were returned, file by file.
+use crate::host::HeaderSlots;
 use crate::host::Lengths;
+use crate::host::Slots;
 use crate::parts::Buffer;
 use crate::parts::front;
 use crate::print::Output;
@@ -7,7 +9,9 @@ use crate::print::print_bytes;
 use crate::print::print_decimal;
 use crate::print::print_last;
 use crate::print::print_number;
-use look_up_two::ErrorNamed;
+use look_up::ErrorNamed;
+use session::Kind;
+use session::Session;
 use session::Tables;
 use tables::Found;
 
@@ -18,29 +22,52 @@ const NO_FILE: usize = usize::MAX;
 pub fn print_returned(
     tables: Tables,
     lengths: Lengths,
+    slots: &Slots,
+    header_slots: &HeaderSlots,
     errors: &Buffer,
     stanzas: &Buffer,
     returned: &Buffer,
     out: &mut Output,
     at: usize,
 ) -> usize {
-    let a = print_errors(tables, front(errors, lengths.errors), out, at);
-    let b = print_stanzas(tables, front(stanzas, lengths.stanzas), out, a);
-    let c = print_keys(tables, front(returned, lengths.returned), out, b);
+    let a = print_errors(
+        tables,
+        slots,
+        header_slots,
+        front(errors, lengths.errors),
+        out,
+        at,
+    );
+    let b = print_stanzas(tables, slots, front(stanzas, lengths.stanzas), out, a);
+    let c = print_keys(
+        tables,
+        slots,
+        header_slots,
+        front(returned, lengths.returned),
+        out,
+        b,
+    );
     print_bytes(b"end\n", out, c)
 }
 
 // The errors.
-fn print_errors(tables: Tables, errors: &[u8], out: &mut Output, at: usize) -> usize {
-    let count = look_up_two::count_errors(tables);
+fn print_errors(
+    tables: Tables,
+    slots: &Slots,
+    header_slots: &HeaderSlots,
+    errors: &[u8],
+    out: &mut Output,
+    at: usize,
+) -> usize {
+    let count = look_up::count_errors(tables);
     let mut next = at;
     let mut n: usize = 0;
     while n < count {
-        let named = look_up_two::error_named(tables, n);
+        let named = look_up::error_named(tables, n, slots, header_slots);
         next = print_error(
             n,
             named,
-            look_up_two::error_message(tables, n, errors),
+            look_up::error_message(tables, n, slots, errors),
             out,
             next,
         );
@@ -79,27 +106,40 @@ fn print_index(bytes: &[u8], index: usize, out: &mut Output, at: usize) -> usize
 }
 
 // The stanzas of each file; the files are those of the file keys.
-fn print_stanzas(tables: Tables, stanzas: &[u8], out: &mut Output, at: usize) -> usize {
+fn print_stanzas(
+    tables: Tables,
+    slots: &Slots,
+    stanzas: &[u8],
+    out: &mut Output,
+    at: usize,
+) -> usize {
     let count = tables.keys.count;
     let mut next = at;
     let mut file: usize = 0;
     while file < count {
-        next = print_file(tables, file, stanzas, out, next);
+        next = print_file(tables, file, slots, stanzas, out, next);
         file += 1;
     }
     next
 }
 
 // The stanzas of a file.
-fn print_file(tables: Tables, file: usize, stanzas: &[u8], out: &mut Output, at: usize) -> usize {
-    let count = look_up_two::count_stanzas(tables, file);
+fn print_file(
+    tables: Tables,
+    file: usize,
+    slots: &Slots,
+    stanzas: &[u8],
+    out: &mut Output,
+    at: usize,
+) -> usize {
+    let count = look_up::count_stanzas(tables, file, slots);
     let mut next = at;
     let mut k: usize = 0;
     while k < count {
         next = print_stanza(
             file,
             k,
-            look_up_two::stanza_of(tables, file, k, stanzas),
+            look_up::stanza_of(tables, file, k, slots, stanzas),
             out,
             next,
         );
@@ -117,17 +157,24 @@ fn print_stanza(file: usize, k: usize, payload: &[u8], out: &mut Output, at: usi
 }
 
 // The key of each file; the files are those that header stanzas name, whose numbers never fall.
-fn print_keys(tables: Tables, returned: &[u8], out: &mut Output, at: usize) -> usize {
+fn print_keys(
+    tables: Tables,
+    slots: &Slots,
+    header_slots: &HeaderSlots,
+    returned: &[u8],
+    out: &mut Output,
+    at: usize,
+) -> usize {
     let mut next = at;
     let mut last = NO_FILE;
     let mut n: usize = 0;
-    while n < 256 {
-        let found = tables.headers.find(n);
+    while n < Session::HEADER_STANZAS {
+        let found = look_up::find(tables, Kind::Headers, n, slots, header_slots);
         let Found::Entry(e) = found else {
             return next;
         };
         let file = e.index;
-        next = print_key(tables, file, file != last, returned, out, next);
+        next = print_key(tables, file, file != last, slots, returned, out, next);
         last = file;
         n += 1;
     }
@@ -139,14 +186,15 @@ fn print_key(
     tables: Tables,
     file: usize,
     due: bool,
+    slots: &Slots,
     returned: &[u8],
     out: &mut Output,
     at: usize,
 ) -> usize {
-    if due & look_up_two::has_key(tables, file) {
+    if due & look_up::has_key(tables, file, slots) {
         let a = print_bytes(b"key", out, at);
         let b = print_number(file as u64, out, a);
-        return print_last(look_up_two::key_of(tables, file, returned), out, b);
+        return print_last(look_up::key_of(tables, file, slots, returned), out, b);
     }
     at
 }

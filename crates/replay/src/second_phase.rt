@@ -4,10 +4,10 @@ use crate::answers::Answer;
 use crate::answers::answer_of;
 use crate::answers::number_response;
 use crate::answers::number_two;
+use crate::host::HeaderSlots;
 use crate::host::Host;
+use crate::host::Slots;
 use crate::host::Turn;
-use crate::host::from_plugin;
-use crate::host::to_plugin;
 use crate::parts::cut;
 use crate::words::Words;
 use crate::words::joined_words;
@@ -19,8 +19,8 @@ use plugin::Answering;
 use plugin::Responded;
 use plugin::Sent;
 use responses::Response;
-use responses::WordTwo;
-use script::CommandTwo;
+use script::CommandTwoChoice;
+use session::WordTwo;
 
 // send COMMAND ARGS BODY OUT, where OUT is n
 pub fn send_two(
@@ -29,16 +29,21 @@ pub fn send_two(
     w: Words,
     buffer: &mut [u8],
     host: Host,
+    slots: &mut Slots,
+    header_slots: &HeaderSlots,
     errors: &mut [u8],
     stanzas: &mut [u8],
     returned: &mut [u8],
 ) -> Turn {
     let lengths = host.lengths;
     let command = command_two(word(text, w, 1));
-    let sent = to_plugin(host.session).send(
+    let sent = plugin::send(
+        host.session,
         command,
         arguments_two(command, text, w),
         word(text, w, 3),
+        slots,
+        header_slots,
         cut(errors, lengths.errors),
         cut(stanzas, lengths.stanzas),
         cut(returned, lengths.returned),
@@ -51,15 +56,15 @@ pub fn send_two(
 fn command_two(name: &[u8]) -> WordTwo {
     let command = script::choose_command_two(name);
     match command {
-        CommandTwo::Msg => WordTwo::Msg,
-        CommandTwo::Confirm => WordTwo::Confirm,
-        CommandTwo::RequestPublic => WordTwo::RequestPublic,
-        CommandTwo::RequestSecret => WordTwo::RequestSecret,
-        CommandTwo::RecipientStanza => WordTwo::RecipientStanza,
-        CommandTwo::FileKey => WordTwo::FileKey,
-        CommandTwo::Error => WordTwo::Error,
-        CommandTwo::Done => WordTwo::Done,
-        CommandTwo::Other => WordTwo::Other,
+        CommandTwoChoice::Msg => WordTwo::Msg,
+        CommandTwoChoice::Confirm => WordTwo::Confirm,
+        CommandTwoChoice::RequestPublic => WordTwo::RequestPublic,
+        CommandTwoChoice::RequestSecret => WordTwo::RequestSecret,
+        CommandTwoChoice::RecipientStanza => WordTwo::RecipientStanza,
+        CommandTwoChoice::FileKey => WordTwo::FileKey,
+        CommandTwoChoice::Error => WordTwo::Error,
+        CommandTwoChoice::Done => WordTwo::Done,
+        CommandTwoChoice::Other => WordTwo::Other,
     }
 }
 
@@ -75,7 +80,7 @@ fn arguments_two(command: WordTwo, text: &[u8], w: Words) -> &[u8] {
 fn keep_sent(sent: Sent, mut host: Host) -> Turn {
     let written = sent.answer;
     let session = sent.session;
-    host.session = from_plugin(session);
+    host.session = session;
     Turn {
         answer: answer_of(written),
         host: host,
@@ -89,13 +94,18 @@ pub fn receive_two(
     w: Words,
     buffer: &mut [u8],
     host: Host,
+    slots: &mut Slots,
+    header_slots: &HeaderSlots,
     errors: &mut [u8],
     stanzas: &mut [u8],
     returned: &mut [u8],
 ) -> Turn {
     let lengths = host.lengths;
-    let received = host.session.receive(
+    let received = client::receive(
+        host.session,
         word(text, w, 1),
+        slots,
+        header_slots,
         cut(errors, lengths.errors),
         cut(stanzas, lengths.stanzas),
         cut(returned, lengths.returned),
@@ -132,8 +142,7 @@ pub fn reply(
     buffer: &mut [u8],
     host: Host,
 ) -> Turn {
-    let replied = host.session
-        .reply(response, word(text, w, 2), cut(buffer, n));
+    let replied = client::reply(host.session, response, word(text, w, 2), cut(buffer, n));
     keep_replied(replied, host)
 }
 
@@ -150,7 +159,7 @@ fn keep_replied(replied: Replied, mut host: Host) -> Turn {
 
 // response TEXT OUT, where OUT is n
 pub fn receive_response(n: usize, text: &[u8], w: Words, buffer: &mut [u8], host: Host) -> Turn {
-    let responded = to_plugin(host.session).receive_response(word(text, w, 1), cut(buffer, n));
+    let responded = plugin::receive_response(host.session, word(text, w, 1), cut(buffer, n));
     keep_responded(responded, host)
 }
 
@@ -158,7 +167,7 @@ pub fn receive_response(n: usize, text: &[u8], w: Words, buffer: &mut [u8], host
 fn keep_responded(responded: Responded, mut host: Host) -> Turn {
     let answering = responded.answer;
     let session = responded.session;
-    host.session = from_plugin(session);
+    host.session = session;
     Turn {
         answer: answer_response(answering),
         host: host,

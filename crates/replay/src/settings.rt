@@ -4,19 +4,19 @@ use crate::host::End;
 use crate::host::Host;
 use crate::host::Lengths;
 use crate::host::Turn;
-use crate::host::from_plugin;
 use crate::host::lengths_of;
 use crate::parts::Buffer;
 use crate::parts::LONGEST;
 use crate::parts::clear;
 use crate::words::Words;
 use crate::words::word;
-use client::Opening;
-use client::Session;
+use refusal::Verdict;
 use script::Call;
+use script::EndChoice;
 use script::Number;
-use script::Screen;
-use session::Verdict;
+use script::ScreenChoice;
+use session::Opening;
+use session::Session;
 
 // What such a line comes to, and how many bytes each buffer keeps; zeros stand behind them.
 struct Setting {
@@ -33,7 +33,7 @@ enum Given {
 
 // The session that a line opens, if its words are good.
 enum Opens {
-    Client(Screen),
+    Client(ScreenChoice),
     Plugin,
     Bad,
 }
@@ -138,25 +138,25 @@ fn open(text: &[u8], w: Words, given: Lengths, host: Host) -> Setting {
 fn read_opening(text: &[u8], w: Words) -> Opens {
     let end = script::choose_end(word(text, w, 1));
     match end {
-        script::End::Client => {
+        EndChoice::Client => {
             if w.count != 12 {
                 return Opens::Bad;
             }
             screen_opening(script::choose_screen(word(text, w, 4)))
         }
-        script::End::Plugin => {
+        EndChoice::Plugin => {
             if w.count != 11 {
                 return Opens::Bad;
             }
             Opens::Plugin
         }
-        script::End::Other => Opens::Bad,
+        EndChoice::Other => Opens::Bad,
     }
 }
 
 // The client end is told of a screen, or left to its default.
-fn screen_opening(screen: Screen) -> Opens {
-    if let Screen::Other = screen {
+fn screen_opening(screen: ScreenChoice) -> Opens {
+    if let ScreenChoice::Other = screen {
         return Opens::Bad;
     }
     Opens::Client(screen)
@@ -175,27 +175,16 @@ fn end_of(opens: Opens) -> End {
 fn open_session(opens: Opens, machine: &[u8], name: &[u8]) -> Opening {
     match opens {
         Opens::Client(screen) => open_client(screen, machine, name),
-        _ => open_plugin(machine, name),
+        _ => Session::open_plugin(machine, name),
     }
 }
 
 // A session of the client end.
-fn open_client(screen: Screen, machine: &[u8], name: &[u8]) -> Opening {
+fn open_client(screen: ScreenChoice, machine: &[u8], name: &[u8]) -> Opening {
     match screen {
-        Screen::Shown => Session::open_with(machine, name, true),
-        Screen::Missing => Session::open_with(machine, name, false),
+        ScreenChoice::Shown => Session::open_with(machine, name, true),
+        ScreenChoice::Missing => Session::open_with(machine, name, false),
         _ => Session::open(machine, name),
-    }
-}
-
-// A session of the plugin end.
-fn open_plugin(machine: &[u8], name: &[u8]) -> Opening {
-    let opening = plugin::Session::open(machine, name);
-    let verdict = opening.verdict;
-    let session = opening.session;
-    Opening {
-        verdict: verdict,
-        session: from_plugin(session),
     }
 }
 

@@ -3,8 +3,10 @@ use crate::answers::Answer;
 use crate::answers::NAMES;
 use crate::answers::number_two;
 use crate::answers::print_text;
+use crate::host::HeaderSlots;
 use crate::host::Host;
 use crate::host::Lengths;
+use crate::host::Slots;
 use crate::parts::Buffer;
 use crate::parts::front;
 use crate::parts::least;
@@ -14,14 +16,14 @@ use crate::print::print_end;
 use crate::print::print_number;
 use crate::print::print_word;
 use crate::returned::print_returned;
-use bech32::Kind;
-use look_up_two::Awaited;
+use bech32::TextKind;
+use look_up::Awaited;
+use session::Kind;
 use session::Phase;
+use session::Session;
 use session::Tables;
 use tables::Entry;
 use tables::Found;
-use tables::Table64;
-use tables::Table256;
 
 // The phases, the kinds and the marks by their numbers.
 const PHASES: [u8; 20] = *b"one two ended closed";
@@ -37,9 +39,10 @@ const HEADER: usize = 3;
 
 // entry recipient N, entry identity N
 pub fn look_up<'a>(
-    kind: Kind,
+    kind: TextKind,
     n: usize,
     host: Host,
+    slots: &Slots,
     recipients: &'a Buffer,
     identities: &'a Buffer,
     out: &mut Output,
@@ -49,12 +52,18 @@ pub fn look_up<'a>(
     let session = host.session;
     let r = front(recipients, lengths.recipients);
     let i = front(identities, lengths.identities);
-    Answer::Printed(print_text(session.tables.entry(kind, n, r, i), out, at))
+    Answer::Printed(print_text(
+        look_up::entry(session.tables, kind, n, slots, r, i),
+        out,
+        at,
+    ))
 }
 
 // show
 pub fn show(
     host: Host,
+    slots: &Slots,
+    header_slots: &HeaderSlots,
     recipients: &Buffer,
     identities: &Buffer,
     keys: &Buffer,
@@ -73,6 +82,8 @@ pub fn show(
     let b = print_given(
         tables,
         lengths,
+        slots,
+        header_slots,
         recipients,
         identities,
         keys,
@@ -80,7 +91,17 @@ pub fn show(
         out,
         a,
     );
-    Answer::Printed(print_returned(tables, lengths, errors, stanzas, returned, out, b))
+    Answer::Printed(print_returned(
+        tables,
+        lengths,
+        slots,
+        header_slots,
+        errors,
+        stanzas,
+        returned,
+        out,
+        b,
+    ))
 }
 
 // The lines of the phase, and of the command that awaits an answer.
@@ -94,7 +115,7 @@ fn print_phase(phase: Phase, out: &mut Output, at: usize) -> usize {
 
 // The word of the command that awaits an answer.
 fn print_awaited(phase: Phase, out: &mut Output, at: usize) -> usize {
-    let awaited = look_up_two::awaited_command(phase);
+    let awaited = look_up::awaited_command(phase);
     match awaited {
         Awaited::Command(word) => print_word(stanza::argument(&NAMES, number_two(word)), out, at),
         Awaited::Nothing => print_bytes(b" -", out, at),
@@ -116,6 +137,8 @@ fn phase_number(phase: Phase) -> usize {
 fn print_given(
     tables: Tables,
     lengths: Lengths,
+    slots: &Slots,
+    header_slots: &HeaderSlots,
     recipients: &Buffer,
     identities: &Buffer,
     keys: &Buffer,
@@ -123,55 +146,46 @@ fn print_given(
     out: &mut Output,
     at: usize,
 ) -> usize {
-    let a = print_table(
-        0,
-        tables.recipients,
-        front(recipients, lengths.recipients),
+    let r = front(recipients, lengths.recipients);
+    let i = front(identities, lengths.identities);
+    let k = front(keys, lengths.keys);
+    let h = front(headers, lengths.headers);
+    let a = print_table(0, Kind::Recipients, tables, slots, header_slots, r, out, at);
+    let b = print_table(1, Kind::Identities, tables, slots, header_slots, i, out, a);
+    let c = print_table(FILE_KEY, Kind::Keys, tables, slots, header_slots, k, out, b);
+    print_table(
+        HEADER,
+        Kind::Headers,
+        tables,
+        slots,
+        header_slots,
+        h,
         out,
-        at,
-    );
-    let b = print_table(
-        1,
-        tables.identities,
-        front(identities, lengths.identities),
-        out,
-        a,
-    );
-    let c = print_table(FILE_KEY, tables.keys, front(keys, lengths.keys), out, b);
-    print_headers(tables.headers, front(headers, lengths.headers), out, c)
+        c,
+    )
 }
 
-// The entries of a table of 64 slots.
-fn print_table(kind: usize, table: Table64, buffer: &[u8], out: &mut Output, at: usize) -> usize {
+// The entries of a kind of phase one: none has more slots than the header stanzas.
+fn print_table(
+    number: usize,
+    kind: Kind,
+    tables: Tables,
+    slots: &Slots,
+    header_slots: &HeaderSlots,
+    buffer: &[u8],
+    out: &mut Output,
+    at: usize,
+) -> usize {
     let mut next = at;
     let mut n: usize = 0;
-    while n < 64 {
-        let found = table.find(n);
+    while n < Session::HEADER_STANZAS {
+        let found = look_up::find(tables, kind, n, slots, header_slots);
         match found {
             Found::Nothing => {
                 return next;
             }
             Found::Entry(e) => {
-                next = print_slot(kind, n, e, tables::payload(found, buffer), out, next);
-            }
-        }
-        n += 1;
-    }
-    next
-}
-
-// The header stanzas.
-fn print_headers(table: Table256, buffer: &[u8], out: &mut Output, at: usize) -> usize {
-    let mut next = at;
-    let mut n: usize = 0;
-    while n < 256 {
-        let found = table.find(n);
-        match found {
-            Found::Nothing => {
-                return next;
-            }
-            Found::Entry(e) => {
-                next = print_slot(HEADER, n, e, tables::payload(found, buffer), out, next);
+                next = print_slot(number, n, e, tables::payload(found, buffer), out, next);
             }
         }
         n += 1;
@@ -205,7 +219,7 @@ fn print_index(kind: usize, index: usize, out: &mut Output, at: usize) -> usize 
 }
 
 // The mark of an entry, if its kind has marks.
-fn print_mark(kind: usize, mark: u8, out: &mut Output, at: usize) -> usize {
+fn print_mark(kind: usize, mark: usize, out: &mut Output, at: usize) -> usize {
     if kind == FILE_KEY {
         return at;
     }
@@ -213,9 +227,9 @@ fn print_mark(kind: usize, mark: u8, out: &mut Output, at: usize) -> usize {
 }
 
 // The number of a mark's word: a recipient or an identity is valid where its mark is 0; a header stanza's mark is 0, 1 or 2.
-fn mark_number(kind: usize, mark: u8) -> usize {
+fn mark_number(kind: usize, mark: usize) -> usize {
     if kind == HEADER {
-        return 2 + least(2, mark as usize);
+        return 2 + least(2, mark);
     }
-    least(1, mark as usize)
+    least(1, mark)
 }

@@ -3,7 +3,9 @@ use crate::answers::Answer;
 use crate::calls::call_plain;
 use crate::first_phase::receive_one;
 use crate::first_phase::send_one;
+use crate::host::HeaderSlots;
 use crate::host::Host;
+use crate::host::Slots;
 use crate::host::Turn;
 use crate::host::answered;
 use crate::parts::Buffer;
@@ -30,6 +32,8 @@ pub fn make_call(
     out: &mut Output,
     at: usize,
     host: Host,
+    slots: &mut Slots,
+    header_slots: &mut HeaderSlots,
     r: &mut Buffer,
     i: &mut Buffer,
     k: &mut Buffer,
@@ -43,10 +47,13 @@ pub fn make_call(
     match request {
         Request::Plain(call) => answered(call_plain(call, text, w, buffer, out, at), host),
         Request::Setting(call) => set(call, text, w, host, r, i, k, h, e, s, f),
-        Request::PhaseOne(t) => talk_one(t, text, w, buffer, host, r, i, k, h),
-        Request::PhaseTwo(t) => talk_two(t, text, w, buffer, host, e, s, f),
-        Request::Entry(kind, n) => answered(look_up(kind, n, host, r, i, out, at), host),
-        Request::Show => answered(show(host, r, i, k, h, e, s, f, out, at), host),
+        Request::PhaseOne(t) => talk_one(t, text, w, buffer, host, slots, header_slots, r, i, k, h),
+        Request::PhaseTwo(t) => talk_two(t, text, w, buffer, host, slots, header_slots, e, s, f),
+        Request::Entry(kind, n) => answered(look_up(kind, n, host, slots, r, i, out, at), host),
+        Request::Show => answered(
+            show(host, slots, header_slots, r, i, k, h, e, s, f, out, at),
+            host,
+        ),
         Request::Missing => answered(Answer::Missing, host),
         Request::Bad => answered(Answer::Bad, host),
     }
@@ -59,14 +66,16 @@ fn talk_one(
     w: Words,
     buffer: &mut Buffer,
     host: Host,
+    slots: &mut Slots,
+    header_slots: &mut HeaderSlots,
     r: &mut Buffer,
     i: &mut Buffer,
     k: &mut Buffer,
     h: &mut Buffer,
 ) -> Turn {
     match t {
-        TalkOne::Send(n) => send_one(n, text, w, buffer, host, r, i, k, h),
-        TalkOne::Receive => receive_one(text, w, host, r, i, k, h),
+        TalkOne::Send(n) => send_one(n, text, w, buffer, host, slots, header_slots, r, i, k, h),
+        TalkOne::Receive => receive_one(text, w, host, slots, header_slots, r, i, k, h),
     }
 }
 
@@ -77,13 +86,15 @@ fn talk_two(
     w: Words,
     buffer: &mut Buffer,
     host: Host,
+    slots: &mut Slots,
+    header_slots: &mut HeaderSlots,
     e: &mut Buffer,
     s: &mut Buffer,
     f: &mut Buffer,
 ) -> Turn {
     match t {
-        TalkTwo::Send(n) => send_two(n, text, w, buffer, host, e, s, f),
-        TalkTwo::Receive(n) => receive_two(n, text, w, buffer, host, e, s, f),
+        TalkTwo::Send(n) => send_two(n, text, w, buffer, host, slots, header_slots, e, s, f),
+        TalkTwo::Receive(n) => receive_two(n, text, w, buffer, host, slots, header_slots, e, s, f),
         TalkTwo::Reply(response, n) => reply(n, response, text, w, buffer, host),
         TalkTwo::Response(n) => receive_response(n, text, w, buffer, host),
     }

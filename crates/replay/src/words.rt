@@ -20,7 +20,7 @@ pub struct Words {
 }
 
 // Where a word ends in the buffer, if it is one.
-enum End {
+enum WordEnd {
     At(usize),
     Bad,
 }
@@ -64,7 +64,7 @@ fn read_words(line: &[u8], text: &mut Buffer) -> Words {
     let mut k: usize = 0;
     while k < count {
         let e = read_word(stanza::argument(line, k), text, at);
-        let End::At(end) = e else {
+        let WordEnd::At(end) = e else {
             return no_words(false);
         };
         starts[k] = at;
@@ -81,18 +81,18 @@ fn read_words(line: &[u8], text: &mut Buffer) -> Words {
 }
 
 // A word into `text` from `at` on.
-fn read_word(word: &[u8], text: &mut [u8], at: usize) -> End {
+fn read_word(word: &[u8], text: &mut [u8], at: usize) -> WordEnd {
     if word.len() == 0 {
-        return End::Bad;
+        return WordEnd::Bad;
     }
     let from = least(at, text.len());
     let u = script::unescape(word, &mut text[from..]);
     let Unescaped::Word(w) = u else {
-        return End::Bad;
+        return WordEnd::Bad;
     };
     match w {
-        Written::Bytes(n) => End::At(from + n),
-        Written::Refused(_) => End::Bad,
+        Written::Bytes(n) => WordEnd::At(from + n),
+        Written::Refused(_) => WordEnd::Bad,
     }
 }
 

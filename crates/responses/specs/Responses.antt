@@ -1,17 +1,17 @@
 -- The responses of phase two (document 01, "Phase two": the table's column of fitting responses, and the sentences below it).
 use Prim.Native.Nat.{ℕ}
 use mathlib.Core.Bool.{Bool, true, false, _&&_, _||_}
-use mathlib.Core.List.{List, [], _∷_, _++_}
+use mathlib.Core.List.{List, [], _∷_}
 use lib.Dec.{eqb}
 use lib.ListN.{length}
 use Rattle.refusal.specs.Pick.{pick}
 use Rattle.refusal.specs.Same.{same}
-use Rattle.responses.specs.declared.Reading.{Reading}
-use Rattle.responses.specs.declared.Reading.the-variants as the
+use Rattle.responses.specs.declared.ReadResponse.{ReadResponse}
+use Rattle.responses.specs.declared.ReadResponse.the-variants as the
 use Rattle.responses.specs.declared.Response.{Response}
 use Rattle.responses.specs.declared.Response.the-variants.{Ok, Yes, No, Fail, Unsupported}
-use Rattle.responses.specs.declared.WordTwo.{WordTwo}
-use Rattle.responses.specs.declared.WordTwo.the-variants.{Msg, Confirm, RequestPublic, RequestSecret, RecipientStanza, FileKey, Error, Other, Done}
+use Rattle.session.specs.declared.words.WordTwo.{WordTwo}
+use Rattle.session.specs.declared.words.WordTwo.the-variants.{Msg, Confirm, RequestPublic, RequestSecret, RecipientStanza, FileKey, Error, Other, Done}
 
 -- the number of a command's row
 abbrev pub rowOf : WordTwo → ℕ
@@ -110,7 +110,7 @@ pub data ResponseRead : Type 0 where
   nothing : ResponseRead
 
 -- what the code's reading stands for
-abbrev pub readingSaid : Reading → ResponseRead
+abbrev pub readingSaid : ReadResponse → ResponseRead
 readingSaid (the.Response r) = response r
 readingSaid the.Nothing = nothing
 

@@ -7,6 +7,7 @@ ghost use Rattle.refusal.specs.Output.{said};
 ghost use Rattle.stanza.specs.Writing.{sized, written, bufferAfter};
 ghost use Rattle.responses.specs.Responses.{rowOf, columnOf, fitting, isRequest, mayHaveBody, responseLine, responseOf, readingSaid};
 use refusal::Written;
+use session::WordTwo;
 
 // The responses' arguments, compared with those of a stanza that is read and written where a response is.
 const OK: [u8; 2] = *b"ok";
@@ -19,19 +20,6 @@ const FAIL: [u8; 4] = *b"fail";
 
 const UNSUPPORTED: [u8; 11] = *b"unsupported";
 
-// The commands of phase two; Other is any word that the machine does not name there.
-pub enum WordTwo {
-    Msg,
-    Confirm,
-    RequestPublic,
-    RequestSecret,
-    RecipientStanza,
-    FileKey,
-    Error,
-    Other,
-    Done,
-}
-
 // The responses: ok, ok yes, ok no, fail, unsupported.
 pub enum Response {
     Ok,
@@ -42,7 +30,7 @@ pub enum Response {
 }
 
 // What an arguments' text is read as: a response, or nothing.
-pub enum Reading {
+pub enum ReadResponse {
     Response(Response),
     Nothing,
 }
@@ -139,25 +127,25 @@ pub fn fits_whole(word: WordTwo, response: Response, body: usize) -> bool
 }
 
 // Which response an arguments' text is, all of it.
-pub fn read_line(line: &[u8]) -> Reading
+pub fn read_line(line: &[u8]) -> ReadResponse
     ensures { λ r. ⌜ readingSaid r ≡ responseOf (now (line .entry)) ⌝ }
 {
     if stanza::is_same(line, &OK) {
-        return Reading::Response(Response::Ok);
+        return ReadResponse::Response(Response::Ok);
     }
     if stanza::is_same(line, &OK_YES) {
-        return Reading::Response(Response::Yes);
+        return ReadResponse::Response(Response::Yes);
     }
     if stanza::is_same(line, &OK_NO) {
-        return Reading::Response(Response::No);
+        return ReadResponse::Response(Response::No);
     }
     if stanza::is_same(line, &FAIL) {
-        return Reading::Response(Response::Fail);
+        return ReadResponse::Response(Response::Fail);
     }
     if stanza::is_same(line, &UNSUPPORTED) {
-        return Reading::Response(Response::Unsupported);
+        return ReadResponse::Response(Response::Unsupported);
     }
-    Reading::Nothing
+    ReadResponse::Nothing
 }
 
 // How many bytes a response with a body has, or 17 where that is no stanza of at most 8,192 bytes.

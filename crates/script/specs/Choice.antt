@@ -4,18 +4,18 @@ use Prim.Native.Nat.{ℕ, suc}
 use mathlib.Core.List.{List, [], _∷_}
 use Rattle.refusal.specs.Pick.{pick}
 use Rattle.refusal.specs.Same.{same}
-use Rattle.script.specs.declared.choices.Command.{Command}
-use Rattle.script.specs.declared.choices.Command.the-variants as command-is
-use Rattle.script.specs.declared.choices.CommandTwo.{CommandTwo}
-use Rattle.script.specs.declared.choices.CommandTwo.the-variants as two-is
-use Rattle.script.specs.declared.choices.End.{End}
-use Rattle.script.specs.declared.choices.End.the-variants as end-is
-use Rattle.script.specs.declared.choices.Kind.{Kind}
-use Rattle.script.specs.declared.choices.Kind.the-variants as kind-is
-use Rattle.script.specs.declared.choices.Reply.{Reply}
-use Rattle.script.specs.declared.choices.Reply.the-variants as reply-is
-use Rattle.script.specs.declared.choices.Screen.{Screen}
-use Rattle.script.specs.declared.choices.Screen.the-variants as screen-is
+use Rattle.script.specs.declared.choices.CommandChoice.{CommandChoice}
+use Rattle.script.specs.declared.choices.CommandChoice.the-variants as command-is
+use Rattle.script.specs.declared.choices.CommandTwoChoice.{CommandTwoChoice}
+use Rattle.script.specs.declared.choices.CommandTwoChoice.the-variants as two-is
+use Rattle.script.specs.declared.choices.EndChoice.{EndChoice}
+use Rattle.script.specs.declared.choices.EndChoice.the-variants as end-is
+use Rattle.script.specs.declared.choices.KindChoice.{KindChoice}
+use Rattle.script.specs.declared.choices.KindChoice.the-variants as kind-is
+use Rattle.script.specs.declared.choices.ReplyChoice.{ReplyChoice}
+use Rattle.script.specs.declared.choices.ReplyChoice.the-variants as reply-is
+use Rattle.script.specs.declared.choices.ScreenChoice.{ScreenChoice}
+use Rattle.script.specs.declared.choices.ScreenChoice.the-variants as screen-is
 
 -- the number of a word among words
 unfoldable pub place : List ℕ → List (List ℕ) → ℕ
@@ -37,7 +37,7 @@ abbrev pub endWords : List (List ℕ)
 endWords = clientWord ∷ pluginWord ∷ []
 
 -- the number of the code's answer
-abbrev pub endSaid : End → ℕ
+abbrev pub endSaid : EndChoice → ℕ
 endSaid end-is.Client = 0
 endSaid end-is.Plugin = 1
 endSaid end-is.Other = 2
@@ -61,7 +61,7 @@ abbrev pub screenWords : List (List ℕ)
 screenWords = screenWord ∷ noScreenWord ∷ defaultWord ∷ []
 
 -- the number of the code's answer
-abbrev pub screenSaid : Screen → ℕ
+abbrev pub screenSaid : ScreenChoice → ℕ
 screenSaid screen-is.Shown = 0
 screenSaid screen-is.Missing = 1
 screenSaid screen-is.Default = 2
@@ -82,7 +82,7 @@ abbrev pub kindWords : List (List ℕ)
 kindWords = recipientWord ∷ identityWord ∷ []
 
 -- the number of the code's answer
-abbrev pub kindSaid : Kind → ℕ
+abbrev pub kindSaid : KindChoice → ℕ
 kindSaid kind-is.Recipient = 0
 kindSaid kind-is.Identity = 1
 kindSaid kind-is.Other = 2
@@ -114,7 +114,7 @@ abbrev pub commandWords : List (List ℕ)
 commandWords = addRecipientWord ∷ addIdentityWord ∷ wrapFileKeyWord ∷ recipientStanzaWord ∷ doneWord ∷ []
 
 -- the number of the code's answer
-abbrev pub commandSaid : Command → ℕ
+abbrev pub commandSaid : CommandChoice → ℕ
 commandSaid command-is.AddRecipient = 0
 commandSaid command-is.AddIdentity = 1
 commandSaid command-is.WrapFileKey = 2
@@ -153,7 +153,7 @@ abbrev pub commandTwoWords : List (List ℕ)
 commandTwoWords = msgWord ∷ confirmWord ∷ requestPublicWord ∷ requestSecretWord ∷ recipientStanzaWord ∷ fileKeyWord ∷ errorWord ∷ doneWord ∷ []
 
 -- the number of the code's answer
-abbrev pub commandTwoSaid : CommandTwo → ℕ
+abbrev pub commandTwoSaid : CommandTwoChoice → ℕ
 commandTwoSaid two-is.Msg = 0
 commandTwoSaid two-is.Confirm = 1
 commandTwoSaid two-is.RequestPublic = 2
@@ -191,7 +191,7 @@ abbrev pub replyWords : List (List ℕ)
 replyWords = okWord ∷ yesWord ∷ noWord ∷ failWord ∷ unsupportedWord ∷ []
 
 -- the number of the code's answer
-abbrev pub replySaid : Reply → ℕ
+abbrev pub replySaid : ReplyChoice → ℕ
 replySaid reply-is.Ok = 0
 replySaid reply-is.Yes = 1
 replySaid reply-is.No = 2

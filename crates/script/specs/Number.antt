@@ -10,12 +10,12 @@ use Rattle.script.specs.declared.numbers.Number.{Number}
 use Rattle.script.specs.declared.numbers.Number.the-variants.{Value, Bad}
 
 -- what reading a number gives
-pub data Reading : Type 0 where
-  value : ℕ → Reading
-  bad : Reading
+pub data ReadNumber : Type 0 where
+  value : ℕ → ReadNumber
+  bad : ReadNumber
 
 -- what the code's answer stands for
-abbrev pub numberSaid : Number → Reading
+abbrev pub numberSaid : Number → ReadNumber
 numberSaid (Value n) = value n
 numberSaid Bad = bad
 
@@ -25,5 +25,5 @@ isNumber [] = false
 isNumber (b ∷ t) = all isDigit (b ∷ t)
 
 -- what a text stands for, if it is a number and not above the limit
-unfoldable pub readNumber : List ℕ → ℕ → Reading
+unfoldable pub readNumber : List ℕ → ℕ → ReadNumber
 readNumber t limit = pick (isNumber t && leb (valueFrom 0 t) limit) (value (valueFrom 0 t)) bad

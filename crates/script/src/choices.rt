@@ -4,14 +4,14 @@ ghost use Rattle.stanza.specs.Arguments.{words};
 ghost use Rattle.script.specs.Choice.{place, endSaid, endWords, screenSaid, screenWords, kindSaid, kindWords, commandSaid, commandWords, commandTwoSaid, commandTwoWords, replySaid, replyWords};
 
 // The end that a line opens.
-pub enum End {
+pub enum EndChoice {
     Client,
     Plugin,
     Other,
 }
 
 // What a line says of the client's screen: there is one, there is none, or it is left to the default.
-pub enum Screen {
+pub enum ScreenChoice {
     Shown,
     Missing,
     Default,
@@ -19,14 +19,14 @@ pub enum Screen {
 }
 
 // The kind that a line looks up.
-pub enum Kind {
+pub enum KindChoice {
     Recipient,
     Identity,
     Other,
 }
 
 // The command of phase one that a line sends; any other word can be sent too.
-pub enum Command {
+pub enum CommandChoice {
     AddRecipient,
     AddIdentity,
     WrapFileKey,
@@ -36,7 +36,7 @@ pub enum Command {
 }
 
 // The command of phase two that a line sends; any other word can be sent too.
-pub enum CommandTwo {
+pub enum CommandTwoChoice {
     Msg,
     Confirm,
     RequestPublic,
@@ -49,7 +49,7 @@ pub enum CommandTwo {
 }
 
 // What the client's host replies.
-pub enum Reply {
+pub enum ReplyChoice {
     Ok,
     Yes,
     No,
@@ -88,92 +88,92 @@ pub(crate) fn find_word(word: &[u8], text: &[u8]) -> usize
 }
 
 // The end that a word names.
-pub fn choose_end(word: &[u8]) -> End
+pub fn choose_end(word: &[u8]) -> EndChoice
     ensures { λ r. ⌜ endSaid r ≡ place (now (word .entry)) endWords ⌝ }
 {
     let words = ENDS;
     let k = find_word(word, &words);
     match k {
-        0 => End::Client,
-        1 => End::Plugin,
-        _ => End::Other,
+        0 => EndChoice::Client,
+        1 => EndChoice::Plugin,
+        _ => EndChoice::Other,
     }
 }
 
 // What a word says of the screen.
-pub fn choose_screen(word: &[u8]) -> Screen
+pub fn choose_screen(word: &[u8]) -> ScreenChoice
     ensures { λ r. ⌜ screenSaid r ≡ place (now (word .entry)) screenWords ⌝ }
 {
     let words = SCREENS;
     let k = find_word(word, &words);
     match k {
-        0 => Screen::Shown,
-        1 => Screen::Missing,
-        2 => Screen::Default,
-        _ => Screen::Other,
+        0 => ScreenChoice::Shown,
+        1 => ScreenChoice::Missing,
+        2 => ScreenChoice::Default,
+        _ => ScreenChoice::Other,
     }
 }
 
 // The kind that a word names.
-pub fn choose_kind(word: &[u8]) -> Kind
+pub fn choose_kind(word: &[u8]) -> KindChoice
     ensures { λ r. ⌜ kindSaid r ≡ place (now (word .entry)) kindWords ⌝ }
 {
     let words = KINDS;
     let k = find_word(word, &words);
     match k {
-        0 => Kind::Recipient,
-        1 => Kind::Identity,
-        _ => Kind::Other,
+        0 => KindChoice::Recipient,
+        1 => KindChoice::Identity,
+        _ => KindChoice::Other,
     }
 }
 
 // The command of phase one that a word names.
-pub fn choose_command(word: &[u8]) -> Command
+pub fn choose_command(word: &[u8]) -> CommandChoice
     ensures { λ r. ⌜ commandSaid r ≡ place (now (word .entry)) commandWords ⌝ }
 {
     let words = COMMANDS;
     let k = find_word(word, &words);
     match k {
-        0 => Command::AddRecipient,
-        1 => Command::AddIdentity,
-        2 => Command::WrapFileKey,
-        3 => Command::RecipientStanza,
-        4 => Command::Done,
-        _ => Command::Other,
+        0 => CommandChoice::AddRecipient,
+        1 => CommandChoice::AddIdentity,
+        2 => CommandChoice::WrapFileKey,
+        3 => CommandChoice::RecipientStanza,
+        4 => CommandChoice::Done,
+        _ => CommandChoice::Other,
     }
 }
 
 // The command of phase two that a word names.
-pub fn choose_command_two(word: &[u8]) -> CommandTwo
+pub fn choose_command_two(word: &[u8]) -> CommandTwoChoice
     ensures { λ r. ⌜ commandTwoSaid r ≡ place (now (word .entry)) commandTwoWords ⌝ }
 {
     let words = COMMANDS_TWO;
     let k = find_word(word, &words);
     match k {
-        0 => CommandTwo::Msg,
-        1 => CommandTwo::Confirm,
-        2 => CommandTwo::RequestPublic,
-        3 => CommandTwo::RequestSecret,
-        4 => CommandTwo::RecipientStanza,
-        5 => CommandTwo::FileKey,
-        6 => CommandTwo::Error,
-        7 => CommandTwo::Done,
-        _ => CommandTwo::Other,
+        0 => CommandTwoChoice::Msg,
+        1 => CommandTwoChoice::Confirm,
+        2 => CommandTwoChoice::RequestPublic,
+        3 => CommandTwoChoice::RequestSecret,
+        4 => CommandTwoChoice::RecipientStanza,
+        5 => CommandTwoChoice::FileKey,
+        6 => CommandTwoChoice::Error,
+        7 => CommandTwoChoice::Done,
+        _ => CommandTwoChoice::Other,
     }
 }
 
 // The reply that a word names.
-pub fn choose_reply(word: &[u8]) -> Reply
+pub fn choose_reply(word: &[u8]) -> ReplyChoice
     ensures { λ r. ⌜ replySaid r ≡ place (now (word .entry)) replyWords ⌝ }
 {
     let words = REPLIES;
     let k = find_word(word, &words);
     match k {
-        0 => Reply::Ok,
-        1 => Reply::Yes,
-        2 => Reply::No,
-        3 => Reply::Fail,
-        4 => Reply::Unsupported,
-        _ => Reply::Other,
+        0 => ReplyChoice::Ok,
+        1 => ReplyChoice::Yes,
+        2 => ReplyChoice::No,
+        3 => ReplyChoice::Fail,
+        4 => ReplyChoice::Unsupported,
+        _ => ReplyChoice::Other,
     }
 }

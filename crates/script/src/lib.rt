@@ -9,12 +9,12 @@ mod unescaping;
 
 pub use calls::Call;
 pub use calls::choose_call;
-pub use choices::Command;
-pub use choices::CommandTwo;
-pub use choices::End;
-pub use choices::Kind;
-pub use choices::Reply;
-pub use choices::Screen;
+pub use choices::CommandChoice;
+pub use choices::CommandTwoChoice;
+pub use choices::EndChoice;
+pub use choices::KindChoice;
+pub use choices::ReplyChoice;
+pub use choices::ScreenChoice;
 pub use choices::choose_command;
 pub use choices::choose_command_two;
 pub use choices::choose_end;

@@ -1,5 +1,3 @@
-pub mod Bodies
-pub mod Commands
+pub mod Composing
 pub mod Opening
-pub mod PhaseOne
-pub mod Views
+pub mod Putting

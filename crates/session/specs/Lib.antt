@@ -1,8 +1,6 @@
--- What both ends of a conversation keep.
-pub mod Bodies
-pub mod Commands
-pub mod LookUp
+-- What both phases and both ends share.
+pub mod Composing
 pub mod Opening
-pub mod PhaseOne
 pub mod Phases
-pub mod Views
+pub mod Session
+pub mod Tables

@@ -6,12 +6,12 @@ use Rattle.refusal.specs.Same.{same}
 use lib.ListN.{take}
 use Rattle.bech32.specs.Text.{isName}
 use Rattle.bech32.specs.declared.human.Name.{Name}
-use Rattle.session.specs.PhaseOne.{verdictSaid}
+use Rattle.refusal.specs.Verdict.{verdictSaid}
 use Rattle.session.specs.declared.opening.Settings.{Settings as CodeSettings}
-use Rattle.session.specs.declared.commands.Machine.{Machine}
-use Rattle.session.specs.declared.commands.Machine.the-variants.{RecipientV1, IdentityV1}
-use Rattle.session.specs.declared.opening.Named.{Named as CodeNamed}
-use Rattle.session.specs.declared.opening.Named.the-variants as the
+use Rattle.session.specs.declared.opening.Machine.{Machine}
+use Rattle.session.specs.declared.opening.Machine.the-variants.{RecipientV1, IdentityV1}
+use Rattle.session.specs.declared.opening.MachineFound.{MachineFound as CodeFound}
+use Rattle.session.specs.declared.opening.MachineFound.the-variants as the
 
 -- "recipient-v1"
 abbrev pub recipientV1 : List ℕ
@@ -22,17 +22,17 @@ abbrev pub identityV1 : List ℕ
 identityV1 = 105 ∷ 100 ∷ 101 ∷ 110 ∷ 116 ∷ 105 ∷ 116 ∷ 121 ∷ 45 ∷ 118 ∷ 49 ∷ []
 
 -- a machine, or none of that name
-pub data Named : Type 0 where
-  named : Machine → Named
-  nameless : Named
+pub data MachineFound : Type 0 where
+  named : Machine → MachineFound
+  nameless : MachineFound
 
 -- what the code's answer stands for
-abbrev pub namedSaid : CodeNamed → Named
+abbrev pub namedSaid : CodeFound → MachineFound
 namedSaid (the.Machine m) = named m
 namedSaid the.Nothing = nameless
 
 -- the machine of a name
-abbrev pub machineNamed : List ℕ → Named
+abbrev pub machineNamed : List ℕ → MachineFound
 machineNamed t = pick (same t recipientV1) (named RecipientV1) (pick (same t identityV1) (named IdentityV1) nameless)
 
 -- ---- what an opening is given
@@ -59,7 +59,7 @@ refusedSettings n = record { number = n; machine = RecipientV1; name = [] }
 abbrev pub settingsNamed : Machine → List ℕ → Settings
 settingsNamed machine name = pick (isName name) (record { number = 0; machine = machine; name = name }) (refusedSettings 17)
 
-abbrev pub settingsOf : Named → List ℕ → Settings
+abbrev pub settingsOf : MachineFound → List ℕ → Settings
 settingsOf (named machine) name = settingsNamed machine name
 settingsOf nameless name = refusedSettings 18
 

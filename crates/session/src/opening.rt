@@ -1,49 +1,52 @@
-// Openings: the machine and the plugin by their names.
+// The machines, and what an opening is given: a machine and a plugin by their names.
 ghost use mathlib.Core.Path.{_≡_};
-ghost use lib.ListN.{take};
 ghost use Rattle.session.specs.Opening.{machineNamed, namedSaid, settingsSaid, settingsNamed, settings};
-use crate::commands::Machine;
-use crate::phase_one::Verdict;
 use bech32::Name;
 use refusal::Refusal;
+use refusal::Verdict;
 
 const RECIPIENT_V1: [u8; 12] = *b"recipient-v1";
 
 const IDENTITY_V1: [u8; 11] = *b"identity-v1";
 
+pub enum Machine {
+    RecipientV1,
+    IdentityV1,
+}
+
 // The machine of a name, or none.
-pub enum Named {
+pub(crate) enum MachineFound {
     Machine(Machine),
     Nothing,
 }
 
-pub fn machine_named(name: &[u8]) -> Named
+fn machine_named(name: &[u8]) -> MachineFound
     ensures { λ r. ⌜ namedSaid r ≡ machineNamed (now (name .entry)) ⌝ }
 {
     if stanza::is_same(name, &RECIPIENT_V1) {
-        return Named::Machine(Machine::RecipientV1);
+        return MachineFound::Machine(Machine::RecipientV1);
     }
     if stanza::is_same(name, &IDENTITY_V1) {
-        return Named::Machine(Machine::IdentityV1);
+        return MachineFound::Machine(Machine::IdentityV1);
     }
-    Named::Nothing
+    MachineFound::Nothing
 }
 
 // What an opening is given, judged: accepted with the machine and the plugin's name, or 18 or 17 with no name.
-pub struct Settings {
+pub(crate) struct Settings {
     pub verdict: Verdict,
     pub machine: Machine,
     pub name: Name,
 }
 
 // 18, then 17.
-pub fn read_settings(machine: &[u8], name: &[u8]) -> Settings
+pub(crate) fn read_settings(machine: &[u8], name: &[u8]) -> Settings
     ensures { λ r. ⌜ settingsSaid r ≡ settings (now (machine .entry)) (now (name .entry)) ⌝ }
 {
     let named = machine_named(machine);
     match named {
-        Named::Machine(m) => read_name(m, name),
-        Named::Nothing => Settings {
+        MachineFound::Machine(m) => read_name(m, name),
+        MachineFound::Nothing => Settings {
             verdict: Verdict::Refused(Refusal::NoSuchMachine),
             machine: Machine::RecipientV1,
             name: bech32::name_of(b""),
@@ -68,14 +71,4 @@ fn read_name(machine: Machine, text: &[u8]) -> Settings
         machine: machine,
         name: name,
     }
-}
-
-// A name as a part of its bytes.
-pub fn name_text<'a>(bytes: &'a [u8], length: usize) -> &'a [u8]
-    ensures { λ r. ⌜ now r ≡ take length (now (bytes .entry)) ⌝ }
-{
-    if length < bytes.len() {
-        return &bytes[..length];
-    }
-    bytes
 }

@@ -1,6 +1,5 @@
 -- The text of a stanza byte by byte: an automaton that is dead exactly where no stanza, of any length, goes on so.
 use Prim.Native.Nat.{ℕ, _+_}
-use mathlib.Core.Bool.{Bool, true, false}
 use mathlib.Core.List.{List, [], _∷_}
 use lib.Dec.{ltb, eqb}
 use Rattle.refusal.specs.Pick.{pick}

@@ -9,12 +9,12 @@ use Rattle.stanza.specs.declared.indices.Index.{Index}
 use Rattle.stanza.specs.declared.indices.Index.the-variants.{Number, Refused}
 
 -- what reading an index gives: the number, or the paper's number of the refusal
-pub data Reading : Type 0 where
-  number : ℕ → Reading
-  refused : ℕ → Reading
+pub data ReadIndex : Type 0 where
+  number : ℕ → ReadIndex
+  refused : ℕ → ReadIndex
 
 -- what the code's answer stands for
-abbrev pub indexSaid : Index → Reading
+abbrev pub indexSaid : Index → ReadIndex
 indexSaid (Number n) = number n
 indexSaid (Refused r) = refused (numberOf r)
 
@@ -23,12 +23,12 @@ abbrev pub isDigit : ℕ → Bool
 isDigit b = leb 48 b && leb b 57
 
 -- the digits of a number, from the left, where v has been read: never more than 4,294,967,295
-unfoldable pub digits : ℕ → List ℕ → Reading
+unfoldable pub digits : ℕ → List ℕ → ReadIndex
 digits v [] = number v
 digits v (b ∷ t) = pick (isDigit b && leb (v * 10 + (b - 48)) 4294967295) (digits (v * 10 + (b - 48)) t) (refused 5)
 
 -- no digits are no index, and a leading zero stands alone
-unfoldable pub readIndex : List ℕ → Reading
+unfoldable pub readIndex : List ℕ → ReadIndex
 readIndex [] = refused 5
 readIndex (b ∷ []) = digits 0 (b ∷ [])
 readIndex (b ∷ c ∷ t) = pick (eqb b 48) (refused 5) (digits 0 (b ∷ c ∷ t))

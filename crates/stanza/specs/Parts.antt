@@ -9,6 +9,10 @@ use Rattle.stanza.specs.declared.reading.Stanza.{Stanza}
 abbrev pub argumentsIn : List ℕ → Stanza → List ℕ
 argumentsIn t s = drop 3 (take (s .line) t)
 
--- the body: of the lines behind the first LF, up to where the stanza ends
+-- the lines of the body: behind the first LF, up to where the stanza ends
+abbrev pub linesIn : List ℕ → Stanza → List ℕ
+linesIn t s = drop (s .line + 1) (take (s .taken) t)
+
+-- the body that they are
 abbrev pub bodyIn : List ℕ → Stanza → List ℕ
-bodyIn t s = bodyOf (drop (s .line + 1) (take (s .taken) t))
+bodyIn t s = bodyOf (linesIn t s)

@@ -2,7 +2,7 @@
 -- bytes pass and the stanza hasn't ended, 3. If the text ends sooner, 2."
 use Prim.Native.Nat.{ℕ, _+_}
 use mathlib.Core.Bool.{Bool, not}
-use mathlib.Core.List.{List, []}
+use mathlib.Core.List.{List}
 use lib.Dec.{ltb, eqb}
 use lib.ListN.{length, take, drop}
 use Rattle.refusal.specs.Number.{numberOf}

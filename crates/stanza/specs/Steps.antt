@@ -4,7 +4,6 @@ use mathlib.Core.Path.{_≡_}
 use mathlib.Core.List.{List}
 use lib.ListN.{drop}
 use Rattle.stanza.specs.Automaton.{Scan, bad, short, whole, scan, line}
-use Rattle.stanza.specs.Reading.{lineEnd}
 use Rattle.stanza.specs.declared.reading.FirstLine.{FirstLine}
 use Rattle.stanza.specs.declared.reading.FirstLine.the-variants as first
 use Rattle.stanza.specs.declared.reading.Body.{Body}

@@ -13,6 +13,7 @@ pub use indices::Index;
 pub use indices::read_index;
 pub use parts::arguments_of;
 pub use parts::body_of;
+pub use parts::lines_of;
 pub use reading::First;
 pub use reading::Stanza;
 pub use reading::read;

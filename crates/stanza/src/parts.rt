@@ -4,7 +4,7 @@ ghost use mathlib.Core.Path.{_≡_};
 ghost use Prim.Native.Nat.{_+_, min};
 ghost use lib.ListN.{take, drop};
 ghost use Rattle.refusal.specs.Output.{said, answered, filled};
-ghost use Rattle.stanza.specs.Parts.{argumentsIn, bodyIn};
+ghost use Rattle.stanza.specs.Parts.{argumentsIn, linesIn, bodyIn};
 use crate::reading::Stanza;
 use refusal::Written;
 
@@ -26,6 +26,13 @@ pub fn body_of(text: &[u8], s: Stanza, out: &mut [u8]) -> Written
     base64::decode_lines(lines(text, s.line, s.taken), out)
 }
 
+// The lines of base64 that the body is, a part of the stanza's text.
+pub fn lines_of<'a>(text: &'a [u8], s: Stanza) -> &'a [u8]
+    ensures { λ r. ⌜ now r ≡ linesIn (now (text .entry)) s ⌝ }
+{
+    lines(text, s.line, s.taken)
+}
+
 // The lines behind the first line, up to `taken`.
 fn lines<'a>(text: &'a [u8], line: usize, taken: usize) -> &'a [u8]
     ensures { λ r. ⌜ now r ≡ drop (line + 1) (take taken (now (text .entry))) ⌝ }
@@ -38,7 +45,7 @@ fn lines<'a>(text: &'a [u8], line: usize, taken: usize) -> &'a [u8]
     &text[end..end]
 }
 
-fn least(a: usize, b: usize) -> usize
+pub(crate) fn least(a: usize, b: usize) -> usize
     ensures { λ r. ⌜ r ≡ min a b ⌝ }
 {
     if a < b { a } else { b }

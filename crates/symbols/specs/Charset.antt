@@ -1,6 +1,6 @@
 -- The Bech32 alphabet (document 01, "Recipients and identities"): `qpzry9x8gf2tvdw0s3jn54khce6mua7l`, values 0 to 31 in that order; and letters by case.
 use Prim.Native.Nat.{ℕ, suc, _+_, _-_}
-use mathlib.Core.Bool.{Bool, _&&_, not}
+use mathlib.Core.Bool.{Bool, _&&_}
 use mathlib.Core.List.{List, [], _∷_}
 use lib.Dec.{leb, eqb}
 use lib.ListN.{getD}

@@ -1,4 +1,5 @@
--- What the private functions ask of the table that they are lent, and what they work out. Nobody has to believe this: each caller shows it.
+-- What the functions make of a table that they are lent, and what they work out. Nobody has to believe this: a caller that lends them the
+-- table of `values` shows that they answer what Calls says.
 use Prim.Native.Nat.{ℕ, _%_, _^_, _<_}
 use mathlib.Core.Path.{_≡_}
 use mathlib.Core.Bool.{Bool, _&&_}
@@ -10,6 +11,13 @@ use Rattle.symbols.specs.Calls.{valueAt}
 -- the value of each byte
 abbrev pub Values : List ℕ → Type 0
 Values t = (b : ℕ) → b < 256 → getD t b 0 ≡ valueAt b
+
+-- the value of a byte by a table, and its symbol
+abbrev pub valueIn : List ℕ → ℕ → ℕ
+valueIn t b = getD t b 0
+
+abbrev pub symbolIn : List ℕ → ℕ → ℕ
+symbolIn t b = valueIn t b % 32
 
 -- fewer than 5 bits remain and all are zero, by how many remain and the last symbol
 abbrev pub isClear : ℕ → ℕ → Bool

@@ -1,8 +1,7 @@
 // Values of characters, and letters by case.
 ghost use mathlib.Core.Path.{_≡_};
 ghost use Rattle.symbols.specs.Charset.{isUpper, isLower, lower};
-ghost use Rattle.symbols.specs.Calls.{valueAt};
-ghost use Rattle.symbols.specs.Steps.{Values};
+ghost use Rattle.symbols.specs.Steps.{Values, valueIn};
 
 // The value of each byte, a letter's in either case; 32 for one outside the alphabet.
 const VALUES: [u8; 256] = [
@@ -264,8 +263,8 @@ const VALUES: [u8; 256] = [
     32,
 ];
 
-// The table by value: a caller copies it once and lends it to each look-up.
-pub(crate) fn values() -> [u8; 256]
+// The table by value: a caller copies it once and lends it to each pass over a text.
+pub fn values() -> [u8; 256]
     ensures { λ r. ⌜ Values r ⌝ }
 {
     VALUES
@@ -279,8 +278,7 @@ fn wide(b: u8) -> usize
 
 // The value of a byte, by the table.
 pub(crate) fn look_up(table: &[u8; 256], b: u8) -> u8
-    requires { ⌜ Values (now table) ⌝ }
-    ensures { λ r. ⌜ r ≡ valueAt b ⌝ }
+    ensures { λ r. ⌜ r ≡ valueIn (now (table .entry)) b ⌝ }
 {
     table[wide(b)]
 }

@@ -4,10 +4,10 @@ ghost use mathlib.Core.List.{map};
 ghost use Prim.Native.Nat.{_/_, _%_};
 ghost use Rattle.symbols.specs.Charset.{lower};
 ghost use Rattle.symbols.specs.Checksum.{taken, stepped, polymod, expanded};
-ghost use Rattle.symbols.specs.Calls.{valueAt, closes};
+ghost use Rattle.symbols.specs.Calls.{closes};
+ghost use Rattle.symbols.specs.Steps.{valueIn};
 use crate::charset::look_up;
 use crate::charset::lowered;
-use crate::charset::values;
 
 // What the five top bits of the state fold in.
 const CONSTANTS: [u32; 5] = [0x3b6a57b2, 0x26508e6d, 0x1ea119fa, 0x3d4233dd, 0x2a1462b3];
@@ -92,15 +92,14 @@ pub fn fold_symbols(symbols: &[u8], from: u32) -> u32
     state
 }
 
-// Whether some bytes are all characters and bring the state to 1.
-pub fn is_closed(text: &[u8], from: u32) -> bool
-    ensures { λ r. ⌜ r ≡ closes from (map valueAt (now (text .entry))) ⌝ }
+// Whether some bytes are all characters, by the table, and bring the state to 1.
+pub fn is_closed(table: &[u8; 256], text: &[u8], from: u32) -> bool
+    ensures { λ r. ⌜ r ≡ closes from (map (valueIn (now (table .entry))) (now (text .entry))) ⌝ }
 {
-    let table = values();
     let mut state = from;
     let mut i: usize = 0;
     while i < text.len() {
-        let v = look_up(&table, text[i]);
+        let v = look_up(table, text[i]);
         if 31 < v {
             return false;
         }

@@ -6,6 +6,7 @@ mod regroup;
 pub use charset::is_lower;
 pub use charset::is_upper;
 pub use charset::lowered;
+pub use charset::values;
 pub use checksum::fold_human;
 pub use checksum::fold_symbols;
 pub use checksum::is_closed;

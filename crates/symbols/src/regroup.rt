@@ -5,10 +5,9 @@ ghost use Prim.Native.Nat.{_+_, _*_, _/_, _%_, _<_, _≤_};
 ghost use lib.ListN.{length, drop, getD};
 ghost use Rattle.symbols.specs.Regroup.{symbols, bytes, isWhole};
 ghost use Rattle.refusal.specs.Output.{filled};
-ghost use Rattle.symbols.specs.Calls.{valueAt, symbolAt, bytesSize, symbolsSize};
-ghost use Rattle.symbols.specs.Steps.{Values, isClear};
+ghost use Rattle.symbols.specs.Calls.{bytesSize, symbolsSize};
+ghost use Rattle.symbols.specs.Steps.{valueIn, symbolIn, isClear};
 use crate::charset::look_up;
-use crate::charset::values;
 
 // How many bytes n symbols make.
 pub fn bytes_length(n: usize) -> usize
@@ -39,23 +38,21 @@ fn is_clear(left: usize, last: u8) -> bool
     false
 }
 
-// Whether the symbols of some characters are whole bytes.
-pub fn is_whole(text: &[u8]) -> bool
-    ensures { λ r. ⌜ r ≡ isWhole (map valueAt (now (text .entry))) ⌝ }
+// Whether the symbols of some characters, by the table, are whole bytes.
+pub fn is_whole(table: &[u8; 256], text: &[u8]) -> bool
+    ensures { λ r. ⌜ r ≡ isWhole (map (valueIn (now (table .entry))) (now (text .entry))) ⌝ }
 {
     let n = text.len();
     if n == 0 {
         return true;
     }
-    let table = values();
-    is_clear(n % 8 * 5 % 8, look_up(&table, text[n - 1]))
+    is_clear(n % 8 * 5 % 8, look_up(table, text[n - 1]))
 }
 
 // The symbol of the character at i.
 fn symbol(table: &[u8; 256], text: &[u8], i: usize) -> u8
-    requires { ⌜ Values (now table) ⌝ }
     requires { ⌜ i < length (now text) ⌝ }
-    ensures value { λ r. ⌜ r ≡ symbolAt (getD (now (text .entry)) i 0) ⌝ }
+    ensures value { λ r. ⌜ r ≡ symbolIn (now (table .entry)) (getD (now (text .entry)) i 0) ⌝ }
     ensures small { λ r. ⌜ r < 32 ⌝ }
 {
     look_up(table, text[i]) % 32
@@ -100,22 +97,20 @@ fn fifth(v: u8, w: u8) -> u8
     v % 8 * 32 + w
 }
 
-// The bytes of some characters at the front of `out`; nothing where it is too short.
-pub fn decode(text: &[u8], out: &mut [u8])
-    ensures { λ _. ⌜ now (out .exit) ≡ filled (bytes (map symbolAt (now (text .entry)))) (now (out .entry)) ⌝ }
+// The bytes of some characters, by the table, at the front of `out`; nothing where it is too short.
+pub fn decode(table: &[u8; 256], text: &[u8], out: &mut [u8])
+    ensures { λ _. ⌜ now (out .exit) ≡ filled (bytes (map (symbolIn (now (table .entry))) (now (text .entry)))) (now (out .entry)) ⌝ }
 {
     if out.len() < bytes_length(text.len()) {
         return;
     }
-    let table = values();
-    decode_into(&table, text, out);
+    decode_into(table, text, out);
 }
 
 // The same where it is long enough.
 fn decode_into(table: &[u8; 256], text: &[u8], out: &mut [u8])
-    requires { ⌜ Values (now table) ⌝ }
     requires { ⌜ bytesSize (length (now text)) ≤ length (now out) ⌝ }
-    ensures { λ _. ⌜ now (out .exit) ≡ bytes (map symbolAt (now (text .entry))) ++ drop (length (bytes (map symbolAt (now (text .entry))))) (now (out .entry)) ⌝ }
+    ensures { λ _. ⌜ now (out .exit) ≡ bytes (map (symbolIn (now (table .entry))) (now (text .entry))) ++ drop (length (bytes (map (symbolIn (now (table .entry))) (now (text .entry))))) (now (out .entry)) ⌝ }
 {
     let n = text.len() / 8;
     let mut i: usize = 0;
@@ -133,10 +128,9 @@ fn decode_into(table: &[u8; 256], text: &[u8], out: &mut [u8])
 
 // The same for eight characters.
 fn decode_group(table: &[u8; 256], text: &[u8], out: &mut [u8])
-    requires { ⌜ Values (now table) ⌝ }
     requires { ⌜ length (now text) ≡ 8 ⌝ }
     requires { ⌜ 5 ≤ length (now out) ⌝ }
-    ensures { λ _. ⌜ now (out .exit) ≡ bytes (map symbolAt (now (text .entry))) ++ drop 5 (now (out .entry)) ⌝ }
+    ensures { λ _. ⌜ now (out .exit) ≡ bytes (map (symbolIn (now (table .entry))) (now (text .entry))) ++ drop 5 (now (out .entry)) ⌝ }
 {
     let p = symbol(table, text, 0);
     let q = symbol(table, text, 1);
@@ -155,10 +149,9 @@ fn decode_group(table: &[u8; 256], text: &[u8], out: &mut [u8])
 
 // The same for fewer than eight.
 fn decode_rest(table: &[u8; 256], text: &[u8], out: &mut [u8])
-    requires { ⌜ Values (now table) ⌝ }
     requires { ⌜ length (now text) < 8 ⌝ }
     requires { ⌜ bytesSize (length (now text)) ≤ length (now out) ⌝ }
-    ensures { λ _. ⌜ now (out .exit) ≡ bytes (map symbolAt (now (text .entry))) ++ drop (length (bytes (map symbolAt (now (text .entry))))) (now (out .entry)) ⌝ }
+    ensures { λ _. ⌜ now (out .exit) ≡ bytes (map (symbolIn (now (table .entry))) (now (text .entry))) ++ drop (length (bytes (map (symbolIn (now (table .entry))) (now (text .entry))))) (now (out .entry)) ⌝ }
 {
     let n = text.len();
     if n < 2 {

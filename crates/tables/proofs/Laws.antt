@@ -1,3 +1,4 @@
 pub mod Copying
 pub mod LookUp
+pub mod Slots
 pub mod Tables

@@ -1,3 +1,4 @@
 -- Tables of entries.
-pub mod Steps
+pub mod Bodies
+pub mod Slots
 pub mod Tables

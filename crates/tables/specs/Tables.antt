@@ -1,16 +1,17 @@
 -- The tables (document 01, "Phase one": "Each kind has its own numbering from 0 and its own lent room", there called places and rooms).
 use Prim.Native.Nat.{ℕ, _+_}
 use mathlib.Core.Bool.{Bool, _&&_}
-use mathlib.Core.List.{List, [], _∷_, _++_, map}
+use mathlib.Core.List.{List, [], _++_, map}
 use lib.Dec.{ltb, leb}
 use lib.ListN.{length, take, drop, set, getD, replicate}
 use Rattle.refusal.specs.Pick.{pick}
-use Rattle.tables.specs.declared.tables.Entry.{Entry}
+use Rattle.refusal.specs.Verdict.{firstOf}
+use Rattle.tables.specs.declared.slots.Entry.{Entry}
+use Rattle.tables.specs.Slots.{slotsOf}
+use Rattle.tables.specs.declared.slots.Span.{Span}
+use Rattle.tables.specs.declared.tables.Table.{Table as CodeTable}
 use Rattle.tables.specs.declared.tables.Found.{Found}
 use Rattle.tables.specs.declared.tables.Found.the-variants as the
-use Rattle.tables.specs.declared.tables.Table64.{Table64}
-use Rattle.tables.specs.declared.tables.Table256.{Table256}
-use Rattle.tables.specs.declared.tables.Table384.{Table384}
 
 -- `width` slots, of which the first `count` are entries; their payloads take the first `used` bytes of the kind's buffer
 pub record Table : Type 0 where
@@ -19,17 +20,9 @@ pub record Table : Type 0 where
   pub count : ℕ
   pub used : ℕ
 
--- the code's tables, at each width: 64 slots
-abbrev pub of64 : Table64 → Table
-of64 t = record { width = 64; slots = t .slots; count = t .count; used = t .used }
-
--- 256 slots
-abbrev pub of256 : Table256 → Table
-of256 t = record { width = 256; slots = t .slots; count = t .count; used = t .used }
-
--- 384 slots
-abbrev pub of384 : Table384 → Table
-of384 t = record { width = 384; slots = t .slots; count = t .count; used = t .used }
+-- the code's table, with the slots of its span
+abbrev pub tableIn : Span → CodeTable → List (List ℕ) → Table
+tableIn h t xs = record { width = h .width; slots = slotsOf h xs; count = t .count; used = t .used }
 
 -- an empty slot
 abbrev pub empty : Entry
@@ -55,6 +48,10 @@ appended t n index mark = record {
 -- the same where it fits; else the table stays as it was
 abbrev pub entered : Table → ℕ → ℕ → ℕ → ℕ → Table
 entered t n index mark capacity = pick (fits t n capacity) (appended t n index mark) t
+
+-- No. 8 where it does not fit; then a late fault, of the call that stores
+abbrev pub storing : Table → ℕ → ℕ → ℕ → ℕ
+storing t n capacity late = firstOf (pick (fits t n capacity) 0 8) late
 
 -- ---- what a table shows
 

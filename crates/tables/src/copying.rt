@@ -1,9 +1,25 @@
-// Payloads copied into the buffers. A copy is total: where it does not fit nothing is written.
+// Payloads copied into the buffers. A body is given as its bytes, or as the lines of base64 that a stanza has of it: those are decoded where they are kept.
 ghost use mathlib.Core.Path.{_≡_};
 ghost use mathlib.Core.List.{_∷_, _++_};
 ghost use Prim.Native.Nat.{_+_, _≤_};
 ghost use lib.ListN.{length, drop};
-ghost use Rattle.tables.specs.Steps.{pasted, laid};
+ghost use Rattle.tables.specs.Bodies.{bodyFrom};
+
+// How a body is given.
+pub enum Coding {
+    Bytes,
+    Lines,
+}
+
+// How many bytes a body has.
+pub fn body_size(coding: Coding, source: &[u8]) -> usize
+    ensures { λ r. ⌜ (r ≡ length (bodyFrom coding (now (source .entry)))) × (r ≤ length (now (source .entry))) ⌝ }
+{
+    match coding {
+        Coding::Bytes => source.len(),
+        Coding::Lines => base64::body_length(source.len()),
+    }
+}
 
 // A part at the front of `out`, which is long enough.
 fn copy(part: &[u8], out: &mut [u8])
@@ -17,46 +33,27 @@ fn copy(part: &[u8], out: &mut [u8])
     }
 }
 
-// A part from `at` on, where it fits.
-pub(crate) fn copy_at(part: &[u8], at: usize, buffer: &mut [u8])
-    ensures { λ _. ⌜ now (buffer .exit) ≡ laid (now (part .entry)) at (now (buffer .entry)) ⌝ }
+// A body at the front of `out`, which is long enough.
+pub(crate) fn put_body(coding: Coding, source: &[u8], out: &mut [u8])
+    requires { ⌜ length (bodyFrom coding (now source)) ≤ length (now out) ⌝ }
+    ensures { λ _. ⌜ now (out .exit) ≡ bodyFrom coding (now (source .entry)) ++ drop (length (bodyFrom coding (now (source .entry)))) (now (out .entry)) ⌝ }
 {
-    let capacity = buffer.len();
-    if capacity < at {
-        return;
+    match coding {
+        Coding::Bytes => copy(source, out),
+        Coding::Lines => {
+            base64::decode_lines(source, out);
+        }
     }
-    if capacity - at < part.len() {
-        return;
-    }
-    copy(part, &mut buffer[at..]);
 }
 
-// Two parts with an LF between them at the front of `out`, which is long enough.
-fn copy_lines(first: &[u8], second: &[u8], out: &mut [u8])
-    requires { ⌜ length (now first) + 1 + length (now second) ≤ length (now out) ⌝ }
-    ensures { λ _. ⌜ now (out .exit) ≡ (now (first .entry) ++ 10 ∷ now (second .entry)) ++ drop (length (now (first .entry)) + 1 + length (now (second .entry))) (now (out .entry)) ⌝ }
+// A line, an LF and a body at the front of `out`, which is long enough.
+pub(crate) fn put_lines(line: &[u8], coding: Coding, source: &[u8], out: &mut [u8])
+    requires { ⌜ length (now line) + 1 + length (bodyFrom coding (now source)) ≤ length (now out) ⌝ }
+    ensures { λ _. ⌜ now (out .exit) ≡ (now (line .entry) ++ 10 ∷ bodyFrom coding (now (source .entry))) ++ drop (length (now (line .entry)) + 1 + length (bodyFrom coding (now (source .entry)))) (now (out .entry)) ⌝ }
 {
-    let n = first.len();
-    copy(first, out);
-    out[n] = 10;
+    let n = line.len();
+    copy(line, out);
+    out[n] = b'\n';
     let from = n + 1;
-    copy(second, &mut out[from..]);
-}
-
-// The same from `at` on, where it fits.
-pub(crate) fn copy_lines_at(first: &[u8], second: &[u8], at: usize, buffer: &mut [u8])
-    ensures { λ _. ⌜ now (buffer .exit) ≡ laid (now (first .entry) ++ 10 ∷ now (second .entry)) at (now (buffer .entry)) ⌝ }
-{
-    let capacity = buffer.len();
-    if capacity < at {
-        return;
-    }
-    let left = capacity - at;
-    if left <= first.len() {
-        return;
-    }
-    if left - first.len() <= second.len() {
-        return;
-    }
-    copy_lines(first, second, &mut buffer[at..]);
+    put_body(coding, source, &mut out[from..]);
 }

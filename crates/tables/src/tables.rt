@@ -1,19 +1,27 @@
-// Tables of entries. A payload lies in a buffer that is lent to each call; the table has its start and its length.
+// Tables of entries. A payload lies in a buffer that is lent to each call, its entry in slots that are lent too; the table has how many there are. One table
+// for every kind and width: a span says where its slots are.
 ghost use mathlib.Core.Path.{_≡_};
+ghost use mathlib.Core.Bool.{true, _&&_};
 ghost use mathlib.Core.List.{_∷_, _++_};
 ghost use Prim.Native.Nat.{_+_};
+ghost use lib.Dec.{ltb, leb, eqb};
 ghost use lib.ListN.{length};
-ghost use Rattle.tables.specs.Tables.{of64, of256, of384, entered, opened, kept, found, shown, partOf};
-use crate::copying::copy_at;
-use crate::copying::copy_lines_at;
-
-// A slot: where the payload starts and how long it is, the index that the command gave, and a mark.
-pub struct Entry {
-    pub start: usize,
-    pub length: usize,
-    pub index: usize,
-    pub mark: u8,
-}
+ghost use Rattle.refusal.specs.Pick.{pick};
+ghost use Rattle.refusal.specs.Verdict.{verdictSaid};
+ghost use Rattle.tables.specs.Bodies.{bodyFrom};
+ghost use Rattle.tables.specs.Slots.{areApart, slotsOf};
+ghost use Rattle.tables.specs.declared.slots.Span.{Span as AnySpan};
+ghost use Rattle.tables.specs.Tables.{tableIn, storing, entered, kept, found, shown, partOf};
+use crate::copying::Coding;
+use crate::copying::body_size;
+use crate::copying::put_body;
+use crate::copying::put_lines;
+use crate::slots::Entry;
+use crate::slots::Span;
+use crate::slots::entry_at;
+use crate::slots::put_entry;
+use refusal::Refusal;
+use refusal::Verdict;
 
 // What stands at a number of a table.
 pub enum Found {
@@ -21,278 +29,158 @@ pub enum Found {
     Nothing,
 }
 
-// A table of 64 slots: the first `count` are entries, whose payloads take the first `used` bytes of the buffer.
-pub struct Table64 {
-    pub slots: [Entry; 64],
+// What a session keeps of a kind: the first `count` of its slots are entries, whose payloads take the first `used` bytes of the buffer.
+pub struct Table {
     pub count: usize,
     pub used: usize,
 }
 
-// A table of 256 slots.
-pub struct Table256 {
-    pub slots: [Entry; 256],
-    pub count: usize,
-    pub used: usize,
+// What storing came to: the number if it is refused, and the table.
+pub struct Stored {
+    pub verdict: Verdict,
+    pub table: Table,
 }
 
-// A table of 384 slots.
-pub struct Table384 {
-    pub slots: [Entry; 384],
-    pub count: usize,
-    pub used: usize,
+// Whether a kind has a slot, and its buffer space for n bytes more.
+fn has_space(count: usize, width: usize, used: usize, n: usize, capacity: usize) -> bool
+    ensures { λ r. ⌜ r ≡ (ltb count width && leb (used + n) capacity) ⌝ }
+{
+    if width <= count {
+        return false;
+    }
+    if capacity < used {
+        return false;
+    }
+    n <= capacity - used
 }
 
-impl Table64 {
-    // How many slots it has.
-    pub const SLOTS: usize = 64;
-
+impl Table {
     // No entry.
-    pub fn open() -> Table64
-        ensures { λ r. ⌜ of64 r ≡ opened 64 ⌝ }
+    pub fn open() -> Table
+        ensures { λ r. ⌜ (r .count ≡ 0) × (r .used ≡ 0) ⌝ }
     {
-        Table64 {
-            slots: [Entry {
-                start: 0,
-                length: 0,
-                index: 0,
-                mark: 0,
-            }; 64],
-            count: 0,
-            used: 0,
-        }
+        Table { count: 0, used: 0 }
     }
 
     // What stands at a number.
-    pub fn find(self, n: usize) -> Found
-        ensures { λ r. ⌜ r ≡ found (of64 self) n ⌝ }
+    pub fn find(self, span: Span, n: usize, slots: &[[usize; 4]]) -> Found
+        ensures { λ r. ⌜ r ≡ found (tableIn span self (now (slots .entry))) n ⌝ }
     {
         if self.count <= n {
             return Found::Nothing;
         }
-        if Table64::SLOTS <= n {
+        if span.width <= n {
             return Found::Nothing;
         }
-        let e = self.slots[n];
-        Found::Entry(e)
+        Found::Entry(entry_at(span, n, slots))
     }
 
-    // One entry more, of `length` bytes of a buffer of `capacity` bytes; the table as it was where it does not fit.
-    pub fn enter(mut self, length: usize, index: usize, mark: u8, capacity: usize) -> Table64
-        ensures { λ r. ⌜ of64 r ≡ entered (of64 self) length index mark capacity ⌝ }
+    // One entry more, of n bytes of a buffer of `capacity` bytes. 8 where it does not fit, then the late fault: table and slots stay as they were.
+    fn enter(
+        self,
+        span: Span,
+        late: Verdict,
+        n: usize,
+        index: usize,
+        mark: usize,
+        capacity: usize,
+        slots: &mut [[usize; 4]],
+    ) -> Stored
+        ensures number { λ r. ⌜ verdictSaid (r .verdict) ≡ storing (tableIn span self (now (slots .entry))) n capacity (verdictSaid late) ⌝ }
+        ensures table { λ r. ⌜ tableIn span (r .table) (now (slots .exit)) ≡ pick (eqb (storing (tableIn span self (now (slots .entry))) n capacity (verdictSaid late)) 0) (entered (tableIn span self (now (slots .entry))) n index mark capacity) (tableIn span self (now (slots .entry))) ⌝ }
+        ensures others { λ r. ⌜ ((k : AnySpan) → areApart span k ≡ true → slotsOf k (now (slots .exit)) ≡ slotsOf k (now (slots .entry))) ⌝ }
     {
         let count = self.count;
         let used = self.used;
-        if Table64::SLOTS <= count {
-            return self;
+        if !has_space(count, span.width, used, n, capacity) {
+            return Stored {
+                verdict: Verdict::Refused(Refusal::NoSpace),
+                table: self,
+            };
         }
-        if capacity < used {
-            return self;
+        match late {
+            Verdict::Refused(_) => Stored {
+                verdict: late,
+                table: self,
+            },
+            Verdict::Accepted => {
+                let e = Entry {
+                    start: used,
+                    length: n,
+                    index: index,
+                    mark: mark,
+                };
+                put_entry(span, count, e, slots);
+                Stored {
+                    verdict: late,
+                    table: Table {
+                        count: count + 1,
+                        used: used + n,
+                    },
+                }
+            }
         }
-        if capacity - used < length {
-            return self;
-        }
-        self.slots[count] = Entry {
-            start: used,
-            length: length,
-            index: index,
-            mark: mark,
-        };
-        self.count = count + 1;
-        self.used = used + length;
-        self
     }
 
-    // One entry more with its payload behind the others in the buffer; table and buffer as they were where it does not fit.
-    pub fn store(self, payload: &[u8], index: usize, mark: u8, buffer: &mut [u8]) -> Table64
-        ensures table { λ r. ⌜ of64 r ≡ entered (of64 self) (length (now (payload .entry))) index mark (length (now (buffer .entry))) ⌝ }
-        ensures buffer { λ r. ⌜ now (buffer .exit) ≡ kept (of64 self) (now (payload .entry)) (now (buffer .entry)) ⌝ }
+    // One entry more with its payload behind the others in the buffer. 8 where it does not fit, then the late fault: nothing changes then.
+    pub fn store(
+        self,
+        span: Span,
+        late: Verdict,
+        coding: Coding,
+        source: &[u8],
+        index: usize,
+        mark: usize,
+        slots: &mut [[usize; 4]],
+        buffer: &mut [u8],
+    ) -> Stored
+        ensures number { λ r. ⌜ verdictSaid (r .verdict) ≡ storing (tableIn span self (now (slots .entry))) (length (bodyFrom coding (now (source .entry)))) (length (now (buffer .entry))) (verdictSaid late) ⌝ }
+        ensures table { λ r. ⌜ tableIn span (r .table) (now (slots .exit)) ≡ pick (eqb (storing (tableIn span self (now (slots .entry))) (length (bodyFrom coding (now (source .entry)))) (length (now (buffer .entry))) (verdictSaid late)) 0) (entered (tableIn span self (now (slots .entry))) (length (bodyFrom coding (now (source .entry)))) index mark (length (now (buffer .entry)))) (tableIn span self (now (slots .entry))) ⌝ }
+        ensures others { λ r. ⌜ ((k : AnySpan) → areApart span k ≡ true → slotsOf k (now (slots .exit)) ≡ slotsOf k (now (slots .entry))) ⌝ }
+        ensures buffer { λ r. ⌜ now (buffer .exit) ≡ pick (eqb (storing (tableIn span self (now (slots .entry))) (length (bodyFrom coding (now (source .entry)))) (length (now (buffer .entry))) (verdictSaid late)) 0) (kept (tableIn span self (now (slots .entry))) (bodyFrom coding (now (source .entry))) (now (buffer .entry))) (now (buffer .entry)) ⌝ }
     {
-        let count = self.count;
         let used = self.used;
-        if Table64::SLOTS <= count {
-            return self;
-        }
-        let n = payload.len();
-        let capacity = buffer.len();
-        copy_at(payload, used, buffer);
-        self.enter(n, index, mark, capacity)
-    }
-}
-
-impl Table256 {
-    // How many slots it has.
-    pub const SLOTS: usize = 256;
-
-    // No entry.
-    pub fn open() -> Table256
-        ensures { λ r. ⌜ of256 r ≡ opened 256 ⌝ }
-    {
-        Table256 {
-            slots: [Entry {
-                start: 0,
-                length: 0,
-                index: 0,
-                mark: 0,
-            }; 256],
-            count: 0,
-            used: 0,
+        let n = body_size(coding, source);
+        let stored = self.enter(span, late, n, index, mark, buffer.len(), slots);
+        let verdict = stored.verdict;
+        match verdict {
+            Verdict::Refused(_) => stored,
+            Verdict::Accepted => {
+                put_body(coding, source, &mut buffer[used..]);
+                stored
+            }
         }
     }
 
-    // What stands at a number.
-    pub fn find(self, n: usize) -> Found
-        ensures { λ r. ⌜ r ≡ found (of256 self) n ⌝ }
-    {
-        if self.count <= n {
-            return Found::Nothing;
-        }
-        if Table256::SLOTS <= n {
-            return Found::Nothing;
-        }
-        let e = self.slots[n];
-        Found::Entry(e)
-    }
-
-    // One entry more, of `length` bytes of a buffer of `capacity` bytes; the table as it was where it does not fit.
-    pub fn enter(mut self, length: usize, index: usize, mark: u8, capacity: usize) -> Table256
-        ensures { λ r. ⌜ of256 r ≡ entered (of256 self) length index mark capacity ⌝ }
-    {
-        let count = self.count;
-        let used = self.used;
-        if Table256::SLOTS <= count {
-            return self;
-        }
-        if capacity < used {
-            return self;
-        }
-        if capacity - used < length {
-            return self;
-        }
-        self.slots[count] = Entry {
-            start: used,
-            length: length,
-            index: index,
-            mark: mark,
-        };
-        self.count = count + 1;
-        self.used = used + length;
-        self
-    }
-
-    // One entry more with its payload behind the others in the buffer; table and buffer as they were where it does not fit.
-    pub fn store(self, payload: &[u8], index: usize, mark: u8, buffer: &mut [u8]) -> Table256
-        ensures table { λ r. ⌜ of256 r ≡ entered (of256 self) (length (now (payload .entry))) index mark (length (now (buffer .entry))) ⌝ }
-        ensures buffer { λ r. ⌜ now (buffer .exit) ≡ kept (of256 self) (now (payload .entry)) (now (buffer .entry)) ⌝ }
-    {
-        let count = self.count;
-        let used = self.used;
-        if Table256::SLOTS <= count {
-            return self;
-        }
-        let n = payload.len();
-        let capacity = buffer.len();
-        copy_at(payload, used, buffer);
-        self.enter(n, index, mark, capacity)
-    }
-
-    // The same for a payload of two parts with an LF between them.
+    // The same for a payload of a line, an LF and a body.
     pub fn store_lines(
         self,
-        first: &[u8],
-        second: &[u8],
+        span: Span,
+        late: Verdict,
+        line: &[u8],
+        coding: Coding,
+        source: &[u8],
         index: usize,
-        mark: u8,
+        mark: usize,
+        slots: &mut [[usize; 4]],
         buffer: &mut [u8],
-    ) -> Table256
-        ensures table { λ r. ⌜ of256 r ≡ entered (of256 self) (length (now (first .entry) ++ 10 ∷ now (second .entry))) index mark (length (now (buffer .entry))) ⌝ }
-        ensures buffer { λ r. ⌜ now (buffer .exit) ≡ kept (of256 self) (now (first .entry) ++ 10 ∷ now (second .entry)) (now (buffer .entry)) ⌝ }
+    ) -> Stored
+        ensures number { λ r. ⌜ verdictSaid (r .verdict) ≡ storing (tableIn span self (now (slots .entry))) (length (now (line .entry) ++ 10 ∷ bodyFrom coding (now (source .entry)))) (length (now (buffer .entry))) (verdictSaid late) ⌝ }
+        ensures table { λ r. ⌜ tableIn span (r .table) (now (slots .exit)) ≡ pick (eqb (storing (tableIn span self (now (slots .entry))) (length (now (line .entry) ++ 10 ∷ bodyFrom coding (now (source .entry)))) (length (now (buffer .entry))) (verdictSaid late)) 0) (entered (tableIn span self (now (slots .entry))) (length (now (line .entry) ++ 10 ∷ bodyFrom coding (now (source .entry)))) index mark (length (now (buffer .entry)))) (tableIn span self (now (slots .entry))) ⌝ }
+        ensures others { λ r. ⌜ ((k : AnySpan) → areApart span k ≡ true → slotsOf k (now (slots .exit)) ≡ slotsOf k (now (slots .entry))) ⌝ }
+        ensures buffer { λ r. ⌜ now (buffer .exit) ≡ pick (eqb (storing (tableIn span self (now (slots .entry))) (length (now (line .entry) ++ 10 ∷ bodyFrom coding (now (source .entry)))) (length (now (buffer .entry))) (verdictSaid late)) 0) (kept (tableIn span self (now (slots .entry))) (now (line .entry) ++ 10 ∷ bodyFrom coding (now (source .entry))) (now (buffer .entry))) (now (buffer .entry)) ⌝ }
     {
-        let count = self.count;
         let used = self.used;
-        if Table256::SLOTS <= count {
-            return self;
+        let n = line.len() + 1 + body_size(coding, source);
+        let stored = self.enter(span, late, n, index, mark, buffer.len(), slots);
+        let verdict = stored.verdict;
+        match verdict {
+            Verdict::Refused(_) => stored,
+            Verdict::Accepted => {
+                put_lines(line, coding, source, &mut buffer[used..]);
+                stored
+            }
         }
-        let n = first.len() + 1 + second.len();
-        let capacity = buffer.len();
-        copy_lines_at(first, second, used, buffer);
-        self.enter(n, index, mark, capacity)
-    }
-}
-
-impl Table384 {
-    // How many slots it has.
-    pub const SLOTS: usize = 384;
-
-    // No entry.
-    pub fn open() -> Table384
-        ensures { λ r. ⌜ of384 r ≡ opened 384 ⌝ }
-    {
-        Table384 {
-            slots: [Entry {
-                start: 0,
-                length: 0,
-                index: 0,
-                mark: 0,
-            }; 384],
-            count: 0,
-            used: 0,
-        }
-    }
-
-    // What stands at a number.
-    pub fn find(self, n: usize) -> Found
-        ensures { λ r. ⌜ r ≡ found (of384 self) n ⌝ }
-    {
-        if self.count <= n {
-            return Found::Nothing;
-        }
-        if Table384::SLOTS <= n {
-            return Found::Nothing;
-        }
-        let e = self.slots[n];
-        Found::Entry(e)
-    }
-
-    // One entry more, of `length` bytes of a buffer of `capacity` bytes; the table as it was where it does not fit.
-    pub fn enter(mut self, length: usize, index: usize, mark: u8, capacity: usize) -> Table384
-        ensures { λ r. ⌜ of384 r ≡ entered (of384 self) length index mark capacity ⌝ }
-    {
-        let count = self.count;
-        let used = self.used;
-        if Table384::SLOTS <= count {
-            return self;
-        }
-        if capacity < used {
-            return self;
-        }
-        if capacity - used < length {
-            return self;
-        }
-        self.slots[count] = Entry {
-            start: used,
-            length: length,
-            index: index,
-            mark: mark,
-        };
-        self.count = count + 1;
-        self.used = used + length;
-        self
-    }
-
-    // One entry more with its payload behind the others in the buffer; table and buffer as they were where it does not fit.
-    pub fn store(self, payload: &[u8], index: usize, mark: u8, buffer: &mut [u8]) -> Table384
-        ensures table { λ r. ⌜ of384 r ≡ entered (of384 self) (length (now (payload .entry))) index mark (length (now (buffer .entry))) ⌝ }
-        ensures buffer { λ r. ⌜ now (buffer .exit) ≡ kept (of384 self) (now (payload .entry)) (now (buffer .entry)) ⌝ }
-    {
-        let count = self.count;
-        let used = self.used;
-        if Table384::SLOTS <= count {
-            return self;
-        }
-        let n = payload.len();
-        let capacity = buffer.len();
-        copy_at(payload, used, buffer);
-        self.enter(n, index, mark, capacity)
     }
 }
 

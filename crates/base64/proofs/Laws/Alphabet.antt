@@ -1,14 +1,13 @@
 -- The alphabet's laws: values and characters undo each other.
-use Prim.Native.Nat.{ℕ, _+_, _-_, _<_, _≤_}
-use mathlib.Core.Path.{_≡_, refl, sym, ap, _∙_}
-use mathlib.Core.Bool.{Bool, true, false, _&&_, _||_, not, false≢true}
-use lib.Dec.{T, eqb, ltb, leb, eqb→eq, ltb→lt}
+use Prim.Native.Nat.{ℕ, _-_, _<_, _≤_}
+use mathlib.Core.Path.{_≡_, sym, _∙_}
+use mathlib.Core.Bool.{Bool, true, false, false≢true}
+use lib.Dec.{T, eqb, ltb, eqb→eq, ltb→lt}
 use native.Mathlib.Decide.{decLt}
 use native.Mathlib.Omega.{arith}
 use borrow.Author.Tests.{le-leb, lt-leb, ne-eqb}
-use Rattle.refusal.specs.Pick.{pick}
-use Rattle.refusal.proofs.Laws.Below.{each, below}
-use Rattle.refusal.proofs.Laws.Booleans.{T-true, true-T}
+use Rattle.refusal.proofs.Laws.Below.{below}
+use Rattle.refusal.proofs.Laws.Booleans.{T-true}
 use Rattle.base64.specs.Alphabet.{isCharacter, valueOf, characterOf}
 
 -- every value's character is a character, of that value

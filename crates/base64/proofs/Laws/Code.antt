@@ -1,18 +1,16 @@
 -- Laws of encoding and decoding.
-use Prim.Native.Nat.{ℕ, zero, suc, _+_, _-_, _*_, _/_, _%_, _<_, _≤_}
-use mathlib.Core.Path.{_≡_, refl, sym, ap, _∙_}
-use mathlib.Core.Bool.{Bool, true, false, _&&_}
+use Prim.Native.Nat.{ℕ, _+_, _-_, _*_, _/_, _%_, _<_, _≤_}
+use mathlib.Core.Path.{_≡_, refl, sym, _∙_}
+use mathlib.Core.Bool.{true, false}
 use mathlib.Core.List.{List, [], _∷_, _++_}
-use lib.Dec.{eqb}
 use lib.ListN.{length, take, drop, getD, take-append-drop}
 use Rattle.base64.specs.Tables.{decodedSize, encodedSize}
 use lib.Seq.{take-add, length-take-le}
 use native.Mathlib.Omega.{arith}
 use Rattle.refusal.proofs.Laws.Booleans.{cases}
 use Rattle.refusal.proofs.Laws.Lists.{drop-one, part-rest, put-rest, overwrite-part}
-use Rattle.base64.specs.Alphabet.{isCharacter, valueOf, characterOf}
-use Rattle.base64.specs.Code.{encoded, decoded, endsWell, isBase64, last, Judged, base64, notBase64, measured}
-use Rattle.refusal.specs.Run.{all}
+use Rattle.base64.specs.Alphabet.{valueOf, characterOf}
+use Rattle.base64.specs.Code.{encoded, decoded, isBase64, base64, notBase64, measured}
 
 pub decoded-length : (t : List ℕ) → length (decoded t) ≡ decodedSize (length t)
 unfolding decoded

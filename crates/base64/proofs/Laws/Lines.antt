@@ -1,12 +1,10 @@
 -- Laws of base64 in lines: line by line, lengths, and the way back.
 use Prim.Native.Nat.{ℕ, zero, suc, _+_, _-_, _*_, _/_, _%_, _<_, _≤_}
 use mathlib.Core.Path.{_≡_, refl, sym, ap, _∙_}
-use mathlib.Core.Bool.{Bool, true, false}
-use mathlib.Core.List.{List, [], _∷_, _++_, append-assoc}
+use mathlib.Core.List.{List, [], _∷_, _++_}
 use lib.Dec.{eqb}
 use lib.ListN.{length, take, drop, set, getD, length-append, length-drop, take-append-drop}
-use lib.Seq.{take-add, length-take-le, drop-drop, take-at, drop-at, append-snoc, getD-drop, getD-at, take-length}
-use native.Mathlib.Numerals.{add-one}
+use lib.Seq.{length-take-le, drop-drop, take-at, drop-at, append-snoc, getD-drop, getD-at, take-length}
 use native.Mathlib.Omega.{arith}
 use borrow.Author.Tests.{eq-eqb, ne-eqb, eqb-true, eqb-false}
 use Rattle.refusal.specs.Pick.{pick}

@@ -1,22 +1,20 @@
 -- Both directions (document 01, "Stanza text"): what is encoded decodes to the same bytes, a text that is base64 is the encoding of what it
 -- decodes to, and so the texts that are base64 are exactly the encodings of bytes.
-use Prim.Native.Nat.{ℕ, zero, suc, _+_, _-_, _*_, _/_, _%_, _<_, _≤_}
+use Prim.Native.Nat.{ℕ, suc, _+_, _-_, _*_, _/_, _%_}
 use mathlib.Core.Path.{_≡_, refl, sym, ap, _∙_}
-use mathlib.Core.Bool.{Bool, true, false, _&&_, false≢true}
+use mathlib.Core.Bool.{true, false, false≢true}
 use mathlib.Core.Logic.{_↔_}
-use mathlib.Core.List.{List, [], _∷_, _++_}
-use lib.Dec.{eqb, ltb}
-use lib.ListN.{length, take, drop, getD}
+use mathlib.Core.List.{List, [], _∷_}
+use lib.ListN.{length}
 use lib.Pow.{areBytes}
 use native.Mathlib.Omega.{arith}
-use borrow.Author.Tests.{ltb-true, lt-ltb, eqb-true}
-use Rattle.refusal.specs.Pick.{pick}
+use borrow.Author.Tests.{lt-ltb, eqb-true}
 use Rattle.refusal.specs.Run.{all}
 use Rattle.refusal.proofs.Laws.Bytes.{byte}
 use Rattle.refusal.proofs.Laws.Booleans.{and-true, true-and}
 use Rattle.base64.specs.Alphabet.{isCharacter, valueOf, characterOf}
 use Rattle.base64.specs.Code.{encoded, decoded, endsWell, isBase64, last}
-use Rattle.base64.specs.Lines.{wrapped, unwrapped, linesOf, bodyOf}
+use Rattle.base64.specs.Lines.{linesOf, bodyOf}
 use Rattle.base64.proofs.Laws.Alphabet.{value-lt, value-character, character-is, character-value}
 use Rattle.base64.proofs.Laws.Lines.{unwrapped-wrapped}
 

@@ -4,15 +4,16 @@ use mathlib.Core.Path.{_≡_, refl, sym, ap, ap₂, _∙_}
 use mathlib.Core.Bool.{Bool, true, false, _&&_, not, false≢true}
 use mathlib.Core.List.{List, [], _∷_, _++_, map}
 use lib.Dec.{eqb, ltb, leb}
-use lib.ListN.{length, take, drop, getD, length-map, length-drop}
+use lib.ListN.{length, take, drop, getD, length-map, length-drop, take-append-drop}
+use lib.Seq.{drop-drop}
 use native.Mathlib.Omega.{arith}
 use borrow.Author.Tests.{leb-true, leb-false, lt-ltb, le-ltb, le-leb, lt-leb, eq-eqb, ne-eqb}
 use Rattle.refusal.specs.Pick.{pick}
 use Rattle.refusal.specs.Run.{all}
 use Rattle.refusal.specs.Same.{same}
-use Rattle.refusal.proofs.Laws.Booleans.{cases, and-true, and-assoc, and-false-right}
+use Rattle.refusal.proofs.Laws.Booleans.{cases, and-true, true-and, and-assoc, and-false-right}
 use Rattle.refusal.proofs.Laws.Lists.{drop-one}
-use Rattle.refusal.proofs.Laws.Run.{all-more}
+use Rattle.refusal.proofs.Laws.Run.{all-append, all-more}
 use Rattle.symbols.specs.Charset.{valueOf, isUpper, lower}
 use Rattle.symbols.specs.Checksum.{areSymbols, polymod, expanded}
 use Rattle.symbols.specs.Regroup.{isWhole, bytes}
@@ -63,6 +64,13 @@ separator-le (b ∷ t) = cases (all isNotOne t) (λ a. cases (eqb b 49) (λ e. r
 pub none-more : (t : List ℕ) (i : ℕ) → i < length t → (getD t i 0 ≡ 49 → ⊥) → all isNotOne (drop (i + 1) t) ≡ true → all isNotOne (drop i t) ≡ true
 unfolding all
 none-more t i h n a = ap (all isNotOne) (drop-one t i 0 h) ∙ rw (ne-eqb (getD t i 0) 49 n) a
+
+-- several bytes more
+pub none-before : (n : ℕ) (t : List ℕ) (i : ℕ) → all isNotOne (take n (drop i t)) ≡ true → all isNotOne (drop (i + n) t) ≡ true → all isNotOne (drop i t) ≡ true
+none-before n t i h a =
+    ap (all isNotOne) (sym (take-append-drop n (drop i t)))
+    ∙ all-append isNotOne (take n (drop i t)) (drop n (drop i t))
+    ∙ true-and (all isNotOne (take n (drop i t))) (all isNotOne (drop n (drop i t))) h (rw drop-drop a)
 
 -- the separator is no letter: it stands at the same place in lower case
 lower-one : (b : ℕ) → eqb (lower b) 49 ≡ eqb b 49

@@ -22,8 +22,8 @@ use Rattle.symbols.specs.Checksum.{areSymbols, polymod, checksum, expanded}
 use Rattle.symbols.specs.Regroup.{symbols, bytes, isWhole}
 use Rattle.bech32.specs.Text.{recipient, identity, isNameByte, isName, Form, humanPart, plainText, textOf, isCased, inCase, noUpper, isNotOne, separator, nameIn, parsed, none, humanIn, valuesIn, payloadIn, isChecked, isHuman, isText, parse}
 use Rattle.bech32.specs.Calls.{formOf}
-use Rattle.bech32.specs.declared.charset.Kind.{Kind}
-use Rattle.bech32.specs.declared.charset.Kind.the-variants.{Recipient, Identity}
+use Rattle.bech32.specs.declared.TextKind.{TextKind}
+use Rattle.bech32.specs.declared.TextKind.the-variants.{Recipient, Identity}
 use Rattle.symbols.proofs.Laws.Charset.{character-value, value-character, lower-upper, upper-lower, lower-plain, upper-not-lower}
 use Rattle.symbols.proofs.Laws.Checksum.{polymod-append, checksum-closes, checksum-unique, six-lt}
 use Rattle.symbols.proofs.Laws.Regroup.{bytes-symbols, symbols-bytes, symbols-small, symbols-whole, bytes-are}
@@ -341,6 +341,6 @@ pub identity-plain : Plain identity
 unfolding all isUpper
 identity-plain = record { front = refl; back = refl }
 
-pub form-plain : (k : Kind) → Plain (formOf k)
+pub form-plain : (k : TextKind) → Plain (formOf k)
 form-plain Recipient = recipient-plain
 form-plain Identity = identity-plain

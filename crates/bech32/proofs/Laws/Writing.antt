@@ -17,8 +17,8 @@ use Rattle.symbols.specs.Charset.{characterOf, isLower, lower, upper}
 use Rattle.symbols.specs.Checksum.{areSymbols, polymod, checksum, expanded}
 use Rattle.bech32.specs.Text.{Form, inCase, humanPart, textOf, isName, isNameByte}
 use Rattle.bech32.specs.Calls.{formOf, isWritable, writeAnswer, writeBuffer}
-use Rattle.bech32.specs.declared.charset.Kind.{Kind}
-use Rattle.bech32.specs.declared.charset.Kind.the-variants.{Recipient, Identity}
+use Rattle.bech32.specs.declared.TextKind.{TextKind}
+use Rattle.bech32.specs.declared.TextKind.the-variants.{Recipient, Identity}
 use Rattle.refusal.specs.Output.{bytes, refused}
 use Rattle.bech32.specs.Steps.{casedByte, withChecksum}
 use Rattle.symbols.specs.Calls.{symbolsSize}
@@ -169,6 +169,6 @@ name-short name e =
     let b = and-true (leb 1 (length name) && leb (length name) 32) (all isNameByte name) e in
     leb-true (length name) 32 (and-true (leb 1 (length name)) (leb (length name) 32) (b .0) .1)
 
-pub form-short : (k : Kind) → length (humanPart (formOf k) []) ≤ 12
+pub form-short : (k : TextKind) → length (humanPart (formOf k) []) ≤ 12
 form-short Recipient = omega arith
 form-short Identity = omega arith

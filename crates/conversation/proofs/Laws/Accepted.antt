@@ -10,7 +10,7 @@ use native.Mathlib.Omega.{arith}
 use borrow.Author.Tests.{eqb-true, eqb-false}
 use Rattle.refusal.specs.Output.{overflows, filled}
 use Rattle.refusal.specs.Pick.{pick}
-use Rattle.refusal.proofs.Laws.Booleans.{and-true, cases}
+use Rattle.refusal.proofs.Laws.Booleans.{and-true}
 use Rattle.stanza.specs.Arguments.{isLine}
 use Rattle.stanza.specs.Automaton.{Scan, bad, short, whole, scan, start}
 use Rattle.stanza.specs.Grammar.{stanzaText}
@@ -19,24 +19,25 @@ use Rattle.stanza.specs.Writing.{isWritable}
 use Rattle.stanza.proofs.Laws.RoundTrip.{written-read}
 use Rattle.responses.specs.Responses.{ResponseRead, response, nothing, responseOf, responseLine, fitsWhole}
 use Rattle.responses.specs.declared.Response.{Response}
-use Rattle.responses.specs.declared.WordTwo.{WordTwo}
+use Rattle.session.specs.declared.words.WordTwo.{WordTwo}
 use Rattle.responses.proofs.Laws.Responses.{read-line}
-use Rattle.session.specs.Commands as one-command
-use Rattle.session.specs.Commands.{Word}
-use Rattle.session.specs.PhaseOne as one
-use Rattle.session.specs.PhaseOne.{firstOf, commandIn, payloadIn, numberOne, tablesOne, buffersOne}
-use Rattle.session.specs.Phases.{turnOne, phaseAfter}
-use Rattle.session.specs.Views as one-kind
+use Rattle.phase_one.specs.Commands as one-command
+use Rattle.phase_one.specs.Commands.{WordOne}
+use Rattle.phase_one.specs.PhaseOne as one
+use Rattle.refusal.specs.Verdict.{firstOf}
+use Rattle.phase_one.specs.PhaseOne.{commandIn, payloadIn, numberOne, tablesOne, buffersOne}
+use Rattle.phase_one.specs.Turns.{turnOne, phaseAfter}
+use Rattle.phase_one.specs.Views as one-kind
 use Rattle.session.specs.declared.phases.Phase.{Phase}
 use Rattle.session.specs.declared.phases.Phase.the-variants.{One, Two, Awaiting, Ended, Closed}
-use Rattle.session.proofs.Laws.PhaseOne.{accepted-one}
-use Rattle.session.proofs.Laws.Views.{Reached, applied-view, first-zero}
-use Rattle.conversation.specs.Session.{Session, moved}
+use Rattle.phase_one.proofs.Laws.PhaseOne.{accepted-one}
+use Rattle.phase_one.proofs.Laws.Views.{Reached, applied-view, first-zero}
+use Rattle.session.specs.Session.{Session, moved}
 use Rattle.conversation.specs.Kinds.{Buffers, buffersOf}
 use Rattle.conversation.specs.CommandsTwo as two-command
 use Rattle.conversation.specs.CommandsTwo.{CommandTwo, commandTwo, payloadOf}
 use Rattle.conversation.specs.PhaseTwo as two
-use Rattle.conversation.specs.TurnsTwo.{turnTwo, answered}
+use Rattle.conversation.specs.TurnsTwo.{turnTwo, dueIn, answered}
 use Rattle.conversation.specs.Receiving as receiving
 use Rattle.conversation.specs.Sending as sending
 use Rattle.conversation.specs.Sending.{shortness}
@@ -50,6 +51,7 @@ use Rattle.conversation.specs.Calls.{Call, receive, send, receive-two, r
 use Rattle.conversation.proofs.Laws.Firsts.{first-iff, short-none}
 use Rattle.conversation.proofs.Laws.Receiving.{turn-first}
 use Rattle.conversation.proofs.Laws.ReceivingTwo.{turn-second}
+use Rattle.conversation.proofs.Laws.Sending.{by-writable}
 
 -- ---- what is said of an accepted call
 
@@ -60,7 +62,7 @@ pub record Written (text out : List ℕ) (o : Outcome) : Type 0 where
   pub size : o .size ≡ length text
 
 -- one command of phase one applied, by its arguments' text and its body: the session and the buffers behind it
-pub record Applied (s : Session) (b : one.Buffers) (line body : List ℕ) (after : Session) (buffers-after : one.Buffers) : Type 0 where
+pub record Applied (s : Session) (b : one.BuffersOne) (line body : List ℕ) (after : Session) (buffers-after : one.BuffersOne) : Type 0 where
   pub turn : s .phase ≡ One
   pub argued : isLine line ≡ true
   pub faultless : one.decided (s .tables) b (commandIn (s .machine) (s .name) line body) (length (payloadIn (s .machine) (s .name) line body)) ≡ 0
@@ -135,7 +137,7 @@ read-number m w short h = number (ltb m 8192) h
     number false h = let z : _≡_ {A = ℕ} 0 3 = cc in omega arith
 read-number m w (whole k) h = let z : _≡_ {A = ℕ} 0 1 = cc in omega arith
 
-text-number : (text : List ℕ) (n : ℕ) → readFirst text ≡ refused n → n ≡ 0 → ⊥
+pub text-number : (text : List ℕ) (n : ℕ) → readFirst text ≡ refused n → n ≡ 0 → ⊥
 text-number text n q h = read-number (length text) (take 8192 text) (scan start 0 (take 8192 text)) (q ∙ ap refused h)
 
 -- No. 17 is not given, and then no fault is found
@@ -166,14 +168,14 @@ branch P number false x y p q h = absurd (q refl h)
 -- ---- phase one
 
 -- the rows that a command of phase one adds to a kind's table
-pub applied-rows : (s : Session) (b : one.Buffers) (line body : List ℕ) (after : Session) (buffers-after : one.Buffers) → Applied s b line body after buffers-after → Reached (s .tables) → (k : one-kind.Kind) →
+pub applied-rows : (s : Session) (b : one.BuffersOne) (line body : List ℕ) (after : Session) (buffers-after : one.BuffersOne) → Applied s b line body after buffers-after → Reached (s .tables) → (k : one-kind.KindOne) →
     one-kind.viewOf k (after .tables) buffers-after ≡ one-kind.viewOf k (s .tables) b ++ one-kind.rowsOf (commandIn (s .machine) (s .name) line body) k (payloadIn (s .machine) (s .name) line body)
 applied-rows s b line body after buffers-after a r k =
     ap₂ (one-kind.viewOf k) (ap (λ x. x .tables) (a .session)) (a .buffers)
     ∙ applied-view (s .tables) b (payloadIn (s .machine) (s .name) line body) r (commandIn (s .machine) (s .name) line body) (a .faultless) k
 
 -- what one command's tables and buffers are, where its number is 0; `late` as in `numberOne`
-pub one-applied : (s : Session) (b : one.Buffers) (late : ℕ) (line body : List ℕ) → s .phase ≡ One → isLine line ≡ true → eqb (numberOne (s .machine) (s .name) (s .tables) b late line body) 0 ≡ true →
+pub one-applied : (s : Session) (b : one.BuffersOne) (late : ℕ) (line body : List ℕ) → s .phase ≡ One → isLine line ≡ true → eqb (numberOne (s .machine) (s .name) (s .tables) b late line body) 0 ≡ true →
     Applied s b line body (moved s (phaseAfter (commandIn (s .machine) (s .name) line body)) (tablesOne (s .machine) (s .name) (s .tables) b late line body)) (buffersOne (s .machine) (s .name) (s .tables) b late line body)
 one-applied s b late line body o a h =
     let z = eqb-true (numberOne (s .machine) (s .name) (s .tables) b late line body) 0 h in
@@ -234,7 +236,7 @@ module _ (s : Session) (b : Buffers) where
       let text = stanzaText line body in
       let late = shortness text out in
       let n = numberOne (s .machine) (s .name) (s .tables) (b .first) late line body in
-      branch (SentOne line body out) numberSent (isWritable line body) _ _
+      by-writable (λ r. numberSent r ≡ 0 → SentOne line body out r) s (b .first) line body out
       (λ w. branch (SentOne line body out) numberSent (eqb n 0) _ _
       (λ f h. record {
         applied = one-applied s (b .first) late line body o (line-of line body w) f;
@@ -247,9 +249,9 @@ module _ (s : Session) (b : Buffers) where
         };
       })
       (λ f. eqb-false n 0 f))
-      (λ w h. omega arith)
+      (λ w h. absurd (omega arith))
 
-  sent-one : (word : Word) (arguments body out : List ℕ) → numberSent (sending.sent s word arguments body (b .first) out) ≡ 0 →
+  sent-one : (word : WordOne) (arguments body out : List ℕ) → numberSent (sending.sent s word arguments body (b .first) out) ≡ 0 →
       SentOne (one-command.lineSent word arguments) body out (sending.sent s word arguments body (b .first) out)
   unfolding sending.sent
   sent-one word arguments body out =
@@ -362,7 +364,7 @@ module _ (s : Session) (b : Buffers) where
       })
       (λ f. eqb-false z 0 f)
 
-  replied-in : (p : Phase) (r : Response) (body out : List ℕ) → s .phase ≡ p → numberOfReply (replying.repliedIn p s r body out) ≡ 0 → Replied r body out (replying.repliedIn p s r body out)
+  replied-in : (p : Phase) (r : Response) (body out : List ℕ) → s .phase ≡ p → numberOfReply (replying.repliedBy (dueIn p) s r body out) ≡ 0 → Replied r body out (replying.repliedBy (dueIn p) s r body out)
   replied-in One r body out o h = absurd (omega arith)
   replied-in Two r body out o h = absurd (omega arith)
   replied-in (Awaiting w) r body out o h = reply-to w r body out o h
@@ -405,8 +407,8 @@ module _ (s : Session) (b : Buffers) where
       respond-as w (responseOf (lineRead (stanza e n k) text)) (lineRead (stanza e n k) text) (bodyRead (stanza e n k) text) out k o (written-read text e n k q .writable) refl h
   respond-text w text out (refused n) o q h = absurd (text-number text n q h)
 
-  responded-in : (p : Phase) (text out : List ℕ) → s .phase ≡ p → numberOfResponse (responding.respondedIn p s text out) ≡ 0 →
-      Responded (lineRead (readFirst text) text) (bodyRead (readFirst text) text) out (responding.respondedIn p s text out)
+  responded-in : (p : Phase) (text out : List ℕ) → s .phase ≡ p → numberOfResponse (responding.respondedBy (dueIn p) s text out) ≡ 0 →
+      Responded (lineRead (readFirst text) text) (bodyRead (readFirst text) text) out (responding.respondedBy (dueIn p) s text out)
   responded-in One text out o h = absurd (omega arith)
   responded-in Two text out o h = absurd (omega arith)
   responded-in (Awaiting w) text out o h = respond-text w text out (readFirst text) o refl h

@@ -17,13 +17,15 @@ use Rattle.stanza.specs.Reading.{readFirst}
 use Rattle.stanza.specs.Writing.{isWritable}
 use Rattle.stanza.proofs.Laws.RoundTrip.{read-written, read-arguments, read-body}
 use Rattle.tables.specs.Tables.{Table, fits, appended, entered}
-use Rattle.session.specs.Commands.{Command, recipient, identity, key, header, done, other, bad, Word, wordOf, lineSent}
-use Rattle.session.specs.PhaseOne.{Tables, Buffers, commandIn, payloadIn, falls, decided, applied, firstOf, numberOne}
-use Rattle.session.specs.Phases.{turnOne}
-use Rattle.session.specs.Views.{Kind, recipients, identities, keys, headers, tableOf, bufferOf, viewOf, rowsOf}
+use Rattle.phase_one.specs.Commands.{CommandOne, recipient, identity, key, header, done, other, bad, WordOne, wordOf, lineSent}
+use Rattle.session.specs.Tables.{Tables}
+use Rattle.phase_one.specs.PhaseOne.{BuffersOne, commandIn, payloadIn, falls, decided, applied, numberOne}
+use Rattle.refusal.specs.Verdict.{firstOf}
+use Rattle.phase_one.specs.Turns.{turnOne}
+use Rattle.phase_one.specs.Views.{KindOne, recipients, identities, keys, headers, tableOf, bufferOf, viewOf, rowsOf}
 use Rattle.session.specs.declared.phases.Phase.the-variants.{One}
-use Rattle.session.proofs.Laws.Views.{Reached, space, header-space}
-use Rattle.conversation.specs.Session.{Session}
+use Rattle.phase_one.proofs.Laws.Views.{Reached, space, header-space}
+use Rattle.session.specs.Session.{Session}
 use Rattle.conversation.specs.Receiving.{took, Received, refusedReceipt, receivedStanza, receivedAs, received}
 use Rattle.conversation.specs.Sending.{Sent, sent}
 use Rattle.conversation.specs.Kinds as kinds
@@ -46,13 +48,13 @@ fits-again t n index mark c c′ f h =
     let u : t .used + n ≤ c′ = subst (λ g. pick g (appended t n index mark) t .used ≤ c′) f h in
     true-and (ltb (t .count) (t .width)) (leb (t .used + n) c′) (and-true (ltb (t .count) (t .width)) (leb (t .used + n) c) f .0) (le-leb (t .used + n) c′ u) ∙ sym f
 
-module _ (t : Tables) (b b′ : Buffers) (p : List ℕ) where
+module _ (t : Tables) (b b′ : BuffersOne) (p : List ℕ) where
   -- the other end's buffers are long enough for what the tables then take
-  abbrev Enough : Command → Type 0
-  Enough c = (k : Kind) → tableOf k (applied t b c p) .used ≤ length (bufferOf k b′)
+  abbrev Enough : CommandOne → Type 0
+  Enough c = (k : KindOne) → tableOf k (applied t b c p) .used ≤ length (bufferOf k b′)
 
   -- the same number, and the same tables
-  again : (c : Command) → decided t b c (length p) ≡ 0 → Enough c → (decided t b′ c (length p) ≡ 0) × (applied t b′ c p ≡ applied t b c p)
+  again : (c : CommandOne) → decided t b c (length p) ≡ 0 → Enough c → (decided t b′ c (length p) ≡ 0) × (applied t b′ c p ≡ applied t b c p)
   again (recipient m) h r =
       let e = fits-again (t .recipients) (length p) 0 m (length (b .recipients)) (length (b′ .recipients)) (space (fits (t .recipients) (length p) (length (b .recipients))) h) (r recipients) in
       (ap (λ x. pick x 0 8) e ∙ h, rw e)
@@ -71,7 +73,7 @@ module _ (t : Tables) (b b′ : Buffers) (p : List ℕ) where
 
 -- ---- the plugin's side: what it reads
 
-module _ (s : Session) (b : Buffers) (line body : List ℕ) where
+module _ (s : Session) (b : BuffersOne) (line body : List ℕ) where
   text-received : (rest : List ℕ) → s .phase ≡ One → isWritable line body ≡ true → areBytes body ≡ true →
       received s (stanzaText line body ++ rest) b ≡ receivedStanza s b line body (length (stanzaText line body))
   unfolding received
@@ -99,16 +101,16 @@ module _ (s : Session) (b : Buffers) (line body : List ℕ) where
 -- ---- both
 
 -- phase one's buffers, with none of phase two's beside them
-abbrev lent : Buffers → kinds.Buffers
+abbrev lent : BuffersOne → kinds.Buffers
 lent b = kinds.buffersOf b (two.buffersOf [] [] [])
 
 -- a sending r by the client's session s, and a receipt r′ by the plugin's s′: n bytes are written, the stanza's text; all of them are taken, as the same
 -- command; the sessions are alike again, and views that were equal are equal again
-pub record Agreed (s s′ : Session) (b b′ : Buffers) (line body : List ℕ) (n : ℕ) (r : Sent) (r′ : Received) : Type 0 where
+pub record Agreed (s s′ : Session) (b b′ : BuffersOne) (line body : List ℕ) (n : ℕ) (r : Sent) (r′ : Received) : Type 0 where
   pub written : take n (r .output) ≡ stanzaText line body
   pub answer : r′ .answer ≡ took (wordOf (commandIn (s .machine) (s .name) line body)) n
   pub alike : Alike (r .session) (r′ .session)
-  pub views : Reached (s .tables) → ((k : Kind) → viewOf k (s .tables) b ≡ viewOf k (s′ .tables) b′) → (k : Kind) → viewOf k (r .session .tables) (r .buffers) ≡ viewOf k (r′ .session .tables) (r′ .buffers)
+  pub views : Reached (s .tables) → ((k : KindOne) → viewOf k (s .tables) b ≡ viewOf k (s′ .tables) b′) → (k : KindOne) → viewOf k (r .session .tables) (r .buffers) ≡ viewOf k (r′ .session .tables) (r′ .buffers)
 
 -- the plugin's session is the client's with a screen of its own
 alike-is : (s s′ : Session) → Alike s s′ → _≡_ {A = Session} (record { machine = s .machine; name = s .name; screen = s′ .screen; phase = s .phase; tables = s .tables }) s′
@@ -118,9 +120,9 @@ alike-is s s′ a = rw (a .machine, a .name, a .phase, a .tables)
 front : (text out : List ℕ) → overflows text out ≡ false → take (length text) (filled text out) ≡ text
 front text out e = ap (λ f. take (length text) (pick f out (text ++ drop (length text) out))) e ∙ take-append-seam text (drop (length text) out)
 
-module _ (s : Session) (b b′ : Buffers) (line body out : List ℕ) (n : ℕ) (r : Sent) where
+module _ (s : Session) (b b′ : BuffersOne) (line body out : List ℕ) (n : ℕ) (r : Sent) where
   agreed-like : (screen : Bool) (rest : List ℕ) → areBytes body ≡ true → AppliedOne s (lent b) line body (stanzaText line body) out (sentOutcome (lent b .second) r) → r .answer ≡ bytes n →
-      ((k : Kind) → tableOf k (r .session .tables) .used ≤ length (bufferOf k b′)) →
+      ((k : KindOne) → tableOf k (r .session .tables) .used ≤ length (bufferOf k b′)) →
       let s′ : Session = record { machine = s .machine; name = s .name; screen = screen; phase = s .phase; tables = s .tables } in
       Agreed s s′ b b′ line body n r (received s′ (stanzaText line body ++ rest) b′)
   agreed-like screen rest a w q l =
@@ -147,10 +149,10 @@ module _ (s : Session) (b b′ : Buffers) (line body out : List ℕ) (n : ℕ) (
       }
 
 -- what the client sends the plugin accepts, at the front of any text that begins with it, where each of its buffers is long enough for what the client's table takes
-pub agreement : (s s′ : Session) (b b′ : Buffers) (word : Word) (arguments body out text : List ℕ) (n : ℕ) → Alike s s′ → areBytes body ≡ true →
+pub agreement : (s s′ : Session) (b b′ : BuffersOne) (word : WordOne) (arguments body out text : List ℕ) (n : ℕ) → Alike s s′ → areBytes body ≡ true →
     sent s word arguments body b out .answer ≡ bytes n →
     take n text ≡ take n (sent s word arguments body b out .output) →
-    ((k : Kind) → tableOf k (sent s word arguments body b out .session .tables) .used ≤ length (bufferOf k b′)) →
+    ((k : KindOne) → tableOf k (sent s word arguments body b out .session .tables) .used ≤ length (bufferOf k b′)) →
     Agreed s s′ b b′ (lineSent word arguments) body n (sent s word arguments body b out) (received s′ text b′)
 agreement s s′ b b′ word arguments body out text n a y q e l =
     let r = sent s word arguments body b out in

@@ -7,17 +7,18 @@ use mathlib.Core.List.{List, [], _∷_, _++_, map, map-append, append-nil, appen
 use lib.ListN.{length}
 use native.Mathlib.Omega.{arith}
 use Rattle.tables.specs.Tables.{Table, Row}
-use Rattle.session.specs.declared.commands.Machine.{Machine}
-use Rattle.session.specs.Commands.{Command, recipient, identity, key, header, done, other, bad}
-use Rattle.session.specs.PhaseOne.{Tables, Buffers, openedTables, applied}
-use Rattle.session.specs.Views.{Kind, recipients, identities, keys, headers, bufferOf, viewOf}
-use Rattle.session.proofs.Laws.Views.{Reached, opened-reached}
-use Rattle.conversation.specs.Session.{Session, openedSession}
+use Rattle.session.specs.declared.opening.Machine.{Machine}
+use Rattle.phase_one.specs.Commands.{CommandOne, recipient, identity, key, header, done, other, bad}
+use Rattle.session.specs.Tables.{Tables, openedTables}
+use Rattle.phase_one.specs.PhaseOne.{BuffersOne, applied}
+use Rattle.phase_one.specs.Views.{KindOne, recipients, identities, keys, headers, bufferOf, viewOf}
+use Rattle.phase_one.proofs.Laws.Views.{Reached, opened-reached}
+use Rattle.session.specs.Session.{Session, openedSession}
 use Rattle.conversation.specs.Kinds.{buffersOf}
 use Rattle.conversation.specs.Kinds as kinds
 use Rattle.conversation.specs.PhaseTwo as two
 use Rattle.conversation.specs.Calls.{receive, outcome, State, after, numbers, AllZero, Accepted}
-use Rattle.conversation.specs.Phases.{All, Whole, isDone, commandOf, rowsFrom, one-part, Block, Phase, blocksOf, Quiet, IsPhase, Supply, skip, replyCalls, callsOf}
+use Rattle.conversation.specs.Phases.{All, Whole, isDone, commandOf, rowsFrom, one-part, Block, Phase, blocksOf, Quiet, IsPhase, Supply, skip, replyCalls, callsOf, textsOf}
 use Rattle.conversation.specs.Allowed.{isRight, rowsIn, Rising, Allowed}
 use Rattle.conversation.proofs.Laws.Lists.{all-map}
 use Rattle.conversation.proofs.Laws.Limits.{Ordered, Within, within-front}
@@ -28,7 +29,7 @@ abbrev lateOf : Tables → Table × Table × Table
 lateOf t = (t .errors, t .stanzas, t .returned)
 
 -- which phase one leaves as they were
-applied-late : (t : Tables) (b : Buffers) (c : Command) (p : List ℕ) → lateOf (applied t b c p) ≡ lateOf t
+applied-late : (t : Tables) (b : BuffersOne) (c : CommandOne) (p : List ℕ) → lateOf (applied t b c p) ≡ lateOf t
 applied-late t b (recipient m) p = refl
 applied-late t b (identity m) p = refl
 applied-late t b key p = refl
@@ -38,11 +39,11 @@ applied-late t b other p = refl
 applied-late t b (bad n) p = refl
 
 -- what rows more leave
-record Left (t : Tables) (b : Buffers) (rows : Kind → List Row) (x : State) : Type 0 where
-  views : (k : Kind) → viewOf k (x .session .tables) (x .buffers .first) ≡ viewOf k t b ++ rows k
+record Left (t : Tables) (b : BuffersOne) (rows : KindOne → List Row) (x : State) : Type 0 where
+  views : (k : KindOne) → viewOf k (x .session .tables) (x .buffers .first) ≡ viewOf k t b ++ rows k
   late : lateOf (x .session .tables) ≡ lateOf t
 
-within-same : {k : Kind} {m n : ℕ} {rs qs : List Row} → m ≡ n → rs ≡ qs → Within k m rs → Within k n qs
+within-same : {k : KindOne} {m n : ℕ} {rs qs : List Row} → m ≡ n → rs ≡ qs → Within k m rs → Within k n qs
 within-same {k = k} {n = n} {rs = rs} e q w = subst (Within k n) q (subst (λ m. Within k m rs) e w)
 
 -- ---- from any tables that calls can reach
@@ -52,22 +53,22 @@ module _ (machine : Machine) (name : List ℕ) where
   abbrev Right : List (List ℕ) → Type 0
   Right ts = All (λ x. isRight (commandOf machine name x) ≡ true) ts
 
-  abbrev rows : List (List ℕ) → Kind → List Row
+  abbrev rows : List (List ℕ) → KindOne → List Row
   rows ts k = rowsIn machine name k ts
 
   -- a text is accepted; the tables and the buffers behind it
-  abbrev Zero : Tables → Buffers → List ℕ → Type 0
+  abbrev Zero : Tables → BuffersOne → List ℕ → Type 0
   Zero t b x = judged machine name t b x ≡ 0
 
-  abbrev tables : Tables → Buffers → List ℕ → Tables
+  abbrev tables : Tables → BuffersOne → List ℕ → Tables
   tables t b x = tablesWith machine name t b x
 
-  abbrev buffers : Tables → Buffers → List ℕ → Buffers
+  abbrev buffers : Tables → BuffersOne → List ℕ → BuffersOne
   buffers t b x = buffersWith machine name t b x
 
-  module _ (t : Tables) (b : Buffers) (x : List ℕ) (more : Kind → List Row) where
+  module _ (t : Tables) (b : BuffersOne) (x : List ℕ) (more : KindOne → List Row) where
     -- rows more behind its own
-    view-more : Whole x → Going t b → Zero t b x → (k : Kind) → viewOf k (tables t b x) (buffers t b x) ++ more k ≡ viewOf k t b ++ (rowsFrom machine name k x ++ more k)
+    view-more : Whole x → Going t b → Zero t b x → (k : KindOne) → viewOf k (tables t b x) (buffers t b x) ++ more k ≡ viewOf k t b ++ (rowsFrom machine name k x ++ more k)
     view-more w g z k = ap (λ v. v ++ more k) (view-with machine name t b x w g z k) ∙ append-assoc (viewOf k t b) (rowsFrom machine name k x) (more k)
 
     -- their limits are the same
@@ -83,17 +84,17 @@ module _ (machine : Machine) (name : List ℕ) where
         within-front k (length (bufferOf k b)) (viewOf k t b ++ rowsFrom machine name k x) (more k) (within-same refl (sym (append-assoc (viewOf k t b) (rowsFrom machine name k x) (more k))) (f k))
 
   -- phase two's buffers are lent beside and stay
-  module _ (screen : Bool) (later : two.Buffers) where
+  module _ (screen : Bool) (later : two.BuffersTwo) where
     abbrev session : Tables → Session
     session t = going machine name screen t
 
     -- what follows an accepted text that is not done
-    follows : {X : Type 0} (f : Session → kinds.Buffers → X) (t : Tables) (b : Buffers) (x : List ℕ) → Whole x → Zero t b x → isDone x ≡ false →
+    follows : {X : Type 0} (f : Session → kinds.Buffers → X) (t : Tables) (b : BuffersOne) (x : List ℕ) → Whole x → Zero t b x → isDone x ≡ false →
         f (outcome (session t) (buffersOf b later) (receive x) .session) (outcome (session t) (buffersOf b later) (receive x) .buffers) ≡ f (session (tables t b x)) (buffersOf (buffers t b x) later)
     follows f t b x w z d = ap₂ f (session-received machine name screen t b later x w z d) (buffers-received machine name screen t b later x w z)
 
     -- texts of which only the last may be done are accepted exactly if they are right and their rows are within the limits
-    from-iff : (xs : List (List ℕ)) (y : List ℕ) (t : Tables) (b : Buffers) → Going t b → All Whole (xs ++ (y ∷ [])) → All (λ x. isDone x ≡ false) xs →
+    from-iff : (xs : List (List ℕ)) (y : List ℕ) (t : Tables) (b : BuffersOne) → Going t b → All Whole (xs ++ (y ∷ [])) → All (λ x. isDone x ≡ false) xs →
         Accepted (session t) (buffersOf b later) (map receive (xs ++ (y ∷ []))) ↔ (Right (xs ++ (y ∷ [])) × Fitting t b (rows (xs ++ (y ∷ []))))
     unfolding All AllZero numbers rowsIn
     from-iff [] y t b g w d =
@@ -118,7 +119,7 @@ module _ (machine : Machine) (name : List ℕ) where
         )
 
     -- and what they leave then
-    from-left : (xs : List (List ℕ)) (y : List ℕ) (t : Tables) (b : Buffers) → Going t b → All Whole (xs ++ (y ∷ [])) → All (λ x. isDone x ≡ false) xs →
+    from-left : (xs : List (List ℕ)) (y : List ℕ) (t : Tables) (b : BuffersOne) → Going t b → All Whole (xs ++ (y ∷ [])) → All (λ x. isDone x ≡ false) xs →
         Accepted (session t) (buffersOf b later) (map receive (xs ++ (y ∷ []))) → Left t b (rows (xs ++ (y ∷ []))) (after (session t) (buffersOf b later) (map receive (xs ++ (y ∷ []))))
     unfolding All AllZero numbers rowsIn after
     from-left [] y t b g w d a =
@@ -140,30 +141,26 @@ module _ (machine : Machine) (name : List ℕ) where
 
 -- ---- from an opening
 
-opened-going : (b : Buffers) → Going openedTables b
+opened-going : (b : BuffersOne) → Going openedTables b
 unfolding Reached Rising
 opened-going b recipients = record { reached = opened-reached recipients; wide = refl; room = omega arith; ordered = tt }
 opened-going b identities = record { reached = opened-reached identities; wide = refl; room = omega arith; ordered = tt }
 opened-going b keys = record { reached = opened-reached keys; wide = refl; room = omega arith; ordered = tt }
 opened-going b headers = record { reached = opened-reached headers; wide = refl; room = omega arith; ordered = tt }
 
-opened-none : (b : Buffers) (k : Kind) (rs : List Row) → viewOf k openedTables b ++ rs ≡ rs
+opened-none : (b : BuffersOne) (k : KindOne) (rs : List Row) → viewOf k openedTables b ++ rs ≡ rs
 opened-none b recipients rs = refl
 opened-none b identities rs = refl
 opened-none b keys rs = refl
 opened-none b headers rs = refl
 
-allowed-ordered : (rows : Kind → List Row) → Rising (rows headers) → (k : Kind) → Ordered k (rows k)
+allowed-ordered : (rows : KindOne → List Row) → Rising (rows headers) → (k : KindOne) → Ordered k (rows k)
 allowed-ordered rows h recipients = tt
 allowed-ordered rows h identities = tt
 allowed-ordered rows h keys = tt
 allowed-ordered rows h headers = h
 
 -- ---- a phase
-
--- a phase's texts
-abbrev pub textsOf : Phase → List (List ℕ)
-textsOf p = map (λ x. x .text) (blocksOf p)
 
 -- blocks without replies are received as their texts, whatever the supply
 pub quiet-calls : (outs : Supply) (xs : List Block) → All (Quiet one-part) xs → callsOf one-part outs xs ≡ map receive (map (λ x. x .text) xs)
@@ -175,7 +172,7 @@ quiet-calls outs (x ∷ xs) h =
 
 -- each kind's table is the rows of the phase's texts, in order, and phase two's tables are as they were opened
 pub record Holds (machine : Machine) (name : List ℕ) (ts : List (List ℕ)) (x : State) : Type 0 where
-  pub views : (k : Kind) → viewOf k (x .session .tables) (x .buffers .first) ≡ rowsIn machine name k ts
+  pub views : (k : KindOne) → viewOf k (x .session .tables) (x .buffers .first) ≡ rowsIn machine name k ts
   pub errors : x .session .tables .errors ≡ openedTables .errors
   pub stanzas : x .session .tables .stanzas ≡ openedTables .stanzas
   pub returned : x .session .tables .returned ≡ openedTables .returned
@@ -188,13 +185,13 @@ module _ (machine : Machine) (name : List ℕ) (screen : Bool) (b : kinds.Buffer
     abbrev texts : List (List ℕ)
     texts = xs ++ (y ∷ [])
 
-    none-yet : (k : Kind) → viewOf k openedTables (b .first) ++ rowsIn machine name k texts ≡ rowsIn machine name k texts
+    none-yet : (k : KindOne) → viewOf k openedTables (b .first) ++ rowsIn machine name k texts ≡ rowsIn machine name k texts
     none-yet k = opened-none (b .first) k (rowsIn machine name k texts)
 
-    texts-iff : Accepted start b (map receive texts) ↔ Allowed machine name (b .first) texts
+    pub texts-iff : Accepted start b (map receive texts) ↔ Allowed machine name (b .first) texts
     texts-iff =
         let i = from-iff machine name screen (b .second) xs y openedTables (b .first) (opened-going (b .first)) w d in (
-          λ a. let f : (k : Kind) → Within k (length (bufferOf k (b .first))) (rowsIn machine name k texts) = λ k. within-same refl (none-yet k) (i .0 a .1 k) in
+          λ a. let f : (k : KindOne) → Within k (length (bufferOf k (b .first))) (rowsIn machine name k texts) = λ k. within-same refl (none-yet k) (i .0 a .1 k) in
               record { right = i .0 a .0; slots = λ k. f k .slots; bytes = λ k. f k .bytes; rising = f headers .ordered },
           λ a. i .1 (a .right, λ k. within-same refl (sym (none-yet k)) (record { slots = a .slots k; bytes = a .bytes k; ordered = allowed-ordered (λ k. rowsIn machine name k texts) (a .rising) k })),
         )

@@ -5,9 +5,9 @@ use mathlib.Core.Bool.{Bool, true, false, not, _&&_, _||_, true≢false, false�
 use mathlib.Core.Logic.{_⊎_, inl, inr, ⊎-elim, _↔_}
 use mathlib.Core.List.{List, [], _∷_, _++_, map, map-append, append-nil, append-assoc}
 use lib.Dec.{ltb, eqb}
-use lib.ListN.{length, take}
+use lib.ListN.{length}
 use native.Mathlib.Omega.{arith}
-use borrow.Author.Tests.{ltb-true, lt-ltb, ltb-false, eqb-true, eqb-false, eq-eqb, ne-eqb, not-false}
+use borrow.Author.Tests.{ltb-true, lt-ltb, eqb-true, eqb-false, eq-eqb, ne-eqb, not-false}
 use Rattle.refusal.specs.Pick.{pick}
 use Rattle.refusal.specs.Same.{same}
 use Rattle.refusal.proofs.Laws.Booleans.{and-true, true-and, cases}
@@ -16,14 +16,15 @@ use Rattle.stanza.specs.Reading as reading
 use Rattle.stanza.specs.Reading.{Reading, readFirst}
 use Rattle.stanza.specs.Writing.{isWritable}
 use Rattle.responses.specs.Responses.{fitsWhole, ResponseRead, response, responseOf}
-use Rattle.responses.specs.declared.WordTwo.{WordTwo}
+use Rattle.session.specs.declared.words.WordTwo.{WordTwo}
 use Rattle.tables.specs.Tables.{Row, view}
-use Rattle.session.specs.Commands.{isBare}
-use Rattle.session.specs.PhaseOne.{Tables, firstOf}
-use Rattle.session.specs.Views as one-kind
-use Rattle.session.specs.Views.{recipients, identities, headers}
+use Rattle.phase_one.specs.Commands.{isBare}
+use Rattle.session.specs.Tables.{Tables}
+use Rattle.refusal.specs.Verdict.{firstOf}
+use Rattle.phase_one.specs.Views as one-kind
+use Rattle.phase_one.specs.Views.{recipients, identities, headers}
 use Rattle.session.specs.declared.phases.Phase.the-variants.{Two, Awaiting, Ended}
-use Rattle.conversation.specs.Calls.{Call, send-two, respond, sentNumber, respondedNumber, Outcome, outcome, writtenBy, stateOf, after, numbers, lineRead, bodyRead, AllZero, Accepted}
+use Rattle.conversation.specs.Calls.{Call, send-two, respond, sentNumber, respondedNumber, outcome, writtenBy, stateOf, after, numbers, lineRead, bodyRead, AllZero, Accepted}
 use Rattle.conversation.specs.CommandsTwo.{Named, internal, identity, recipient, header, CommandTwo, ask, stanza, key, error, done, other, bad, wordOf}
 use Rattle.conversation.specs.Kinds.{Buffers, buffersOf}
 use Rattle.conversation.specs.PhaseTwo.{Label, labels, howMany, isAny, passes, isFile, markOf, indexOf, isNaming, isInvalid, anyInvalid, isNonconforming, isUnknown, areReported, allReported, isHeldBack, decided, applied, filledBy, rowsOf, errors}
@@ -32,18 +33,18 @@ use Rattle.conversation.specs.Responding as responding
 use Rattle.conversation.specs.Responding.{respondedAs, respondedText}
 use Rattle.conversation.specs.Sending.{shortness}
 use Rattle.conversation.specs.SendingTwo.{phaseSent, Sent, sentLine, sent}
-use Rattle.conversation.specs.Session.{Session}
-use Rattle.conversation.specs.Allowed.{Left, isRightTwo, RowAt, Present, Said, Exchange, lineOf, commandSent, saidIn, OneResponse, Responded, NoneInvalid, Unheld, Some, Reported, AllReported, RightExchange, AllowedSent, isDoneSent, responseCalls, exchangeCalls, sendingCalls}
-use Rattle.conversation.proofs.Laws.Accepted.{Written, accepted}
+use Rattle.session.specs.Session.{Session}
+use Rattle.conversation.specs.Allowed.{Left, isRightTwo, RowAt, Present, Said, Exchange, lineOf, commandSent, saidIn, OneResponse, Responded, NoneInvalid, Unheld, Some, Reported, AllReported, RightExchange, AllowedSent, isDoneSent, responseCalls, exchangeCalls, sendingCalls, leftOf, capacityOf}
+use Rattle.conversation.proofs.Laws.Accepted.{accepted}
 use Rattle.conversation.proofs.Laws.AllowedTwo.{Standing, decided-exact, standing-with, Fitting, fitting-front, fitting-one, fitting-rest, done-word}
 use Rattle.conversation.proofs.Laws.CommandsTwo.{Proper, command-proper}
 use Rattle.conversation.proofs.Laws.Firsts.{first-iff}
 use Rattle.conversation.proofs.Laws.DecidedTwo.{decided-iff, rowLabel, rowLabels, labels-view, many-append}
-use Rattle.conversation.proofs.Laws.OrderTwo.{leftOf, capacityOf, begins, two-session, fitting-all}
+use Rattle.conversation.proofs.Laws.OrderTwo.{begins, two-session, fitting-all}
 use Rattle.conversation.proofs.Laws.PresentTwo.{Shows}
 use Rattle.conversation.proofs.Laws.Reached.{JustReached}
 use Rattle.conversation.proofs.Laws.Runs.{accepted-append, enough-append}
-use Rattle.conversation.proofs.Laws.StepsTwo.{long-enough, all-written, at, Settled}
+use Rattle.conversation.proofs.Laws.StepsTwo.{long-enough, at, Settled}
 use Rattle.conversation.proofs.Laws.SumsTwo.{With, not-any, none-any, or-false, false-or, not-is}
 use Rattle.conversation.proofs.Laws.ViewsTwo.{applied-view-two}
 use Rattle.conversation.proofs.Laws.WrittenRead.{front}
@@ -84,7 +85,7 @@ or-iff : {X Y : Type 0} (a b : Bool) → (a ≡ false) ↔ X → (b ≡ false) �
 or-iff a b i j = (λ e. let h = or-false a b e in (i .0 (h .0), j .0 (h .1)), λ h. false-or a b (i .1 (h .0)) (j .1 (h .1)))
 
 module _ (t : Tables) (left : Left) (s : Shows t left) where
-  none-of : (q : Label → Bool) (P : Row → Type 0) → ((r : Row) → (q (rowLabel r) ≡ false) ↔ P r) → (k : one-kind.Kind) → (isAny q (labels (one-kind.tableOf k t)) ≡ false) ↔ All P (left k)
+  none-of : (q : Label → Bool) (P : Row → Type 0) → ((r : Row) → (q (rowLabel r) ≡ false) ↔ P r) → (k : one-kind.KindOne) → (isAny q (labels (one-kind.tableOf k t)) ≡ false) ↔ All P (left k)
   none-of q P same k = subst (λ l. (isAny q l ≡ false) ↔ All P (left k)) (sym (s .labelled k)) (none-iff q P same (left k))
 
   valid-iff : (anyInvalid t ≡ false) ↔ NoneInvalid left
@@ -200,7 +201,7 @@ all-reported-iff t left cs s e =
       λ y. true-and _ _ (true-and _ _ (r .1 (y .of-recipients)) (i .1 (y .of-identities))) (h .1 (y .of-headers)),
     )
   where
-    of : (k : one-kind.Kind) (test : Label → Bool) (Owes : Row → Type 0) → ((r : Row) → (test (rowLabel r) ≡ true) ↔ Owes r) → (mark : ℕ) (Names : ℕ → CommandTwo → Type 0) →
+    of : (k : one-kind.KindOne) (test : Label → Bool) (Owes : Row → Type 0) → ((r : Row) → (test (rowLabel r) ≡ true) ↔ Owes r) → (mark : ℕ) (Names : ℕ → CommandTwo → Type 0) →
         ((n : ℕ) (x : Named) → (isNaming mark n (labelNamed x) ≡ true) ↔ Names n (error x)) → ((n : ℕ) (c : CommandTwo) → Names n c → isError c ≡ true) →
         (areReported test mark 0 (labels (one-kind.tableOf k t)) (labels (t .errors)) ≡ true) ↔ Reported Owes Names 0 (left k) cs
     of k test Owes same mark Names names only =
@@ -228,13 +229,13 @@ module _ (s : Session) (t : Tables) (b : Buffers) (x : Exchange) where
   text = stanzaText (lineOf x) (x .body)
 
   -- it can be written and the decision finds no fault; the tables and the buffers behind it
-  abbrev Judged : Type 0
+  abbrev pub Judged : Type 0
   Judged = (isWritable (lineOf x) (x .body) ≡ true) × (decided true t (b .second) c (length p) ≡ 0)
 
-  abbrev tablesSent : Tables
+  abbrev pub tablesSent : Tables
   tablesSent = applied t (b .second) c p
 
-  abbrev buffersSent : Buffers
+  abbrev pub buffersSent : Buffers
   buffersSent = buffersOf (b .first) (filledBy t (b .second) c p)
 
   sent-zero : (out : List ℕ) → Judged → length text ≤ length out → outcome (at s Two t) b (call out) .number ≡ 0
@@ -244,10 +245,10 @@ module _ (s : Session) (t : Tables) (b : Buffers) (x : Exchange) where
       pick-zero (λ (r : Sent). sentNumber (r .answer)) (eqb n 0) _ _ (eq-eqb n 0 (first-iff _ _ .1 (ap (λ f. pick f (decided true t (b .second) c (length p)) 17) (j .0) ∙ j .1, long-enough text out h))) refl
 
   -- it is accepted exactly then
-  sent-to : (out : List ℕ) → outcome (at s Two t) b (call out) .number ≡ 0 → Judged
+  pub sent-to : (out : List ℕ) → outcome (at s Two t) b (call out) .number ≡ 0 → Judged
   sent-to out z = let a = accepted (at s Two t) b (call out) z in (a .writable, a .faultless)
 
-  sent-from : (out : List ℕ) → ((big : List ℕ) → length (writtenBy (at s Two t) b (call big)) ≤ length out) → Judged → outcome (at s Two t) b (call out) .number ≡ 0
+  pub sent-from : (out : List ℕ) → ((big : List ℕ) → length (writtenBy (at s Two t) b (call big)) ≤ length out) → Judged → outcome (at s Two t) b (call out) .number ≡ 0
   sent-from out e j =
       let a = accepted (at s Two t) b (call text) (sent-zero text j (omega arith)) in
       sent-zero out j (subst (λ k. k ≤ length out) (ap length (front text text _ (a .written))) (e text))
@@ -322,7 +323,7 @@ none-accepted s b outs us e = subst (λ us. Accepted s b (responseCalls outs us)
 -- ---- an exchange
 
 -- a right command that is not done awaits its one response
-awaits : (c : CommandTwo) → Proper false c → isRightTwo c ≡ true → (phaseSent c ≡ Awaiting (wordOf c)) × ((us : List (List ℕ)) → Responded c us ↔ OneResponse (wordOf c) us)
+pub awaits : (c : CommandTwo) → Proper false c → isRightTwo c ≡ true → (phaseSent c ≡ Awaiting (wordOf c)) × ((us : List (List ℕ)) → Responded c us ↔ OneResponse (wordOf c) us)
 awaits (ask w) d e = (refl, λ us. (λ h. h, λ h. h))
 awaits (stanza f) d e = (refl, λ us. (λ h. h, λ h. h))
 awaits (key f) d e = (refl, λ us. (λ h. h, λ h. h))
@@ -370,12 +371,12 @@ module _ (s : Session) (left : Left) (t : Tables) (b : Buffers) (x : Exchange) (
       ∙ ap (λ l. l ++ rowLabels (rowsOf c′ errors p′)) (sym (labels-view (t .errors) (b .second .errors)) ∙ n)
       ∙ sym (named-more h (saidIn (s .machine) x))
 
-  standing-behind : decided true t (b .second) c′ (length p′) ≡ 0 → Standing left t′ (b′ .second)
+  pub standing-behind : decided true t (b .second) c′ (length p′) ≡ 0 → Standing left t′ (b′ .second)
   standing-behind z = standing-with true left t (b .second) c′ p′ g (decided-iff true t (b .second) c′ (length p′) .0 z)
 
   -- one that is not done
   module _ (d : isDoneSent x ≡ false) where
-    exchange-iff : (Judged s t b x × Responded c′ (x .responses)) ↔ (RightExchange (s .machine) left x × With t (b .second) c′ p′)
+    pub exchange-iff : (Judged s t b x × Responded c′ (x .responses)) ↔ (RightExchange (s .machine) left x × With t (b .second) c′ p′)
     exchange-iff = (
       λ h.
           let q = exact .0 (h .0 .1) in
@@ -393,7 +394,7 @@ module _ (s : Session) (left : Left) (t : Tables) (b : Buffers) (x : Exchange) (
           stateOf (outcome (at s Two t) b (call s t b x (outs 0)) .session) (outcome (at s Two t) b (call s t b x (outs 0)) .buffers) ≡ stateOf (at s (Awaiting (wordOf c′)) t′) b′
       waiting z r = sent-state s t b x (outs 0) z ∙ ap (λ q. stateOf (at s q t′) b′) (awaits c′ (proper false d) r .0)
 
-      exchange-to : Accepted (at s Two t) b (exchangeCalls outs x) → Settled (after (at s Two t) b (exchangeCalls outs x) .session .phase) → Judged s t b x × Responded c′ (x .responses)
+      pub exchange-to : Accepted (at s Two t) b (exchangeCalls outs x) → Settled (after (at s Two t) b (exchangeCalls outs x) .session .phase) → Judged s t b x × Responded c′ (x .responses)
       unfolding AllZero numbers after
       exchange-to a h =
           let j = sent-to s t b x (outs 0) (a .0) in
@@ -404,7 +405,7 @@ module _ (s : Session) (left : Left) (t : Tables) (b : Buffers) (x : Exchange) (
                 (responses-to s t′ b′ (wordOf c′) (skip 1 outs) (x .responses) (subst (λ u. Accepted (u .session) (u .buffers) cs) e (a .1)) (subst (λ u. Settled (after (u .session) (u .buffers) cs .session .phase)) e h)),
           )
 
-      exchange-from : LongEnough (at s Two t) b (exchangeCalls outs x) → Judged s t b x → Responded c′ (x .responses) →
+      pub exchange-from : LongEnough (at s Two t) b (exchangeCalls outs x) → Judged s t b x → Responded c′ (x .responses) →
           Accepted (at s Two t) b (exchangeCalls outs x) × (after (at s Two t) b (exchangeCalls outs x) ≡ stateOf (at s Two t′) b′)
       unfolding AllZero numbers after LongEnough
       exchange-from l j q =

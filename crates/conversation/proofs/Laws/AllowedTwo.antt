@@ -1,10 +1,9 @@
 -- Phase two at the client end: exactly the allowed phases are accepted, and what they leave and write.
 use Prim.Native.Nat.{ℕ, _+_, _≤_}
-use mathlib.Core.Path.{_≡_, refl, sym, ap, ap₂, _∙_, subst, subst₂}
-use mathlib.Core.Bool.{Bool, true, false, _&&_, true≢false, false≢true}
+use mathlib.Core.Path.{_≡_, refl, sym, ap, ap₂, _∙_, subst}
+use mathlib.Core.Bool.{Bool, true, false, _&&_, false≢true}
 use mathlib.Core.Logic.{_⊎_, inl, inr, ⊎-elim, _↔_}
-use mathlib.Core.List.{List, [], _∷_, _++_, map, append-nil, append-assoc}
-use lib.Dec.{eqb, leb, ltb}
+use mathlib.Core.List.{List, [], _∷_, _++_, map}
 use lib.ListN.{length}
 use native.Mathlib.Omega.{arith}
 use Rattle.refusal.specs.Pick.{pick}
@@ -12,38 +11,35 @@ use Rattle.refusal.specs.Same.{same}
 use Rattle.refusal.proofs.Laws.Booleans.{cases}
 use Rattle.refusal.proofs.Laws.Same.{same-eq}
 use Rattle.stanza.specs.Arguments.{argumentOf}
-use Rattle.responses.specs.declared.WordTwo.{WordTwo}
-use Rattle.tables.specs.Tables.{Table, Row, fits, entered, kept, placed}
-use Rattle.tables.proofs.Laws.Tables.{Kept, entered-kept}
-use Rattle.session.specs.Commands.{doneWord, isBare}
-use Rattle.session.specs.PhaseOne.{Tables}
-use Rattle.session.specs.Views as one-kind
-use Rattle.session.specs.Views.{recipients, identities, keys, headers}
-use Rattle.session.specs.declared.commands.Machine.{Machine}
-use Rattle.session.specs.declared.commands.Machine.the-variants.{RecipientV1, IdentityV1}
-use Rattle.session.specs.declared.phases.Phase.{Phase}
-use Rattle.session.specs.declared.phases.Phase.the-variants.{Two, Ended}
-use Rattle.conversation.specs.Calls.{Call, receive-two, outcome, State, stateOf, after, numbers, written, AllZero, Accepted}
-use Rattle.conversation.specs.CommandsTwo.{Named, CommandTwo, ask, stanza, key, error, done, other, bad, commandTwo, rowTwo, wordTwo}
-use Rattle.conversation.specs.Kinds.{Buffers, buffersOf}
+use Rattle.session.specs.declared.words.WordTwo.{WordTwo}
+use Rattle.tables.specs.Tables.{Table, fits, entered, kept}
+use Rattle.tables.proofs.Laws.Tables.{entered-kept}
+use Rattle.phase_one.specs.Commands.{doneWord, isBare}
+use Rattle.session.specs.Tables.{Tables}
+use Rattle.phase_one.specs.Views.{recipients, identities}
+use Rattle.session.specs.declared.opening.Machine.{Machine}
+use Rattle.session.specs.declared.phases.Phase.the-variants.{Two}
+use Rattle.conversation.specs.Calls.{receive-two, stateOf, after, numbers, AllZero, Accepted}
+use Rattle.conversation.specs.CommandsTwo.{CommandTwo, ask, stanza, key, error, done, other, bad, commandTwo, rowTwo, wordTwo}
+use Rattle.conversation.specs.Kinds.{Buffers}
 use Rattle.conversation.specs.PhaseTwo as two
-use Rattle.conversation.specs.PhaseTwo.{Kind, errors, stanzas, returned, tableOf, bufferOf, mostStanzas, isHeldBack, faultOf, decided, applied, filledBy, rowsOf, viewOf}
-use Rattle.conversation.specs.Phases.{All, Whole, lineIn, bodyIn, isDone, commandIn, payloadIn, Block, Supply, behind, two-part, blockCalls, callsOf, writtenIn, responsesTo, LongEnough}
-use Rattle.conversation.specs.Session.{Session, moved}
-use Rattle.conversation.specs.Allowed.{Left, isRightTwo, Present, Said, Sum, keys-for, stanzas-for, errors-for, entries, bytes, weight, total, slotsTwo, Limits, saidBy, Answered, RightBlock, AllowedTwo}
+use Rattle.conversation.specs.PhaseTwo.{KindTwo, errors, stanzas, returned, bufferOf, mostStanzas, isHeldBack, faultOf, decided, applied, filledBy}
+use Rattle.conversation.specs.Phases.{All, Whole, lineIn, bodyIn, isDone, commandIn, payloadIn, Block, Supply, behind, two-part, blockCalls, callsOf, LongEnough}
+use Rattle.session.specs.Session.{Session}
+use Rattle.conversation.specs.Allowed.{Left, isRightTwo, Present, Said, Sum, keys-for, stanzas-for, errors-for, entries, bytes, weight, total, Limits, saidBy, Answered, RightBlock}
 use Rattle.conversation.proofs.Laws.Accepted.{accepted}
 use Rattle.conversation.proofs.Laws.CommandsTwo.{Proper, command-proper}
 use Rattle.conversation.proofs.Laws.DecidedTwo.{decided-iff, Faultless}
 use Rattle.conversation.proofs.Laws.Limits.{placed-length}
-use Rattle.conversation.proofs.Laws.PresentTwo.{Shows, applied-shows, most-is, present-iff}
-use Rattle.conversation.proofs.Laws.Runs.{after-append, accepted-append, enough-append}
+use Rattle.conversation.proofs.Laws.PresentTwo.{Shows, applied-shows, present-iff}
+use Rattle.conversation.proofs.Laws.Runs.{accepted-append, enough-append}
 use Rattle.conversation.proofs.Laws.StepsTwo.{at, judged, tablesWith, buffersWith, Settled, phaseBehind, BlockDone, block-from, block-to}
 use Rattle.conversation.proofs.Laws.SumsTwo.{sumsIn, said, Going, With, Kept-limits, limits-with, tests-by, adds}
-use Rattle.conversation.proofs.Laws.ViewsTwo.{two-leaves, applied-view-two}
+use Rattle.conversation.proofs.Laws.ViewsTwo.{two-leaves}
 
 -- ---- limits: smaller sums keep them
 
-pub limits-less : (most : ℕ) (capacity : Kind → ℕ) (n m : Sum → ℕ) → Limits most capacity n → ((x : Sum) → m x ≤ n x) → Limits most capacity m
+pub limits-less : (most : ℕ) (capacity : KindTwo → ℕ) (n m : Sum → ℕ) → Limits most capacity n → ((x : Sum) → m x ≤ n x) → Limits most capacity m
 limits-less most capacity n m l h = record {
   once = λ f. omega (arith, l .once f, h (keys-for f));
   few = λ f. omega (arith, l .few f, h (stanzas-for f));
@@ -54,7 +50,7 @@ limits-less most capacity n m l h = record {
 }
 
 -- equal numbers keep them
-pub limits-same : (most most′ : ℕ) (capacity capacity′ : Kind → ℕ) (n m : Sum → ℕ) → most ≡ most′ → ((k : Kind) → capacity k ≡ capacity′ k) → ((x : Sum) → m x ≡ n x) → Limits most capacity n → Limits most′ capacity′ m
+pub limits-same : (most most′ : ℕ) (capacity capacity′ : KindTwo → ℕ) (n m : Sum → ℕ) → most ≡ most′ → ((k : KindTwo) → capacity k ≡ capacity′ k) → ((x : Sum) → m x ≡ n x) → Limits most capacity n → Limits most′ capacity′ m
 limits-same most most′ capacity capacity′ n m e c h l = record {
   once = λ f. omega (arith, l .once f, h (keys-for f));
   few = λ f. omega (arith, l .few f, h (stanzas-for f));
@@ -76,13 +72,13 @@ right-iff d other p = (λ e. refl, λ e. refl)
 right-iff d (bad n) p = (λ e. absurd (p e), λ e. absurd (false≢true e))
 
 -- tables and buffers in the middle of a phase; left is what phase one left
-pub record Standing (left : Left) (t : Tables) (b : two.Buffers) : Type 0 where
+pub record Standing (left : Left) (t : Tables) (b : two.BuffersTwo) : Type 0 where
   pub going : Going t
   pub shows : Shows t left
   pub limits : Kept-limits t b
 
 -- the decision finds no fault exactly if the command is right, what it names is there, it keeps the limits and, at the plugin's own sending, nothing holds it back
-pub decided-exact : (own : Bool) (left : Left) (t : Tables) (b : two.Buffers) (d : Bool) (c : CommandTwo) (p : List ℕ) → Proper d c → Standing left t b →
+pub decided-exact : (own : Bool) (left : Left) (t : Tables) (b : two.BuffersTwo) (d : Bool) (c : CommandTwo) (p : List ℕ) → Proper d c → Standing left t b →
     (decided own t b c (length p) ≡ 0) ↔ ((isRightTwo c ≡ true) × Present left c × With t b c p × ((own && isHeldBack t c) ≡ false))
 decided-exact own left t b d c p h s =
     let i = decided-iff own t b c (length p) in
@@ -99,7 +95,7 @@ pub kept-length : (t : Table) (p b : List ℕ) → length (kept t p b) ≡ lengt
 kept-length t p b = cases (fits t (length p) (length b)) (λ e. rw e (placed-length t p b e)) (λ e. rw e)
 
 -- a command leaves tables that calls can reach
-pub applied-going : (t : Tables) (b : two.Buffers) (c : CommandTwo) (p : List ℕ) → Going t → Going (applied t b c p)
+pub applied-going : (t : Tables) (b : two.BuffersTwo) (c : CommandTwo) (p : List ℕ) → Going t → Going (applied t b c p)
 applied-going t b (ask w) p g = g
 applied-going t b (stanza f) p g = record {
   held = elim [ errors ↦ g .held errors | stanzas ↦ entered-kept (t .stanzas) (length p) f 0 (length (b .stanzas)) (g .held stanzas) | returned ↦ g .held returned ];
@@ -118,7 +114,7 @@ applied-going t b other p g = g
 applied-going t b (bad n) p g = g
 
 -- buffers keep their lengths
-pub filled-length : (t : Tables) (b : two.Buffers) (c : CommandTwo) (p : List ℕ) (k : Kind) → length (bufferOf k b) ≡ length (bufferOf k (filledBy t b c p))
+pub filled-length : (t : Tables) (b : two.BuffersTwo) (c : CommandTwo) (p : List ℕ) (k : KindTwo) → length (bufferOf k b) ≡ length (bufferOf k (filledBy t b c p))
 filled-length t b (ask w) p k = refl
 filled-length t b (stanza f) p k = elim k [ errors ↦ refl | stanzas ↦ sym (kept-length (t .stanzas) p (b .stanzas)) | returned ↦ refl ]
 filled-length t b (key f) p k = elim k [ errors ↦ refl | stanzas ↦ refl | returned ↦ sym (kept-length (t .returned) p (b .returned)) ]
@@ -127,11 +123,11 @@ filled-length t b done p k = refl
 filled-length t b other p k = refl
 filled-length t b (bad n) p k = refl
 
-most-same : (t : Tables) (b : two.Buffers) (c : CommandTwo) (p : List ℕ) → mostStanzas t ≡ mostStanzas (applied t b c p)
+most-same : (t : Tables) (b : two.BuffersTwo) (c : CommandTwo) (p : List ℕ) → mostStanzas t ≡ mostStanzas (applied t b c p)
 most-same t b c p = ap₂ (λ x y. x .count + y .count) (sym (two-leaves t p b c recipients)) (sym (two-leaves t p b c identities))
 
 -- behind an accepted command
-pub standing-with : (own : Bool) (left : Left) (t : Tables) (b : two.Buffers) (c : CommandTwo) (p : List ℕ) → Standing left t b → Faultless own t b c (length p) → Standing left (applied t b c p) (filledBy t b c p)
+pub standing-with : (own : Bool) (left : Left) (t : Tables) (b : two.BuffersTwo) (c : CommandTwo) (p : List ℕ) → Standing left t b → Faultless own t b c (length p) → Standing left (applied t b c p) (filledBy t b c p)
 standing-with own left t b c p s f = record {
   going = applied-going t b c p (s .going);
   shows = applied-shows t b c p left (s .shows);
@@ -139,25 +135,25 @@ standing-with own left t b c p s f = record {
 }
 
 -- the limits with what is still to come
-abbrev pub Fitting : Tables → two.Buffers → List Said → Type 0
+abbrev pub Fitting : Tables → two.BuffersTwo → List Said → Type 0
 Fitting t b cs = Limits (mostStanzas t) (λ k. length (bufferOf k b)) (λ m. sumsIn t m + total m cs)
 
-fitting-none : (t : Tables) (b : two.Buffers) → Kept-limits t b → Fitting t b []
+pub fitting-none : (t : Tables) (b : two.BuffersTwo) → Kept-limits t b → Fitting t b []
 unfolding total
 fitting-none t b l = limits-less (mostStanzas t) (λ k. length (bufferOf k b)) (sumsIn t) (λ m. sumsIn t m + 0) l (λ m. omega arith)
 
 -- the first command of them keeps the limits
-pub fitting-front : (t : Tables) (b : two.Buffers) (c : CommandTwo) (p : List ℕ) (cs : List Said) → Fitting t b (said c p ∷ cs) → With t b c p
+pub fitting-front : (t : Tables) (b : two.BuffersTwo) (c : CommandTwo) (p : List ℕ) (cs : List Said) → Fitting t b (said c p ∷ cs) → With t b c p
 unfolding total
 fitting-front t b c p cs l = limits-less (mostStanzas t) (λ k. length (bufferOf k b)) (λ m. sumsIn t m + total m (said c p ∷ cs)) (λ m. sumsIn t m + weight m (said c p)) l (λ m. omega arith)
 
 -- and by itself
-pub fitting-one : (t : Tables) (b : two.Buffers) (c : CommandTwo) (p : List ℕ) → With t b c p → Fitting t b (said c p ∷ [])
+pub fitting-one : (t : Tables) (b : two.BuffersTwo) (c : CommandTwo) (p : List ℕ) → With t b c p → Fitting t b (said c p ∷ [])
 unfolding total
 fitting-one t b c p l = limits-less (mostStanzas t) (λ k. length (bufferOf k b)) (λ m. sumsIn t m + weight m (said c p)) (λ m. sumsIn t m + (weight m (said c p) + 0)) l (λ m. omega arith)
 
 -- what is still to come behind it
-pub fitting-rest : (own : Bool) (left : Left) (t : Tables) (b : two.Buffers) (c : CommandTwo) (p : List ℕ) (cs : List Said) → Standing left t b → Faultless own t b c (length p) →
+pub fitting-rest : (own : Bool) (left : Left) (t : Tables) (b : two.BuffersTwo) (c : CommandTwo) (p : List ℕ) (cs : List Said) → Standing left t b → Faultless own t b c (length p) →
     Fitting t b (said c p ∷ cs) ↔ Fitting (applied t b c p) (filledBy t b c p) cs
 unfolding total
 fitting-rest own left t b c p cs s f =
@@ -213,7 +209,7 @@ module _ (s : Session) (left : Left) where
     p = payloadIn (s .machine) (x .text)
 
     -- it is right by itself and keeps the limits exactly if the decision finds no fault and its replies are as they must be
-    block-iff : ((judged s t b (x .text) w ≡ 0) × Answered (s .screen) c (x .replies)) ↔ (RightBlock (s .machine) (s .screen) left x × With t (b .second) c p)
+    pub block-iff : ((judged s t b (x .text) w ≡ 0) × Answered (s .screen) c (x .replies)) ↔ (RightBlock (s .machine) (s .screen) left x × With t (b .second) c p)
     block-iff =
         let i = decided-exact false left t (b .second) (isDone (x .text)) c p (proper (x .text)) g in (
           λ h. let r = i .0 (h .0) in (record { right = r .0; present = r .1; answered = h .1 }, r .2),

@@ -2,37 +2,31 @@
 -- were refused in between.
 use Prim.Native.Nat.{ℕ}
 use mathlib.Core.Path.{_≡_, refl, sym, ap, _∙_, subst}
-use mathlib.Core.Bool.{Bool, true, false, _&&_, _||_}
+use mathlib.Core.Bool.{Bool, true, false, _||_}
 use mathlib.Core.List.{List, [], _∷_, _++_, append-assoc, append-nil}
-use lib.Dec.{leb, eqb}
+use lib.Dec.{eqb}
 use lib.ListN.{length}
 use borrow.Author.Tests.{eqb-true, eqb-false}
 use Rattle.refusal.specs.Pick.{pick}
-use Rattle.refusal.specs.Same.{same}
 use Rattle.refusal.proofs.Laws.Booleans.{and-true, cases}
-use Rattle.stanza.specs.Arguments.{countOf, argumentOf}
-use Rattle.stanza.specs.Index.{Reading, number, refused, readIndex}
+use Rattle.stanza.specs.Index.{number}
 use Rattle.responses.specs.Responses.{fitting, fitsWhole, mayHaveBody}
 use Rattle.responses.specs.declared.Response.{Response}
-use Rattle.responses.specs.declared.Response.the-variants.{Fail}
-use Rattle.responses.specs.declared.WordTwo.{WordTwo}
-use Rattle.responses.specs.declared.WordTwo.the-variants.{Msg, Confirm, RequestPublic, RequestSecret, RecipientStanza, FileKey, Error, Other, Done}
-use Rattle.session.specs.Commands as one-command
-use Rattle.session.specs.Commands.{isBare}
-use Rattle.session.specs.PhaseOne as one
-use Rattle.session.specs.Phases.{phaseAfter, closes}
-use Rattle.session.specs.declared.commands.Machine.{Machine}
-use Rattle.session.specs.declared.commands.Machine.the-variants.{RecipientV1, IdentityV1}
+use Rattle.session.specs.declared.words.WordTwo.{WordTwo}
+use Rattle.phase_one.specs.Commands as one-command
+use Rattle.phase_one.specs.PhaseOne as one
+use Rattle.phase_one.specs.Turns.{phaseAfter}
+use Rattle.session.specs.Phases.{closes}
 use Rattle.session.specs.declared.phases.Phase.{Phase}
 use Rattle.session.specs.declared.phases.Phase.the-variants.{One, Two, Awaiting, Ended, Closed}
 use Rattle.conversation.specs.Answers.{Event, asked, responded, askedBy, answeredBy, respondedBy, eventsOf, events, Paired}
 use Rattle.conversation.specs.Calls.{Call, receive, send, receive-two, reply, send-two, respond, outcome, sessionAfter, after}
-use Rattle.conversation.specs.CommandsTwo.{Named, internal, identity, recipient, CommandTwo, ask, stanza, key, error, done, other, bad, areLabels, internalWord, identityWord, recipientWord, stanzaWord, stanzaAt, keyAt, errorAt, headerAt, errorOf, rowTwo, wordTwo, commandTwo, lineSent}
+use Rattle.conversation.specs.CommandsTwo.{identity, recipient, CommandTwo, ask, stanza, key, error, done, other, bad, commandTwo, lineSent}
 use Rattle.conversation.specs.Kinds.{Buffers}
 use Rattle.conversation.specs.Phases.{lineIn, bodyIn, isDone, commandIn}
 use Rattle.conversation.specs.ReceivingTwo.{atOnce, phaseReceived}
 use Rattle.conversation.specs.SendingTwo.{phaseSent}
-use Rattle.conversation.specs.Session.{Session, closed, opened}
+use Rattle.session.specs.Session.{Session, closed, opened}
 use Rattle.conversation.proofs.Laws.CommandsTwo.{Proper, command-proper}
 use Rattle.conversation.proofs.Laws.Accepted.{Applied, accepted}
 use Rattle.conversation.proofs.Laws.Refusals.{refusal}
@@ -64,7 +58,7 @@ SoFar Ended es = Paired es
 SoFar Closed es = Unit
 
 -- an accepted command of phase one
-one-so-far : (c : one-command.Command) (es : List Event) → es ≡ [] → SoFar (phaseAfter c) (es ++ [])
+one-so-far : (c : one-command.CommandOne) (es : List Event) → es ≡ [] → SoFar (phaseAfter c) (es ++ [])
 one-so-far (one-command.recipient m) es e = append-nil es ∙ e
 one-so-far (one-command.identity m) es e = append-nil es ∙ e
 one-so-far one-command.key es e = append-nil es ∙ e
@@ -114,7 +108,7 @@ refused-so-far s (send-two word arguments body out) n es i = i
 refused-so-far s (respond text out) n es i = closed-or (closes n) s es i
 
 -- an accepted call: of phase one
-one-step : (s : Session) (b : one.Buffers) (line body : List ℕ) (after : Session) (buffers-after : one.Buffers) (es : List Event) → Applied s b line body after buffers-after → SoFar (s .phase) es → SoFar (after .phase) (es ++ [])
+one-step : (s : Session) (b : one.BuffersOne) (line body : List ℕ) (after : Session) (buffers-after : one.BuffersOne) (es : List Event) → Applied s b line body after buffers-after → SoFar (s .phase) es → SoFar (after .phase) (es ++ [])
 one-step s b line body after buffers-after es a i =
     subst (λ x. SoFar (x .phase) (es ++ [])) (sym (a .session)) (one-so-far (one.commandIn (s .machine) (s .name) line body) es (subst (λ p. SoFar p es) (a .turn) i))
 

@@ -1,7 +1,7 @@
 -- A command of phase two that was read: one that waits can be answered fail, only the word done makes done, and no fault has the number 0.
 use Prim.Native.Nat.{ℕ}
 use mathlib.Core.Path.{_≡_, refl, sym, ap, _∙_, subst}
-use mathlib.Core.Bool.{Bool, true, false, _&&_, _||_, false≢true}
+use mathlib.Core.Bool.{Bool, true, false, _&&_, false≢true}
 use mathlib.Core.Logic.{⊎-elim}
 use mathlib.Core.List.{List}
 use lib.Dec.{leb, eqb}
@@ -10,15 +10,15 @@ use native.Mathlib.Omega.{arith}
 use Rattle.refusal.specs.Pick.{pick}
 use Rattle.refusal.specs.Same.{same}
 use Rattle.stanza.specs.Arguments.{countOf, argumentOf}
-use Rattle.stanza.specs.Index.{readIndex, Reading, number, refused}
+use Rattle.stanza.specs.Index.{readIndex, ReadIndex, number, refused}
 use Rattle.stanza.proofs.Laws.Index.{read-index}
 use Rattle.responses.specs.Responses.{fitting}
 use Rattle.responses.specs.declared.Response.the-variants.{Fail}
-use Rattle.responses.specs.declared.WordTwo.{WordTwo}
-use Rattle.responses.specs.declared.WordTwo.the-variants.{Msg, Confirm, RequestPublic, RequestSecret, RecipientStanza, FileKey, Error, Other, Done}
-use Rattle.session.specs.Commands.{recipientStanza, doneWord, isBare}
-use Rattle.session.specs.declared.commands.Machine.{Machine}
-use Rattle.session.specs.declared.commands.Machine.the-variants.{RecipientV1, IdentityV1}
+use Rattle.session.specs.declared.words.WordTwo.{WordTwo}
+use Rattle.session.specs.declared.words.WordTwo.the-variants.{Msg, Confirm, RequestPublic, RequestSecret, RecipientStanza, FileKey, Error, Other, Done}
+use Rattle.phase_one.specs.Commands.{recipientStanza, doneWord, isBare}
+use Rattle.session.specs.declared.opening.Machine.{Machine}
+use Rattle.session.specs.declared.opening.Machine.the-variants.{RecipientV1, IdentityV1}
 use Rattle.conversation.specs.CommandsTwo.{Named, internal, identity, recipient, CommandTwo, ask, stanza, key, error, done, other, bad, areLabels, msgWord, confirmWord, requestPublic, requestSecret, fileKeyWord, errorWord, internalWord, identityWord, recipientWord, stanzaWord, stanzaAt, keyAt, errorAt, headerAt, errorOf, rowTwo, workWord, wordTwo, commandTwo}
 
 -- d says whether the word is done
@@ -40,7 +40,7 @@ module _ (d : Bool) where
   either false c e p q = q
 
   -- an index that is none has the number 5
-  by-index : (P : Reading → Type 0) (t : List ℕ) → ((i : ℕ) → P (number i)) → P (refused 5) → P (readIndex t)
+  by-index : (P : ReadIndex → Type 0) (t : List ℕ) → ((i : ℕ) → P (number i)) → P (refused 5) → P (readIndex t)
   by-index P t f g = ⊎-elim (λ j. subst P (sym (j .1)) (f _)) (λ e. subst P (sym e) g) (read-index t)
 
   five : _≡_ {A = ℕ} 5 0 → ⊥

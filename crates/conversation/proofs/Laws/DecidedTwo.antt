@@ -1,39 +1,28 @@
 -- The decision of phase two, test by test: it finds no fault exactly if the command is right, what it names is there, and the sums of the tables with what it adds
 -- keep the limits.
-use Prim.Native.Nat.{ℕ, zero, suc, _+_, _<_, _≤_}
-use mathlib.Core.Path.{_≡_, refl, sym, ap, ap₂, _∙_, subst}
-use mathlib.Core.Bool.{Bool, true, false, not, _&&_, _||_, true≢false, false≢true}
-use mathlib.Core.Logic.{_⊎_, inl, inr, ⊎-elim, _↔_}
+use Prim.Native.Nat.{ℕ, zero, suc, _+_}
+use mathlib.Core.Path.{_≡_, refl, sym, ap, _∙_}
+use mathlib.Core.Bool.{Bool, true, false, _&&_, false≢true}
+use mathlib.Core.Logic.{_↔_}
 use mathlib.Core.List.{List, [], _∷_, _++_, map, map-append}
-use lib.Dec.{ltb, leb, eqb}
+use lib.Dec.{eqb}
 use lib.ListN.{length, take}
 use native.Mathlib.Omega.{arith}
-use borrow.Author.Tests.{ltb-true, ltb-false, leb-true, leb-false, lt-ltb, le-ltb, le-leb, lt-leb, eqb-true, eqb-false, eq-eqb}
+use borrow.Author.Tests.{eqb-true}
 use Rattle.refusal.specs.Pick.{pick}
-use Rattle.refusal.proofs.Laws.Booleans.{and-true, true-and, cases}
-use Rattle.tables.specs.declared.tables.Entry.{Entry}
-use Rattle.tables.specs.Tables.{Table, Row, fits, entered, rowOf, view, kept, appended}
-use Rattle.tables.proofs.Laws.Tables.{Kept, appended-view, view-count, entered-view}
-use Rattle.session.specs.PhaseOne.{Tables, firstOf}
-use Rattle.conversation.specs.CommandsTwo.{Named, internal, identity, recipient, header, CommandTwo, ask, stanza, key, error, done, other, bad}
-use Rattle.conversation.specs.PhaseTwo.{Kind, errors, stanzas, returned, Buffers, tableOf, bufferOf, viewOf, Label, labelOf, labels, howMany, isAny, passes, isFile, namesFile, belongs, stanzasFor, mostStanzas, hasKey, markOf, indexOf, isAbout, hasErrorFor, isMissing, isSecondKey, isTooMany, isAgainstKey, isClashing, isSpaceless, isHeldBack, when, faultOf, decided, applied, filledBy, rowsOf}
-use Rattle.conversation.specs.Allowed.{isRightTwo, isKeyFor, isErrorFor, isKind, Said, Sum, keys-for, stanzas-for, errors-for, entries, bytes, weight, slotsTwo, Limits}
+use Rattle.refusal.proofs.Laws.Booleans.{cases}
+use Rattle.tables.specs.declared.slots.Entry.{Entry}
+use Rattle.tables.specs.Tables.{Table, Row, fits, entered, rowOf, view, kept}
+use Rattle.tables.proofs.Laws.Tables.{Kept, entered-view}
+use Rattle.session.specs.Tables.{Tables}
+use Rattle.conversation.specs.CommandsTwo.{CommandTwo}
+use Rattle.conversation.specs.PhaseTwo.{BuffersTwo, Label, labelOf, labels, howMany, passes, isFile, isMissing, isSecondKey, isTooMany, isClashing, isSpaceless, isHeldBack, faultOf, ruled, decided}
 use Rattle.conversation.proofs.Laws.Firsts.{first-iff}
 
 -- ---- the first fault
 
-when-iff : (f : Bool) (n : ℕ) → 0 < n → (when f n ≡ 0) ↔ (f ≡ false)
-when-iff true n h = (λ e. absurd (omega arith), λ e. absurd (true≢false e))
-when-iff false n h = (λ e. refl, λ e. refl)
-
-test-iff : (f : Bool) (n late : ℕ) → 0 < n → (firstOf (when f n) late ≡ 0) ↔ ((f ≡ false) × (late ≡ 0))
-test-iff f n late h =
-    let a = first-iff (when f n) late in
-    let w = when-iff f n h in
-    (λ e. (w .0 (a .0 e .0), a .0 e .1), λ e. a .1 (w .1 (e .0), e .1))
-
 -- no test finds a fault
-pub record Faultless (own : Bool) (t : Tables) (b : Buffers) (c : CommandTwo) (n : ℕ) : Type 0 where
+pub record Faultless (own : Bool) (t : Tables) (b : BuffersTwo) (c : CommandTwo) (n : ℕ) : Type 0 where
   pub right : faultOf c ≡ 0
   pub there : isMissing t c ≡ false
   pub first-key : isSecondKey t c ≡ false
@@ -42,38 +31,31 @@ pub record Faultless (own : Bool) (t : Tables) (b : Buffers) (c : CommandTwo) (n
   pub unheld : (own && isHeldBack t c) ≡ false
   pub space : isSpaceless t b c n ≡ false
 
-pub decided-iff : (own : Bool) (t : Tables) (b : Buffers) (c : CommandTwo) (n : ℕ) → (decided own t b c n ≡ 0) ↔ Faultless own t b c n
+pub decided-iff : (own : Bool) (t : Tables) (b : BuffersTwo) (c : CommandTwo) (n : ℕ) → (decided own t b c n ≡ 0) ↔ Faultless own t b c n
 unfolding decided
 decided-iff own t b c n = (to, from)
   where
     to : decided own t b c n ≡ 0 → Faultless own t b c n
     to h =
-        let a = first-iff (faultOf c) _ .0 h in
-        let a6 = test-iff (isMissing t c) 6 _ (omega arith) .0 (a .1) in
-        let a9 = test-iff (isSecondKey t c) 9 _ (omega arith) .0 (a6 .1) in
-        let a10 = test-iff (isTooMany t c) 10 _ (omega arith) .0 (a9 .1) in
-        let a11 = test-iff (isClashing t c) 11 _ (omega arith) .0 (a10 .1) in
-        let a19 = test-iff (own && isHeldBack t c) 19 _ (omega arith) .0 (a11 .1) in
-        record { right = a .0; there = a6 .0; first-key = a9 .0; few = a10 .0; apart = a11 .0; unheld = a19 .0; space = when-iff (isSpaceless t b c n) 8 (omega arith) .0 (a19 .1) }
+        let r = first-iff (ruled own t c) _ .0 h in
+        let a = first-iff (faultOf c) _ .0 (r .0) in
+        let z = a .0 in
+        let m : isMissing t c ≡ false = cases (isMissing t c) (λ f. absurd (omega (arith, rw (z, f) at (r .0)))) (λ f. f) in
+        let k : isSecondKey t c ≡ false = cases (isSecondKey t c) (λ f. absurd (omega (arith, rw (z, m, f) at (r .0)))) (λ f. f) in
+        let y : isTooMany t c ≡ false = cases (isTooMany t c) (λ f. absurd (omega (arith, rw (z, m, k, f) at (r .0)))) (λ f. f) in
+        let l : isClashing t c ≡ false = cases (isClashing t c) (λ f. absurd (omega (arith, rw (z, m, k, y, f) at (r .0)))) (λ f. f) in
+        record {
+          right = z;
+          there = m;
+          first-key = k;
+          few = y;
+          apart = l;
+          unheld = cases (own && isHeldBack t c) (λ f. absurd (omega (arith, rw (z, m, k, y, l, f) at (r .0)))) (λ f. f);
+          space = cases (isSpaceless t b c n) (λ f. absurd (omega (arith, rw f at (r .1)))) (λ f. f);
+        }
 
     from : Faultless own t b c n → decided own t b c n ≡ 0
-    from f =
-        first-iff (faultOf c) _ .1 (
-          f .right,
-          test-iff (isMissing t c) 6 _ (omega arith) .1 (
-            f .there,
-            test-iff (isSecondKey t c) 9 _ (omega arith) .1 (
-              f .first-key,
-              test-iff (isTooMany t c) 10 _ (omega arith) .1 (
-                f .few,
-                test-iff (isClashing t c) 11 _ (omega arith) .1 (
-                  f .apart,
-                  test-iff (own && isHeldBack t c) 19 _ (omega arith) .1 (f .unheld, when-iff (isSpaceless t b c n) 8 (omega arith) .1 (f .space)),
-                ),
-              ),
-            ),
-          ),
-        )
+    from f = rw (f .right, f .there, f .first-key, f .few, f .apart, f .unheld, f .space)
 
 -- ---- labels: what is kept of an entry beside its payload is shown by its row
 

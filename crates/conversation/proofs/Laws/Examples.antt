@@ -15,18 +15,18 @@ use Rattle.stanza.specs.Arguments.{isGraphic, isWordByte, before, words}
 use Rattle.stanza.specs.Automaton.{next, verdict, scan}
 use Rattle.stanza.specs.Grammar.{stanzaText}
 use Rattle.stanza.specs.Reading.{found}
-use Rattle.session.specs.Commands.{add-recipient, add-identity, wrap-file-key, done-word, lineSent}
-use Rattle.session.specs.PhaseOne.{buffersOf}
-use Rattle.session.specs.Views.{Kind, recipients, identities, keys, headers, bufferOf}
-use Rattle.session.specs.declared.commands.Machine.the-variants.{RecipientV1}
-use Rattle.conversation.specs.Session.{Session, openedSession}
+use Rattle.phase_one.specs.Commands.{add-recipient, add-identity, wrap-file-key, done-word, lineSent}
+use Rattle.phase_one.specs.PhaseOne.{buffersOf}
+use Rattle.phase_one.specs.Views.{KindOne, recipients, identities, keys, headers, bufferOf}
+use Rattle.session.specs.declared.opening.Machine.the-variants.{RecipientV1}
+use Rattle.session.specs.Session.{Session, openedSession}
 use Rattle.conversation.specs.Kinds as kinds
 use Rattle.conversation.specs.Kinds.{Buffers, first, viewOf}
 use Rattle.conversation.specs.PhaseTwo as two
 use Rattle.conversation.specs.Calls.{Call, stateOf, after, Accepted}
-use Rattle.conversation.specs.Phases.{All, keep, Whole, one-part, Block, Phase, blocksOf, IsPhase, Supply, callsOf, Strand, of-kind, of-errors, of-file, isIn, Rearranged, SameTables, SameOutcome}
+use Rattle.conversation.specs.Phases.{All, keep, Whole, one-part, Block, Phase, blocksOf, IsPhase, Supply, callsOf, Strand, of-kind, of-errors, of-file, isIn, Rearranged, SameTables, SameOutcome, textsOf}
 use Rattle.conversation.specs.Allowed.{rowsIn, slotsOf, bytesOf, Rising, Allowed}
-use Rattle.conversation.proofs.Laws.AllowedOne.{textsOf, accepted-iff, accepted-tables}
+use Rattle.conversation.proofs.Laws.AllowedOne.{accepted-iff, accepted-tables}
 use Rattle.conversation.proofs.Laws.OrderOne.{order-one}
 
 -- "-> add-recipient a", and the same with b
@@ -120,13 +120,13 @@ allowed : Allowed RecipientV1 plugin (lent .first) (textsOf given)
 unfolding All rowsIn bytesOf Rising isCharacter valueOf characterOf encoded decoded endsWell wrapped unwrapped run isGraphic next verdict scan found isWordByte before words same
 allowed = record { right = (refl, (refl, (refl, (refl, (refl, tt))))); slots = slots; bytes = bytes; rising = tt }
   where
-    slots : (k : Kind) → length (rowsIn RecipientV1 plugin k (textsOf given)) ≤ slotsOf k
+    slots : (k : KindOne) → length (rowsIn RecipientV1 plugin k (textsOf given)) ≤ slotsOf k
     slots recipients = lit≤ tt
     slots identities = lit≤ tt
     slots keys = lit≤ tt
     slots headers = lit≤ tt
 
-    bytes : (k : Kind) → bytesOf (rowsIn RecipientV1 plugin k (textsOf given)) ≤ length (bufferOf k (lent .first))
+    bytes : (k : KindOne) → bytesOf (rowsIn RecipientV1 plugin k (textsOf given)) ≤ length (bufferOf k (lent .first))
     bytes recipients = lit≤ tt
     bytes identities = lit≤ tt
     bytes keys = lit≤ tt

@@ -25,15 +25,15 @@ use Rattle.stanza.specs.Index.{digits, readIndex}
 use Rattle.stanza.specs.Reading.{found}
 use Rattle.responses.specs.Responses.{responseLine}
 use Rattle.responses.specs.declared.Response.the-variants.{Ok, Unsupported}
-use Rattle.responses.specs.declared.WordTwo.the-variants.{Msg, RecipientStanza, FileKey, Error, Done}
+use Rattle.session.specs.declared.words.WordTwo.the-variants.{Msg, RecipientStanza, FileKey, Error, Done}
 use Rattle.tables.specs.Tables.{Row}
-use Rattle.session.specs.Commands as one-command
-use Rattle.session.specs.Commands.{afterSpace}
+use Rattle.phase_one.specs.Commands as one-command
+use Rattle.phase_one.specs.Commands.{afterSpace}
 use Rattle.session.specs.Opening.{recipientV1}
-use Rattle.session.specs.PhaseOne as one
-use Rattle.session.specs.PhaseOne.{Tables, openedTables}
-use Rattle.session.specs.Views as one-kind
-use Rattle.session.specs.declared.commands.Machine.the-variants.{RecipientV1, IdentityV1}
+use Rattle.phase_one.specs.PhaseOne as one
+use Rattle.session.specs.Tables.{Tables, openedTables}
+use Rattle.phase_one.specs.Views as one-kind
+use Rattle.session.specs.declared.opening.Machine.the-variants.{RecipientV1, IdentityV1}
 use Rattle.session.specs.declared.phases.Phase.the-variants.{Two}
 use Rattle.conversation.specs.Calls.{Call, send, receive-two, reply, outcome, writtenBy, State, stateOf, after, numbers, written}
 use Rattle.conversation.specs.CommandsTwo.{internalWord, identityWord, recipientWord, stanzaWord, CommandTwo, ask, stanza, key, error, done, other, bad, commandTwo, lineSent}
@@ -41,12 +41,12 @@ use Rattle.conversation.specs.Kinds as kinds
 use Rattle.conversation.specs.Kinds.{Buffers, second, viewOf, ofFile}
 use Rattle.conversation.specs.PhaseTwo as two
 use Rattle.conversation.specs.PhaseTwo.{howMany, passes, decided}
-use Rattle.conversation.specs.Phases.{All, keep, Whole, lineIn, bodyIn, two-part, Block, Reply, Phase, blocksOf, IsPhase, Supply, callsOf, replyCalls, writtenIn, LongEnough, CallWith, afterEach, JustDone, Strand, of-kind, of-errors, of-file, isIn, Rearranged, SameTables, SameOutcome}
+use Rattle.conversation.specs.Phases.{All, keep, Whole, lineIn, bodyIn, two-part, Block, Phase, blocksOf, IsPhase, Supply, callsOf, replyCalls, writtenIn, LongEnough, CallWith, afterEach, JustDone, Strand, of-kind, of-errors, of-file, isIn, Rearranged, SameTables, SameOutcome}
 use Rattle.conversation.specs.ReceivingTwo as receiving-two
 use Rattle.conversation.specs.ReceivingTwo.{atOnce, textOf}
 use Rattle.conversation.specs.Replying as replying
 use Rattle.conversation.specs.Sending as sending
-use Rattle.conversation.specs.Session.{Session, moved}
+use Rattle.session.specs.Session.{Session, moved}
 use Rattle.conversation.proofs.Laws.Accepted.{accepted}
 use Rattle.conversation.proofs.Laws.Order.{order}
 use Rattle.conversation.proofs.Laws.Refusals.{refusal}
@@ -268,7 +268,7 @@ abbrev turnedRows : List Row
 turnedRows = row 1 (99 ∷ 10 ∷ []) ∷ row 0 (97 ∷ 10 ∷ []) ∷ row 0 (98 ∷ 10 ∷ []) ∷ []
 
 -- of a state
-abbrev seen : two.Kind → State → List Row
+abbrev seen : two.KindTwo → State → List Row
 seen k x = viewOf (second k) (x .session .tables) (x .buffers)
 
 pub both-stanzas : (seen two.stanzas (behind given) ≡ givenRows) × (seen two.stanzas (behind turned) ≡ turnedRows)
@@ -282,20 +282,20 @@ files (suc zero) = refl
 files (suc (suc f)) = neither _ _ _ (eqb 0 (suc (suc f))) (eqb 1 (suc (suc f))) (eqb·zero-suc (suc f)) (eqb·suc-suc 0 (suc f) ∙ eqb·zero-suc f)
 
 -- what phase one left
-abbrev left : one-kind.Kind → List Row
+abbrev left : one-kind.KindOne → List Row
 left one-kind.recipients = record { payload = 97 ∷ []; index = 0; mark = 16 } ∷ []
 left one-kind.identities = record { payload = 98 ∷ []; index = 0; mark = 16 } ∷ []
 left one-kind.keys = row 0 (replicate 16 0) ∷ row 0 (replicate 16 1) ∷ []
 left one-kind.headers = []
 
-given-left : (k : one-kind.Kind) → viewOf (kinds.first k) (behind given .session .tables) (behind given .buffers) ≡ left k
+given-left : (k : one-kind.KindOne) → viewOf (kinds.first k) (behind given .session .tables) (behind given .buffers) ≡ left k
 unfolding numbers after callsOf replyCalls sending.sent sending.sentStanza receiving-two.received receiving-two.receivedStanza replying.repliedTo commandTwo decided howMany passes isCharacter valueOf characterOf encoded decoded endsWell wrapped unwrapped all run isGraphic isWordByte before words isArgument areArguments same next verdict scan found digits readIndex afterSpace
 given-left one-kind.recipients = refl
 given-left one-kind.identities = refl
 given-left one-kind.keys = refl
 given-left one-kind.headers = refl
 
-turned-left : (k : one-kind.Kind) → viewOf (kinds.first k) (behind turned .session .tables) (behind turned .buffers) ≡ left k
+turned-left : (k : one-kind.KindOne) → viewOf (kinds.first k) (behind turned .session .tables) (behind turned .buffers) ≡ left k
 unfolding numbers after callsOf replyCalls sending.sent sending.sentStanza receiving-two.received receiving-two.receivedStanza replying.repliedTo commandTwo decided howMany passes isCharacter valueOf characterOf encoded decoded endsWell wrapped unwrapped all run isGraphic isWordByte before words isArgument areArguments same next verdict scan found digits readIndex afterSpace
 turned-left one-kind.recipients = refl
 turned-left one-kind.identities = refl

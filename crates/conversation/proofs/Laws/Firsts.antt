@@ -8,7 +8,7 @@ use native.Mathlib.Omega.{arith}
 use borrow.Author.Tests.{eqb-true, eqb-false}
 use Rattle.refusal.specs.Pick.{pick}
 use Rattle.refusal.proofs.Laws.Booleans.{cases}
-use Rattle.session.specs.PhaseOne.{firstOf}
+use Rattle.refusal.specs.Verdict.{firstOf}
 
 -- there is none exactly if neither is one
 pub first-iff : (n late : ℕ) → (firstOf n late ≡ 0) ↔ ((n ≡ 0) × (late ≡ 0))

@@ -1,49 +1,45 @@
 -- Phase two at the client end: what an accepted phase leaves in the tables, and what its calls write.
-use Prim.Native.Nat.{ℕ}
-use mathlib.Core.Path.{_≡_, refl, sym, ap, ap₂, _∙_, subst, subst₂}
-use mathlib.Core.Bool.{Bool, true, false}
-use mathlib.Core.Logic.{_↔_}
+use mathlib.Core.Path.{_≡_, refl, sym, ap, ap₂, _∙_, subst}
+use mathlib.Core.Bool.{true, false}
 use mathlib.Core.List.{List, [], _∷_, _++_, map, append-nil, append-assoc}
-use lib.ListN.{length}
 use Rattle.tables.specs.Tables.{Row}
-use Rattle.session.specs.PhaseOne as one
-use Rattle.session.specs.PhaseOne.{Tables}
-use Rattle.session.specs.Views as one-kind
-use Rattle.session.specs.declared.commands.Machine.{Machine}
+use Rattle.session.specs.Tables.{Tables}
+use Rattle.phase_one.specs.Views as one-kind
+use Rattle.session.specs.declared.opening.Machine.{Machine}
 use Rattle.session.specs.declared.phases.Phase.the-variants.{Two}
-use Rattle.conversation.specs.Calls.{Call, State, stateOf, after, written, Accepted}
-use Rattle.conversation.specs.Kinds.{Buffers, buffersOf}
-use Rattle.conversation.specs.PhaseTwo.{Kind, viewOf, rowsOf}
+use Rattle.conversation.specs.Calls.{State, stateOf, after, Accepted}
+use Rattle.conversation.specs.Kinds.{Buffers}
+use Rattle.conversation.specs.PhaseTwo.{KindTwo, viewOf, rowsOf}
 use Rattle.conversation.specs.Phases.{All, Whole, isDone, commandIn, payloadIn, Block, Supply, behind, two-part, blockCalls, callsOf, writtenIn, responsesTo, LongEnough}
-use Rattle.conversation.specs.Session.{Session}
-use Rattle.conversation.specs.Allowed.{Left, Answered}
+use Rattle.session.specs.Session.{Session}
+use Rattle.conversation.specs.Allowed.{Left}
 use Rattle.conversation.proofs.Laws.AllowedTwo.{Standing, standing-behind, first-turn, behind-block, done-asks}
 use Rattle.conversation.proofs.Laws.Runs.{after-append, accepted-append, enough-append}
-use Rattle.conversation.proofs.Laws.StepsTwo.{at, judged, tablesWith, buffersWith, Settled, BlockDone, block-from, block-to}
+use Rattle.conversation.proofs.Laws.StepsTwo.{at, judged, tablesWith, buffersWith, Settled, block-from, block-to}
 use Rattle.conversation.proofs.Laws.ViewsTwo.{applied-view-two, two-leaves}
 
 -- the rows of a kind that a block makes
-abbrev pub rowsBy : Machine → Kind → Block → List Row
+abbrev pub rowsBy : Machine → KindTwo → Block → List Row
 rowsBy machine k x = rowsOf (commandIn machine (x .text)) k (payloadIn machine (x .text))
 
 -- .. a list of blocks
-unfoldable pub rowsIn : Machine → Kind → List Block → List Row
+unfoldable pub rowsIn : Machine → KindTwo → List Block → List Row
 rowsIn machine k [] = []
 rowsIn machine k (x ∷ xs) = rowsBy machine k x ++ rowsIn machine k xs
 
 -- a state with these rows behind those of before, and phase one's tables and buffers as they were
-pub record Grown (t : Tables) (b : Buffers) (rows : Kind → List Row) (u : State) : Type 0 where
-  pub views : (k : Kind) → viewOf k (u .session .tables) (u .buffers .second) ≡ viewOf k t (b .second) ++ rows k
-  pub tables : (k : one-kind.Kind) → one-kind.tableOf k (u .session .tables) ≡ one-kind.tableOf k t
+pub record Grown (t : Tables) (b : Buffers) (rows : KindTwo → List Row) (u : State) : Type 0 where
+  pub views : (k : KindTwo) → viewOf k (u .session .tables) (u .buffers .second) ≡ viewOf k t (b .second) ++ rows k
+  pub tables : (k : one-kind.KindOne) → one-kind.tableOf k (u .session .tables) ≡ one-kind.tableOf k t
   pub buffers : u .buffers .first ≡ b .first
 
 module _ (s : Session) (left : Left) where
   -- one block
   module _ (t : Tables) (b : Buffers) (x : Block) (w : Whole (x .text)) (g : Standing left t (b .second)) (z : judged s t b (x .text) w ≡ 0) where
-    view-block : (k : Kind) → viewOf k (tablesWith s t b (x .text) w) (buffersWith s t b (x .text) w .second) ≡ viewOf k t (b .second) ++ rowsBy (s .machine) k x
+    view-block : (k : KindTwo) → viewOf k (tablesWith s t b (x .text) w) (buffersWith s t b (x .text) w .second) ≡ viewOf k t (b .second) ++ rowsBy (s .machine) k x
     view-block k = applied-view-two false t (b .second) (payloadIn (s .machine) (x .text)) (g .going .held) (commandIn (s .machine) (x .text)) z k
 
-    first-block : (k : one-kind.Kind) → one-kind.tableOf k (tablesWith s t b (x .text) w) ≡ one-kind.tableOf k t
+    first-block : (k : one-kind.KindOne) → one-kind.tableOf k (tablesWith s t b (x .text) w) ≡ one-kind.tableOf k t
     first-block k = two-leaves t (payloadIn (s .machine) (x .text)) (b .second) (commandIn (s .machine) (x .text)) k
 
   -- the blocks from here on

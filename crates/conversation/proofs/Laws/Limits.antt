@@ -11,25 +11,25 @@ use native.Mathlib.Omega.{arith}
 use borrow.Author.Tests.{ltb-true, ltb-false, leb-true, lt-ltb, le-ltb, le-leb}
 use Rattle.refusal.specs.Pick.{pick}
 use Rattle.refusal.proofs.Laws.Booleans.{and-true, true-and, cases}
-use Rattle.tables.specs.declared.tables.Entry.{Entry}
+use Rattle.tables.specs.declared.slots.Entry.{Entry}
 use Rattle.tables.specs.Tables.{Table, Row, empty, fits, entered, rowOf, view, placed, kept}
 use Rattle.tables.proofs.Laws.Tables.{Kept, Filled, Chained, view-count}
-use Rattle.session.specs.PhaseOne.{falls}
-use Rattle.session.proofs.Laws.PhaseOne.{falls-none, falls-is}
-use Rattle.session.specs.Views.{Kind, recipients, identities, keys, headers}
+use Rattle.phase_one.specs.PhaseOne.{falls}
+use Rattle.phase_one.proofs.Laws.PhaseOne.{falls-none, falls-is}
+use Rattle.phase_one.specs.Views.{KindOne, recipients, identities, keys, headers}
 use Rattle.conversation.specs.Allowed.{slotsOf, bytesOf, Rising}
 
 -- ---- the limits of a list of rows
 
 -- header stanza indices never fall; the other kinds have none
-abbrev pub Ordered : Kind → List Row → Type 0
+abbrev pub Ordered : KindOne → List Row → Type 0
 Ordered recipients rs = Unit
 Ordered identities rs = Unit
 Ordered keys rs = Unit
 Ordered headers rs = Rising rs
 
 -- the limits of a kind whose buffer has n bytes
-pub record Within (k : Kind) (n : ℕ) (rs : List Row) : Type 0 where
+pub record Within (k : KindOne) (n : ℕ) (rs : List Row) : Type 0 where
   pub slots : length rs ≤ slotsOf k
   pub bytes : bytesOf rs ≤ n
   pub ordered : Ordered k rs
@@ -45,14 +45,14 @@ rising-front [] ys h = tt
 rising-front (a ∷ []) ys h = tt
 rising-front (a ∷ c ∷ xs) ys h = (h .0, rising-front (c ∷ xs) ys (h .1))
 
-ordered-front : (k : Kind) (xs ys : List Row) → Ordered k (xs ++ ys) → Ordered k xs
+ordered-front : (k : KindOne) (xs ys : List Row) → Ordered k (xs ++ ys) → Ordered k xs
 ordered-front recipients xs ys h = tt
 ordered-front identities xs ys h = tt
 ordered-front keys xs ys h = tt
 ordered-front headers xs ys h = rising-front xs ys h
 
 -- the front of rows within the limits is within them
-pub within-front : (k : Kind) (n : ℕ) (xs ys : List Row) → Within k n (xs ++ ys) → Within k n xs
+pub within-front : (k : KindOne) (n : ℕ) (xs ys : List Row) → Within k n (xs ++ ys) → Within k n xs
 within-front k n xs ys w = record {
   slots = omega (arith, w .slots, length-append xs ys);
   bytes = omega (arith, w .bytes, bytes-append xs ys);
@@ -61,12 +61,12 @@ within-front k n xs ys w = record {
 
 -- ---- indices that never fall: the next one and the last
 
-unfoldable lastOf : List Row → ℕ
+unfoldable pub lastOf : List Row → ℕ
 lastOf [] = 0
 lastOf (r ∷ []) = r .index
 lastOf (r ∷ q ∷ rs) = lastOf (q ∷ rs)
 
-last-is : (rs : List Row) (r : Row) → lastOf (rs ++ (r ∷ [])) ≡ r .index
+pub last-is : (rs : List Row) (r : Row) → lastOf (rs ++ (r ∷ [])) ≡ r .index
 unfolding lastOf
 last-is [] r = refl
 last-is (q ∷ []) r = refl
@@ -105,7 +105,7 @@ view-last es (suc n) b h g =
     ∙ last-is (map (rowOf b) (take n es)) (rowOf b (getD es n empty)) ∙ ap (λ j. getD es j empty .index) (sym q)
 
 -- an index does not fall exactly if it is not below the last row's
-no-fall : (t : Table) (i : ℕ) (b : List ℕ) → Kept t → (falls t i ≡ false) ↔ (lastOf (view t b) ≤ i)
+pub no-fall : (t : Table) (i : ℕ) (b : List ℕ) → Kept t → (falls t i ≡ false) ↔ (lastOf (view t b) ≤ i)
 unfolding lastOf
 no-fall t i b k =
     cases (ltb 0 (t .count))
@@ -119,27 +119,27 @@ no-fall t i b k =
 
 -- ---- a kind's table and its buffer between calls
 
-pub record Held (k : Kind) (t : Table) (b : List ℕ) : Type 0 where
+pub record Held (k : KindOne) (t : Table) (b : List ℕ) : Type 0 where
   pub reached : Filled t
   pub wide : t .width ≡ slotsOf k
   pub room : t .used ≤ length b
   pub ordered : Ordered k (view t b)
 
 -- a header stanza's index does not fall
-abbrev pub Passes : Kind → Table → ℕ → Type 0
+abbrev pub Passes : KindOne → Table → ℕ → Type 0
 Passes recipients t i = Unit
 Passes identities t i = Unit
 Passes keys t i = Unit
 Passes headers t i = falls t i ≡ false
 
 module _ (t : Table) (b : List ℕ) (r : Row) where
-  passes-ordered : (k : Kind) → Kept t → Ordered k (view t b) → Passes k t (r .index) → Ordered k (view t b ++ (r ∷ []))
+  passes-ordered : (k : KindOne) → Kept t → Ordered k (view t b) → Passes k t (r .index) → Ordered k (view t b ++ (r ∷ []))
   passes-ordered recipients h o p = tt
   passes-ordered identities h o p = tt
   passes-ordered keys h o p = tt
   passes-ordered headers h o p = rising-more (view t b) r o (no-fall t (r .index) b h .0 p)
 
-  ordered-passes : (k : Kind) → Kept t → Ordered k (view t b ++ (r ∷ [])) → Passes k t (r .index)
+  ordered-passes : (k : KindOne) → Kept t → Ordered k (view t b ++ (r ∷ [])) → Passes k t (r .index)
   ordered-passes recipients h o = tt
   ordered-passes identities h o = tt
   ordered-passes keys h o = tt
@@ -150,7 +150,7 @@ module _ (t : Table) (b : List ℕ) (r : Row) where
   one-bytes = omega (arith, bytes-append (view t b) (r ∷ []))
 
   -- one row more is within the limits exactly if it fits and passes
-  fits-within : (k : Kind) → Held k t b → fits t (length (r .payload)) (length b) ≡ true → Passes k t (r .index) → Within k (length b) (view t b ++ (r ∷ []))
+  fits-within : (k : KindOne) → Held k t b → fits t (length (r .payload)) (length b) ≡ true → Passes k t (r .index) → Within k (length b) (view t b ++ (r ∷ []))
   fits-within k h f p =
       let a = and-true (ltb (t .count) (t .width)) (leb (t .used + length (r .payload)) (length b)) f in
       record {
@@ -159,7 +159,7 @@ module _ (t : Table) (b : List ℕ) (r : Row) where
         ordered = passes-ordered k (h .reached .kept-so) (h .ordered) p;
       }
 
-  pub within-fits : (k : Kind) → Held k t b → Within k (length b) (view t b ++ (r ∷ [])) → (fits t (length (r .payload)) (length b) ≡ true) × Passes k t (r .index)
+  pub within-fits : (k : KindOne) → Held k t b → Within k (length b) (view t b ++ (r ∷ [])) → (fits t (length (r .payload)) (length b) ≡ true) × Passes k t (r .index)
   within-fits k h w =
       let s : t .count < t .width = omega (arith, w .slots, view-count t b (h .reached .kept-so), length-append (view t b) (r ∷ []), h .wide) in
       let u : t .used + length (r .payload) ≤ length b = omega (arith, w .bytes, view-bytes t b (h .reached .kept-so) (h .room), one-bytes) in
@@ -167,12 +167,12 @@ module _ (t : Table) (b : List ℕ) (r : Row) where
 
 -- ---- what one command does to a kind's table and buffer, where the decision is the number d: nothing, or one entry more
 
-pub data Grown (k : Kind) (t : Table) (b : List ℕ) (d : ℕ) : List Row → Table → List ℕ → Type 0 where
+pub data Grown (k : KindOne) (t : Table) (b : List ℕ) (d : ℕ) : List Row → Table → List ℕ → Type 0 where
   same : Grown k t b d [] t b
   more : (p : List ℕ) (i m : ℕ) → (d ≡ 0 → (fits t (length p) (length b) ≡ true) × Passes k t i) →
       Grown k t b d (record { payload = p; index = i; mark = m } ∷ []) (entered t (length p) i m (length b)) (kept t p b)
 
-held-within : {k : Kind} {t : Table} {b : List ℕ} → Held k t b → Within k (length b) (view t b)
+held-within : {k : KindOne} {t : Table} {b : List ℕ} → Held k t b → Within k (length b) (view t b)
 held-within {t = t} {b = b} h = record {
   slots = omega (arith, h .reached .kept-so .counted, view-count t b (h .reached .kept-so), h .wide);
   bytes = omega (arith, view-bytes t b (h .reached .kept-so) (h .room), h .room);
@@ -184,7 +184,7 @@ placed-length t p b f =
     let u = leb-true (t .used + length p) (length b) (and-true (ltb (t .count) (t .width)) (leb (t .used + length p) (length b)) f .1) in
     simp (length-append, length-take, length-drop) (omega arith)
 
-module _ {k : Kind} {t : Table} {b : List ℕ} {d : ℕ} where
+module _ {k : KindOne} {t : Table} {b : List ℕ} {d : ℕ} where
   -- one row or none
   pub grown-rows : {rs : List Row} {t′ : Table} {b′ : List ℕ} → Grown k t b d rs t′ b′ → rs ≡ pick (eqb (length rs) 1) (rs ++ []) []
   grown-rows same = refl

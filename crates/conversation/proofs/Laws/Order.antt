@@ -1,5 +1,4 @@
 -- Demand 3, whole: order between strangers means nothing. One theorem about two lists of calls, for both phases and both machines.
-use mathlib.Core.List.{List}
 use Rattle.conversation.specs.Calls.{State}
 use Rattle.conversation.specs.Phases.{Part, one-part, two-part, Phase, blocksOf, IsPhase, Supply, callsOf, LongEnough, Starts, SameStart, Rearranged, SameOutcome}
 use Rattle.conversation.proofs.Laws.OrderOne.{order-one}

@@ -7,24 +7,25 @@ use mathlib.Core.List.{List, [], _∷_, _++_, map, map-append, append-assoc, Per
 use lib.ListN.{length}
 use Rattle.refusal.specs.Pick.{pick}
 use Rattle.tables.specs.Tables.{view}
-use Rattle.session.specs.declared.commands.Machine.{Machine}
-use Rattle.session.specs.Commands.{Word, add-recipient, add-identity, wrap-file-key, recipient-stanza, done-word, other-word, wordIn, rowCommand}
-use Rattle.session.specs.PhaseOne.{Buffers as OneBuffers, buffersOf, openedTables}
-use Rattle.session.specs.Views.{Kind, headers, bufferOf}
-use Rattle.conversation.specs.Session.{Session, openedSession}
+use Rattle.session.specs.declared.opening.Machine.{Machine}
+use Rattle.phase_one.specs.Commands.{WordOne, add-recipient, add-identity, wrap-file-key, recipient-stanza, done-word, other-word, wordIn, rowCommand}
+use Rattle.phase_one.specs.PhaseOne.{BuffersOne, buffersOf}
+use Rattle.session.specs.Tables.{openedTables}
+use Rattle.phase_one.specs.Views.{KindOne, headers, bufferOf}
+use Rattle.session.specs.Session.{Session, openedSession}
 use Rattle.conversation.specs.Kinds.{Buffers, second, viewOf, ofFile}
 use Rattle.conversation.specs.PhaseTwo as two
 use Rattle.conversation.specs.Calls.{receive, outcome, written, State, stateOf, after, Accepted}
-use Rattle.conversation.specs.Phases.{Part, All, keep, lineIn, bodyIn, wordOf, isNamed, commandOf, rowsFrom, isOf, one-part, Block, Phase, blocksOf, Quiet, IsPhase, Supply, skip, replyCalls, callsOf, writtenIn, responsesTo, Starts, SameLengths, SameStart, isKept, of-kind, isIn, Rearranged, SameOutcome}
+use Rattle.conversation.specs.Phases.{Part, All, keep, lineIn, bodyIn, wordOf, isNamed, commandOf, rowsFrom, isOf, one-part, Block, Phase, blocksOf, Quiet, IsPhase, Supply, skip, replyCalls, callsOf, writtenIn, responsesTo, Starts, SameLengths, SameStart, isKept, of-kind, isIn, Rearranged, SameOutcome, textsOf}
 use Rattle.conversation.specs.Allowed.{isRight, rowsIn, slotsOf, bytesOf, Rising, Allowed}
 use Rattle.conversation.proofs.Laws.Lists.{all-append, all-permuted, all-kept, all-map, keep-map}
 use Rattle.conversation.proofs.Laws.Limits.{grown-rows}
 use Rattle.conversation.proofs.Laws.Steps.{grown, payload}
-use Rattle.conversation.proofs.Laws.AllowedOne.{textsOf, Holds, accepted-iff, accepted-tables}
+use Rattle.conversation.proofs.Laws.AllowedOne.{Holds, accepted-iff, accepted-tables}
 
 -- ---- the rows of texts
 
-module _ (machine : Machine) (name : List ℕ) (k : Kind) where
+module _ (machine : Machine) (name : List ℕ) (k : KindOne) where
   rows-append : (xs ys : List (List ℕ)) → rowsIn machine name k (xs ++ ys) ≡ rowsIn machine name k xs ++ rowsIn machine name k ys
   unfolding rowsIn
   rows-append [] ys = refl
@@ -50,7 +51,7 @@ module _ (machine : Machine) (name : List ℕ) (k : Kind) where
 
 -- ---- a command that is not known is right: it is ignored
 
-other-right : (g l : List ℕ) (n : ℕ) (w : Word) → isNamed w ≡ false → isRight (rowCommand w g l n) ≡ true
+other-right : (g l : List ℕ) (n : ℕ) (w : WordOne) → isNamed w ≡ false → isRight (rowCommand w g l n) ≡ true
 other-right g l n add-recipient h = absurd (true≢false h)
 other-right g l n add-identity h = absurd (true≢false h)
 other-right g l n wrap-file-key h = absurd (true≢false h)
@@ -70,7 +71,7 @@ unknown-right machine name x h = other-right name (lineIn (x .text)) (length (bo
 module _ (machine : Machine) (name : List ℕ) where
   module _ (p q : Phase) (r : Rearranged one-part machine name p q) where
     -- they make the same rows of each kind
-    same-rows : (k : Kind) → rowsIn machine name k (textsOf p) ≡ rowsIn machine name k (textsOf q)
+    same-rows : (k : KindOne) → rowsIn machine name k (textsOf p) ≡ rowsIn machine name k (textsOf q)
     same-rows k =
         let text : Block → List ℕ = λ x. x .text in
         ap (rowsIn machine name k) (map-append text (p .ahead) (p .last ∷ [])) ∙ rows-append machine name k (map text (p .ahead)) (p .last .text ∷ [])
@@ -89,7 +90,7 @@ module _ (machine : Machine) (name : List ℕ) where
         )
 
     -- with buffers of equal lengths the one is allowed where the other is
-    same-allowed : (b c : OneBuffers) → ((k : Kind) → length (bufferOf k b) ≡ length (bufferOf k c)) → Allowed machine name b (textsOf p) → Allowed machine name c (textsOf q)
+    same-allowed : (b c : BuffersOne) → ((k : KindOne) → length (bufferOf k b) ≡ length (bufferOf k c)) → Allowed machine name b (textsOf p) → Allowed machine name c (textsOf q)
     same-allowed b c l a =
         let P : List ℕ → Type 0 = λ t. isRight (commandOf machine name t) ≡ true in
         record {
@@ -118,7 +119,7 @@ quiet-written machine screen s b outs (x ∷ xs) h =
 -- ---- both
 
 -- phase two's tables show nothing yet
-late-none : (machine : Machine) (name : List ℕ) (ts : List (List ℕ)) (x : State) → Holds machine name ts x → (k : two.Kind) → viewOf (second k) (x .session .tables) (x .buffers) ≡ []
+late-none : (machine : Machine) (name : List ℕ) (ts : List (List ℕ)) (x : State) → Holds machine name ts x → (k : two.KindTwo) → viewOf (second k) (x .session .tables) (x .buffers) ≡ []
 late-none machine name ts x h two.errors = ap (λ t. view t (x .buffers .second .errors)) (h .errors)
 late-none machine name ts x h two.stanzas = ap (λ t. view t (x .buffers .second .stanzas)) (h .stanzas)
 late-none machine name ts x h two.returned = ap (λ t. view t (x .buffers .second .returned)) (h .returned)
@@ -143,7 +144,7 @@ module _ (machine : Machine) (name : List ℕ) where
             let y = accepted-tables machine name false c outs′ q hq (forth a) in
             let end = after start b (callsOf one-part outs (blocksOf p)) in
             let end′ = after start c (callsOf one-part outs′ (blocksOf q)) in
-            let late : (k : two.Kind) → viewOf (second k) (end .session .tables) (end .buffers) ≡ viewOf (second k) (end′ .session .tables) (end′ .buffers) =
+            let late : (k : two.KindTwo) → viewOf (second k) (end .session .tables) (end .buffers) ≡ viewOf (second k) (end′ .session .tables) (end′ .buffers) =
             λ k. late-none machine name (textsOf p) end x k ∙ sym (late-none machine name (textsOf q) end′ y k) in
             record {
               views = λ k. x .views k ∙ same-rows machine name p q r k ∙ sym (y .views k);

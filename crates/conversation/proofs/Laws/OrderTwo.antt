@@ -1,55 +1,46 @@
 -- Phase two at the client end: exactly the allowed phases are accepted by a session that has just sent done; a rearrangement of an allowed phase is allowed; and
 -- what they leave and write is the same.
 use Prim.Native.Nat.{ℕ, _+_, _≤_}
-use mathlib.Core.Path.{_≡_, refl, sym, ap, ap₂, _∙_, subst, subst₂, fun-ext}
-use mathlib.Core.Bool.{Bool, true, false, not, _&&_, _||_, true≢false, false≢true}
-use mathlib.Core.Logic.{_⊎_, inl, inr, ⊎-elim, _↔_}
-use mathlib.Core.List.{List, [], _∷_, _++_, map, append-nil, append-assoc, List·Permᴰ}
-use lib.Dec.{eqb, ltb, leb}
+use mathlib.Core.Path.{_≡_, refl, sym, ap, ap₂, _∙_, subst, fun-ext}
+use mathlib.Core.Bool.{Bool, true, false, not, _&&_, true≢false}
+use mathlib.Core.Logic.{inl, _↔_}
+use mathlib.Core.List.{List, [], _∷_, _++_, map, append-nil, append-assoc}
+use lib.Dec.{eqb}
 use lib.ListN.{length}
 use native.Mathlib.Omega.{arith}
-use borrow.Author.Tests.{eqb-true, eq-eqb, not-false}
+use borrow.Author.Tests.{eqb-true, not-false}
 use Rattle.refusal.specs.Pick.{pick}
 use Rattle.refusal.proofs.Laws.Booleans.{cases}
-use Rattle.tables.specs.Tables.{Table, Row, view, opened}
+use Rattle.tables.specs.Tables.{Row, view, opened}
 use Rattle.tables.proofs.Laws.Tables.{Kept, opened-kept, view-count}
-use Rattle.session.specs.PhaseOne.{Tables, openedTables}
-use Rattle.session.specs.Views as one-kind
-use Rattle.session.specs.Views.{recipients, identities}
-use Rattle.session.proofs.Laws.Views.{Reached}
-use Rattle.session.specs.declared.commands.Machine.{Machine}
+use Rattle.session.specs.Tables.{Tables}
+use Rattle.phase_one.specs.Views as one-kind
+use Rattle.phase_one.specs.Views.{recipients, identities}
+use Rattle.phase_one.proofs.Laws.Views.{Reached}
+use Rattle.session.specs.declared.opening.Machine.{Machine}
 use Rattle.session.specs.declared.phases.Phase.the-variants.{Two}
 use Rattle.conversation.specs.Calls.{State, stateOf, after, Accepted}
-use Rattle.conversation.specs.CommandsTwo.{Named, internal, identity, recipient, header, CommandTwo, ask, stanza, key, error, done, other, bad}
-use Rattle.conversation.specs.Kinds as kinds
+use Rattle.conversation.specs.CommandsTwo.{CommandTwo, ask, stanza, key, error, done, other, bad}
 use Rattle.conversation.specs.Kinds.{Buffers, ofFile}
-use Rattle.conversation.specs.PhaseTwo.{Kind, errors, stanzas, returned, tableOf, bufferOf, viewOf, labels, howMany, isFile, isAbout, mostStanzas, rowsOf, indexOf, markOf}
-use Rattle.conversation.specs.Phases.{All, keep, Whole, isDone, commandIn, payloadIn, isNamedTwo, isError, isStanzaFor, Part, one-part, two-part, Block, Phase, blocksOf, IsPhase, Supply, callsOf, writtenIn, responsesTo, LongEnough, Starts, JustDone, SameLengths, SameStart, isKept, Strand, of-errors, of-file, isIn, Rearranged, SameTables, SameOutcome}
-use Rattle.conversation.specs.Session.{Session, moved}
-use Rattle.conversation.specs.Allowed.{Left, isRightTwo, Present, isKeyFor, isErrorFor, isKind, Said, Sum, keys-for, stanzas-for, errors-for, entries, bytes, weight, total, slotsTwo, Limits, saidBy, Answered, RightBlock, AllowedTwo}
+use Rattle.conversation.specs.PhaseTwo.{KindTwo, errors, stanzas, returned, tableOf, bufferOf, viewOf, labels, howMany, isFile, isAbout, rowsOf}
+use Rattle.conversation.specs.Phases.{All, keep, commandIn, payloadIn, isNamedTwo, isError, isStanzaFor, two-part, Block, Phase, blocksOf, IsPhase, Supply, callsOf, writtenIn, responsesTo, LongEnough, SameStart, isKept, of-errors, of-file, Rearranged, SameTables, SameOutcome}
+use Rattle.session.specs.Session.{Session, moved}
+use Rattle.conversation.specs.Allowed.{Left, isRightTwo, Present, isKeyFor, Said, Sum, keys-for, stanzas-for, errors-for, entries, bytes, weight, total, slotsTwo, Limits, saidBy, Answered, RightBlock, AllowedTwo, leftOf, capacityOf}
 use Rattle.conversation.proofs.Laws.AllowedTwo.{limits-same, Standing, Fitting, accepted-from}
-use Rattle.conversation.proofs.Laws.DecidedTwo.{rowLabels, labels-view}
-use Rattle.conversation.proofs.Laws.LeftTwo.{rowsBy, rowsIn, Grown, Done, left-from}
-use Rattle.conversation.proofs.Laws.Lists.{all-append, all-permuted, all-kept, sumOf, sum-append, sum-permuted, sum-kept, sum-map, length-keep, keep-permuted-once, keep-kept}
+use Rattle.conversation.proofs.Laws.DecidedTwo.{labels-view}
+use Rattle.conversation.proofs.Laws.LeftTwo.{rowsBy, rowsIn, Grown, left-from}
+use Rattle.conversation.proofs.Laws.Lists.{all-append, all-permuted, all-kept, sumOf, sum-append, sum-permuted, sum-kept, length-keep, keep-permuted-once, keep-kept}
 use Rattle.conversation.proofs.Laws.OrderOne.{turned}
 use Rattle.conversation.proofs.Laws.PresentTwo.{Shows, most-is}
-use Rattle.conversation.proofs.Laws.Reached.{LaterOpened, ReachedSession, JustReached, just-done}
+use Rattle.conversation.proofs.Laws.Reached.{LaterOpened, ReachedSession, JustReached}
 use Rattle.conversation.proofs.Laws.StepsTwo.{at}
-use Rattle.conversation.proofs.Laws.SumsTwo.{sumsIn, Going, Kept-limits, or-false}
+use Rattle.conversation.proofs.Laws.SumsTwo.{sumsIn, Kept-limits, or-false}
 use Rattle.conversation.proofs.Laws.Tables.{of-file-append}
 
 -- ---- a session that has just sent done
 
--- what phase one left, as its tables show it
-abbrev pub leftOf : State → Left
-leftOf x k = one-kind.viewOf k (x .session .tables) (x .buffers .first)
-
--- the lengths of phase two's buffers
-abbrev pub capacityOf : Buffers → Kind → ℕ
-capacityOf b k = length (bufferOf k (b .second))
-
 -- each table of phase two is as opened
-second-opened : (t : Tables) → LaterOpened t → (k : Kind) → tableOf k t ≡ opened (slotsTwo k)
+second-opened : (t : Tables) → LaterOpened t → (k : KindTwo) → tableOf k t ≡ opened (slotsTwo k)
 second-opened t l errors = l .0
 second-opened t l stanzas = l .1
 second-opened t l returned = l .2
@@ -192,7 +183,7 @@ module _ (machine : Machine) (name : List ℕ) (p q : Phase) (r : Rearranged two
       ∙ sym (sum-append w (p .ahead) (p .last ∷ [])) ∙ sym (total-sum machine m (blocksOf p))
 
   -- with equal settings and lengths the one is allowed where the other is
-  same-allowed : (screen : Bool) (left : Left) (c d : Kind → ℕ) → ((k : Kind) → c k ≡ d k) → AllowedTwo machine screen left c (blocksOf p) → AllowedTwo machine screen left d (blocksOf q)
+  same-allowed : (screen : Bool) (left : Left) (c d : KindTwo → ℕ) → ((k : KindTwo) → c k ≡ d k) → AllowedTwo machine screen left c (blocksOf p) → AllowedTwo machine screen left d (blocksOf q)
   same-allowed screen left c d e a =
       let P : Block → Type 0 = RightBlock machine screen left in
       let known : (xs : List Block) → All P xs ↔ All P (keep (isKept two-part machine) xs) = λ xs. all-kept P (isKept two-part machine) (spare-right machine screen left) xs in
@@ -204,7 +195,7 @@ module _ (machine : Machine) (name : List ℕ) (p q : Phase) (r : Rearranged two
 
 -- ---- rows over blocks
 
-module _ (machine : Machine) (k : Kind) where
+module _ (machine : Machine) (k : KindTwo) where
   rows-append : (xs ys : List Block) → rowsIn machine k (xs ++ ys) ≡ rowsIn machine k xs ++ rowsIn machine k ys
   unfolding rowsIn
   rows-append [] ys = refl
@@ -287,7 +278,7 @@ module _ (machine : Machine) (name : List ℕ) (p q : Phase) (r : Rearranged two
 -- ---- both
 
 -- nothing is shown of phase two's tables where they are as opened
-second-empty : (t : Tables) (b : Buffers) → LaterOpened t → (k : Kind) → viewOf k t (b .second) ≡ []
+second-empty : (t : Tables) (b : Buffers) → LaterOpened t → (k : KindTwo) → viewOf k t (b .second) ≡ []
 second-empty t b l k = ap (λ x. view x (bufferOf k (b .second))) (second-opened t l k)
 
 module _ (x y : State) (jx : JustReached (x .session)) (jy : JustReached (y .session)) (e : SameStart two-part x y) (p q : Phase) (hp : IsPhase two-part p) (hq : IsPhase two-part q) (r : Rearranged two-part (x .session .machine) (x .session .name) p q) (outs outs′ : Supply)
@@ -318,10 +309,10 @@ module _ (x y : State) (jx : JustReached (x .session)) (jy : JustReached (y .ses
     left-y : Grown (y .session .tables) (y .buffers) (λ k. rowsIn (x .session .machine) k (blocksOf q)) (after (y .session) (y .buffers) (callsOf two-part outs′ (blocksOf q)))
     left-y = subst (λ m. Grown (y .session .tables) (y .buffers) (λ k. rowsIn m k (blocksOf q)) (after (y .session) (y .buffers) (callsOf two-part outs′ (blocksOf q)))) (sym (e .machine)) (accepted-two-left (y .session) (y .buffers) jy q hq outs′ ly (forth a) .0)
 
-    view-x : (k : Kind) → viewOf k (after (x .session) (x .buffers) (callsOf two-part outs (blocksOf p)) .session .tables) (after (x .session) (x .buffers) (callsOf two-part outs (blocksOf p)) .buffers .second) ≡ rowsIn (x .session .machine) k (blocksOf p)
+    view-x : (k : KindTwo) → viewOf k (after (x .session) (x .buffers) (callsOf two-part outs (blocksOf p)) .session .tables) (after (x .session) (x .buffers) (callsOf two-part outs (blocksOf p)) .buffers .second) ≡ rowsIn (x .session .machine) k (blocksOf p)
     view-x k = left-x .views k ∙ ap (λ v. v ++ rowsIn (x .session .machine) k (blocksOf p)) (second-empty (x .session .tables) (x .buffers) (jx .later-opened) k)
 
-    view-y : (k : Kind) → viewOf k (after (y .session) (y .buffers) (callsOf two-part outs′ (blocksOf q)) .session .tables) (after (y .session) (y .buffers) (callsOf two-part outs′ (blocksOf q)) .buffers .second) ≡ rowsIn (x .session .machine) k (blocksOf q)
+    view-y : (k : KindTwo) → viewOf k (after (y .session) (y .buffers) (callsOf two-part outs′ (blocksOf q)) .session .tables) (after (y .session) (y .buffers) (callsOf two-part outs′ (blocksOf q)) .buffers .second) ≡ rowsIn (x .session .machine) k (blocksOf q)
     view-y k = left-y .views k ∙ ap (λ v. v ++ rowsIn (x .session .machine) k (blocksOf q)) (second-empty (y .session .tables) (y .buffers) (jy .later-opened) k)
 
     same-tables : SameTables (after (x .session) (x .buffers) (callsOf two-part outs (blocksOf p))) (after (y .session) (y .buffers) (callsOf two-part outs′ (blocksOf q)))

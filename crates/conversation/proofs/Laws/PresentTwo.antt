@@ -1,22 +1,20 @@
 -- Phase two: what the decision asks of phase one's tables, said of the rows that they show.
-use Prim.Native.Nat.{ℕ, zero, suc, _+_, _<_, _≤_}
+use Prim.Native.Nat.{ℕ, zero, suc, _+_, _<_}
 use mathlib.Core.Path.{_≡_, refl, sym, ap, ap₂, _∙_, subst}
-use mathlib.Core.Bool.{Bool, true, false, not, _&&_, _||_, true≢false, false≢true}
-use mathlib.Core.Logic.{_⊎_, inl, inr, ⊎-elim, _↔_}
+use mathlib.Core.Bool.{Bool, true, false, not, false≢true}
+use mathlib.Core.Logic.{_↔_}
 use mathlib.Core.List.{List, [], _∷_}
-use lib.Dec.{ltb, leb, eqb}
+use lib.Dec.{ltb}
 use lib.ListN.{length}
 use native.Mathlib.Omega.{arith}
-use borrow.Author.Tests.{ltb-true, ltb-false, lt-ltb, le-ltb, eqb-true, eqb-false, eq-eqb, ne-eqb, not-false}
-use Rattle.refusal.specs.Pick.{pick}
-use Rattle.refusal.proofs.Laws.Booleans.{and-true, true-and, cases}
+use borrow.Author.Tests.{ltb-true, lt-ltb, eqb-true, eq-eqb, not-false}
+use Rattle.refusal.proofs.Laws.Booleans.{cases}
 use Rattle.tables.specs.Tables.{Row}
-use Rattle.session.specs.PhaseOne as one
-use Rattle.session.specs.PhaseOne.{Tables}
-use Rattle.session.specs.Views as one-kind
-use Rattle.session.specs.Views.{recipients, identities, keys, headers}
-use Rattle.conversation.specs.CommandsTwo.{Named, internal, identity, recipient, header, CommandTwo, ask, stanza, key, error, done, other, bad}
-use Rattle.conversation.specs.PhaseTwo.{Label, labels, howMany, isAny, passes, isFile, mostStanzas, isMissing, Buffers, applied}
+use Rattle.session.specs.Tables.{Tables}
+use Rattle.phase_one.specs.Views as one-kind
+use Rattle.phase_one.specs.Views.{recipients, identities, keys, headers}
+use Rattle.conversation.specs.CommandsTwo.{internal, identity, recipient, header, CommandTwo, ask, stanza, key, error, done, other, bad}
+use Rattle.conversation.specs.PhaseTwo.{Label, labels, howMany, isAny, passes, isFile, mostStanzas, isMissing, BuffersTwo, applied}
 use Rattle.conversation.specs.Allowed.{Left, RowAt, Present}
 use Rattle.conversation.proofs.Laws.DecidedTwo.{rowLabel, rowLabels}
 use Rattle.conversation.proofs.Laws.SumsTwo.{not-is}
@@ -50,14 +48,14 @@ module _ (q : Label → Bool) (P : Row → Type 0) (same : (r : Row) → (q (row
 
 -- tables whose rows of phase one are these, as far as the decision asks
 pub record Shows (t : Tables) (left : Left) : Type 0 where
-  pub counts : (k : one-kind.Kind) → one-kind.tableOf k t .count ≡ length (left k)
-  pub labelled : (k : one-kind.Kind) → labels (one-kind.tableOf k t) ≡ rowLabels (left k)
+  pub counts : (k : one-kind.KindOne) → one-kind.tableOf k t .count ≡ length (left k)
+  pub labelled : (k : one-kind.KindOne) → labels (one-kind.tableOf k t) ≡ rowLabels (left k)
 
 pub most-is : (t : Tables) (left : Left) → Shows t left → mostStanzas t ≡ length (left recipients) + length (left identities)
 most-is t left s = ap₂ _+_ (s .counts recipients) (s .counts identities)
 
 -- a command of phase two leaves them
-pub applied-shows : (t : Tables) (b : Buffers) (c : CommandTwo) (p : List ℕ) (left : Left) → Shows t left → Shows (applied t b c p) left
+pub applied-shows : (t : Tables) (b : BuffersTwo) (c : CommandTwo) (p : List ℕ) (left : Left) → Shows t left → Shows (applied t b c p) left
 applied-shows t b c p left s = record {
   counts = λ k. ap (λ x. x .count) (two-leaves t p b c k) ∙ s .counts k;
   labelled = λ k. ap labels (two-leaves t p b c k) ∙ s .labelled k;

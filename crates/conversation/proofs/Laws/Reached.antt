@@ -13,19 +13,21 @@ use Rattle.stanza.specs.Reading.{readFirst}
 use Rattle.bech32.specs.Text.{isName}
 use Rattle.tables.specs.Tables.{Table, fits, appended, entered}
 use Rattle.tables.proofs.Laws.Tables.{Filled}
-use Rattle.session.specs.Commands.{Command, recipient, identity, key, header, done, other, bad, Word, lineSent}
-use Rattle.session.specs.Opening.{Named, named, nameless, machineNamed, refusedSettings, settingsOf, settings}
-use Rattle.session.specs.PhaseOne as one
-use Rattle.session.specs.PhaseOne.{Tables, openedTables, commandIn, payloadIn}
-use Rattle.session.specs.Phases.{closes, phaseAfter, phaseOpened}
-use Rattle.session.specs.Views as one-kind
-use Rattle.session.specs.Views.{recipients, identities, keys, headers}
+use Rattle.phase_one.specs.Commands.{CommandOne, recipient, identity, key, header, done, other, bad, WordOne, lineSent}
+use Rattle.session.specs.Opening.{MachineFound, named, nameless, machineNamed, refusedSettings, settingsOf, settings}
+use Rattle.phase_one.specs.PhaseOne as one
+use Rattle.session.specs.Tables.{Tables, openedTables}
+use Rattle.phase_one.specs.PhaseOne.{commandIn, payloadIn}
+use Rattle.session.specs.Phases.{closes, phaseOpened}
+use Rattle.phase_one.specs.Turns.{phaseAfter}
+use Rattle.phase_one.specs.Views as one-kind
+use Rattle.phase_one.specs.Views.{recipients, identities, keys, headers}
 use Rattle.session.specs.declared.phases.Phase.{Phase}
 use Rattle.session.specs.declared.phases.Phase.the-variants.{One, Two, Closed}
-use Rattle.session.specs.declared.commands.Machine.{Machine}
-use Rattle.session.proofs.Laws.Views.{Reached, opened-reached, applied-reached, payload-stored}
-use Rattle.conversation.specs.Session.{Session, moved, closed, openedSession, opened}
-use Rattle.conversation.specs.Kinds.{Kind, first, second, Buffers, tableOf}
+use Rattle.session.specs.declared.opening.Machine.{Machine}
+use Rattle.phase_one.proofs.Laws.Views.{Reached, opened-reached, applied-reached, payload-stored}
+use Rattle.session.specs.Session.{Session, moved, closed, openedSession, opened}
+use Rattle.conversation.specs.Kinds.{AnyKind, first, second, Buffers, tableOf}
 use Rattle.conversation.specs.CommandsTwo as two-command
 use Rattle.conversation.specs.CommandsTwo.{CommandTwo}
 use Rattle.conversation.specs.PhaseTwo as two
@@ -34,7 +36,7 @@ use Rattle.conversation.specs.TurnsTwo.{answered}
 use Rattle.conversation.specs.ReceivingTwo.{phaseReceived}
 use Rattle.conversation.specs.SendingTwo.{phaseSent}
 use Rattle.conversation.specs.Calls.{Call, receive, send, receive-two, reply, send-two, respond, Outcome, outcome, sessionAfter, after, lineRead, bodyRead}
-use Rattle.conversation.specs.Phases.{CallWith, afterEach, JustDone}
+use Rattle.conversation.specs.Phases.{CallWith, afterEach, JustDone, JustReceived}
 use Rattle.conversation.proofs.Laws.Accepted.{Applied, AppliedTwo, commandAt, payloadAt, AcceptedBy, accepted}
 use Rattle.conversation.proofs.Laws.Refusals.{refusal}
 use Rattle.conversation.proofs.Laws.ViewsTwo.{ReachedTwo, opened-reached-two, applied-reached-two, payload-stored-two, one-leaves, two-leaves, KeptAs}
@@ -45,7 +47,7 @@ LaterOpened t = (t .errors ≡ openedTables .errors) × (t .stanzas ≡ openedTa
 
 -- each table has the slots that it was opened with: 64, 64, 64 and 256; 384, 256 and 256
 abbrev pub Wide : Tables → Type 0
-Wide t = (k : Kind) → tableOf k t .width ≡ tableOf k openedTables .width
+Wide t = (k : AnyKind) → tableOf k t .width ≡ tableOf k openedTables .width
 
 -- each kind has its entries in the first slots, one behind the other, no payload empty but an error's, and the rest is as opened; each table has its slots; in
 -- phase one, phase two's tables are as opened
@@ -91,7 +93,7 @@ pub record OpenedBy (machine name : List ℕ) (screen : Bool) : Type 0 where
 pub opening-accepted : (machine name : List ℕ) (screen : Bool) → opened machine name screen .number ≡ 0 → OpenedBy machine name screen
 opening-accepted machine name screen e = any (machineNamed machine) refl
   where
-    any : (m : Named) → machineNamed machine ≡ m → OpenedBy machine name screen
+    any : (m : MachineFound) → machineNamed machine ≡ m → OpenedBy machine name screen
     any nameless q = let z : _≡_ {A = ℕ} 18 0 = ap (λ x. settingsOf x name .number) (sym q) ∙ e in absurd (omega arith)
     any (named m) q =
         cases (isName name)
@@ -115,8 +117,8 @@ entered-width t n index mark capacity = either (fits t n capacity)
     either true = refl
     either false = refl
 
-module _ (t : Tables) (b : one.Buffers) (p : List ℕ) where
-  widths : (c : Command) (k : one-kind.Kind) → one-kind.tableOf k (one.applied t b c p) .width ≡ one-kind.tableOf k t .width
+module _ (t : Tables) (b : one.BuffersOne) (p : List ℕ) where
+  widths : (c : CommandOne) (k : one-kind.KindOne) → one-kind.tableOf k (one.applied t b c p) .width ≡ one-kind.tableOf k t .width
   widths (recipient m) recipients = entered-width (t .recipients) (length p) 0 m (length (b .recipients))
   widths (recipient m) identities = refl
   widths (recipient m) keys = refl
@@ -137,20 +139,20 @@ module _ (t : Tables) (b : one.Buffers) (p : List ℕ) where
   widths other k = refl
   widths (bad n) k = refl
 
-  applied-wide : (c : Command) → Wide t → Wide (one.applied t b c p)
+  applied-wide : (c : CommandOne) → Wide t → Wide (one.applied t b c p)
   applied-wide c w (first k) = widths c k ∙ w (first k)
   applied-wide c w (second k) = ap (λ x. x .width) (one-leaves t p b c k) ∙ w (second k)
 
-  applied-later-tables : (c : Command) → ReachedTwo t → ReachedTwo (one.applied t b c p)
+  applied-later-tables : (c : CommandOne) → ReachedTwo t → ReachedTwo (one.applied t b c p)
   unfolding ReachedTwo
   applied-later-tables c r k = subst (KeptAs k) (sym (one-leaves t p b c k)) (r k)
 
-  applied-later : (c : Command) → LaterOpened t → LaterOpened (one.applied t b c p)
+  applied-later : (c : CommandOne) → LaterOpened t → LaterOpened (one.applied t b c p)
   applied-later c l = (one-leaves t p b c errors ∙ l .0, one-leaves t p b c stanzas ∙ l .1, one-leaves t p b c returned ∙ l .2)
 
 -- .. of phase two
-module _ (t : Tables) (b : two.Buffers) (p : List ℕ) where
-  widths-two : (c : CommandTwo) (k : two.Kind) → two.tableOf k (two.applied t b c p) .width ≡ two.tableOf k t .width
+module _ (t : Tables) (b : two.BuffersTwo) (p : List ℕ) where
+  widths-two : (c : CommandTwo) (k : two.KindTwo) → two.tableOf k (two.applied t b c p) .width ≡ two.tableOf k t .width
   widths-two (two-command.ask w) k = refl
   widths-two (two-command.stanza f) errors = refl
   widths-two (two-command.stanza f) stanzas = entered-width (t .stanzas) (length p) f 0 (length (b .stanzas))
@@ -213,7 +215,7 @@ module _ (s : Session) (r : ReachedSession s) where
   left-reached (respond text out) n = closed-reached (closes n)
 
   -- an accepted command of phase one
-  applied-so : (b b′ : one.Buffers) (line body : List ℕ) (s′ : Session) → Applied s b line body s′ b′ → ReachedSession s′
+  applied-so : (b b′ : one.BuffersOne) (line body : List ℕ) (s′ : Session) → Applied s b line body s′ b′ → ReachedSession s′
   applied-so b b′ line body s′ a =
       let c = commandIn (s .machine) (s .name) line body in
       let p = payloadIn (s .machine) (s .name) line body in
@@ -276,7 +278,7 @@ pub record JustReached (s : Session) : Type 0 where
   pub reached : ReachedSession s
 
 -- done of phase one leads to it, received or sent
-just-applied : (s₀ s : Session) (b b′ : one.Buffers) (line body : List ℕ) → ReachedSession s₀ → Applied s₀ b line body s b′ → commandIn (s .machine) (s .name) line body ≡ done → ReachedSession s → JustReached s
+just-applied : (s₀ s : Session) (b b′ : one.BuffersOne) (line body : List ℕ) → ReachedSession s₀ → Applied s₀ b line body s b′ → commandIn (s .machine) (s .name) line body ≡ done → ReachedSession s → JustReached s
 just-applied s₀ s b b′ line body r a d reached =
     let c = commandIn (s₀ .machine) (s₀ .name) line body in
     let p = payloadIn (s₀ .machine) (s₀ .name) line body in
@@ -287,7 +289,7 @@ just-applied s₀ s b b′ line body r a d reached =
       reached = reached;
     }
 
-just-from : (s₀ s : Session) (b : Buffers) (word : Word) (arguments body out : List ℕ) → ReachedSession s₀ →
+just-from : (s₀ s : Session) (b : Buffers) (word : WordOne) (arguments body out : List ℕ) → ReachedSession s₀ →
     commandIn (s .machine) (s .name) (lineSent word arguments) body ≡ done → outcome s₀ b (send word arguments body out) .number ≡ 0 → s ≡ outcome s₀ b (send word arguments body out) .session → JustReached s
 just-from s₀ s b word arguments body out r d z e =
     let o = outcome s₀ b (send word arguments body out) in
@@ -309,3 +311,14 @@ pub just-done : (s : Session) → JustDone s → JustReached s
 just-done s j =
     just-from (afterEach (opened (j .machine) (j .name) (j .screen) .session) (j .before)) s (j .buffers) (j .word) (j .arguments) (j .body) (j .out)
     (each-reached (opened (j .machine) (j .name) (j .screen) .session) (j .before) (opening-reached (j .machine) (j .name) (j .screen))) (j .is-done) (j .accepted) (j .reached)
+
+pub just-received-done : (s : Session) → JustReceived s → JustReached s
+just-received-done s j =
+    let s₀ = afterEach (opened (j .machine) (j .name) false .session) (j .before) in
+    let o = outcome s₀ (j .buffers) (receive (j .text)) in
+    let line = lineRead (readFirst (j .text)) (j .text) in
+    let body = bodyRead (readFirst (j .text)) (j .text) in
+    let a = accepted s₀ (j .buffers) (receive (j .text)) (j .accepted) .applied in
+    subst JustReached (sym (j .reached))
+    (just-received s₀ (j .buffers) (j .text) (each-reached (opened (j .machine) (j .name) false .session) (j .before) (opening-reached (j .machine) (j .name) false)) (j .accepted)
+    (ap (λ x. commandIn (x .machine) (x .name) line body) (sym (a .session)) ∙ ap (λ x. commandIn (x .machine) (x .name) line body) (sym (j .reached)) ∙ j .is-done))

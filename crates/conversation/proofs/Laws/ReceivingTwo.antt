@@ -10,14 +10,15 @@ use Rattle.refusal.specs.Output.{filled}
 use Rattle.refusal.specs.Pick.{pick}
 use Rattle.stanza.specs.Arguments.{argumentOf}
 use Rattle.stanza.specs.Reading.{readFirst}
-use Rattle.session.specs.PhaseOne.{Tables, firstOf}
+use Rattle.session.specs.Tables.{Tables}
+use Rattle.refusal.specs.Verdict.{firstOf}
 use Rattle.session.specs.Phases.{closes}
-use Rattle.session.specs.declared.commands.Machine.{Machine}
+use Rattle.session.specs.declared.opening.Machine.{Machine}
 use Rattle.session.specs.declared.phases.Phase.{Phase}
 use Rattle.session.specs.declared.phases.Phase.the-variants.{One, Two, Awaiting, Ended, Closed}
 use Rattle.conversation.specs.CommandsTwo.{CommandTwo, commandTwo, rowTwo, wordTwo, wordOf, payloadOf}
-use Rattle.conversation.specs.PhaseTwo.{Buffers, buffersOf, decided, applied, filledBy}
-use Rattle.conversation.specs.Session.{Session, closed}
+use Rattle.conversation.specs.PhaseTwo.{BuffersTwo, when, isSpaceless, ruled, decided, applied, filledBy}
+use Rattle.session.specs.Session.{Session, closed}
 use Rattle.conversation.specs.Sending.{shortness}
 use Rattle.conversation.specs.TurnsTwo.{turnTwo}
 use Rattle.conversation.specs.ReceivingTwo.{AtOnce, atOnce, textOf, phaseReceived, Taking, took, declined, Received, refusedReceipt, receivedStanza, receivedAs, received}
@@ -25,15 +26,15 @@ use Rattle.conversation.specs.ReceivingTwo.{AtOnce, atOnce, textOf, phas
 abbrev sessionIn : Machine → List ℕ → Bool → Phase → Tables → Session
 sessionIn m g x p t = record { machine = m; name = g; screen = x; phase = p; tables = t }
 
-abbrev receipt : Taking → Session → Buffers → List ℕ → Received
+abbrev receipt : Taking → Session → BuffersTwo → List ℕ → Received
 receipt a s b out = record { answer = a; session = s; buffers = b; output = out }
 
-module _ (m : Machine) (g : List ℕ) (x : Bool) (t : Tables) (b : Buffers) (out : List ℕ) where
-  -- a refusal in phase two
-  pub refusal-is : (n : ℕ) → receipt (declined n) (sessionIn m g x (pick (closes n) Closed Two) t) b out ≡ refusedReceipt n (sessionIn m g x Two t) b out
+module _ (m : Machine) (g : List ℕ) (x : Bool) (q : Phase) (t : Tables) (b : BuffersTwo) (out : List ℕ) where
+  -- a refusal
+  pub refusal-is : (n : ℕ) → receipt (declined n) (sessionIn m g x (pick (closes n) Closed q) t) b out ≡ refusedReceipt n (sessionIn m g x q t) b out
   refusal-is n = go (closes n)
     where
-      go : (f : Bool) → receipt (declined n) (sessionIn m g x (pick f Closed Two) t) b out ≡ receipt (declined n) (pick f (sessionIn m g x Closed t) (sessionIn m g x Two t)) b out
+      go : (f : Bool) → receipt (declined n) (sessionIn m g x (pick f Closed q) t) b out ≡ receipt (declined n) (pick f (sessionIn m g x Closed t) (sessionIn m g x q t)) b out
       go true = refl
       go false = refl
 
@@ -41,38 +42,38 @@ module _ (m : Machine) (g : List ℕ) (x : Bool) (t : Tables) (b : Buffers) (out
   module _ (l y : List ℕ) (k : ℕ) where
     step-is : (c : CommandTwo) (n : ℕ) → c ≡ commandTwo m l y → n ≡ firstOf (decided false t b c (length (payloadOf c l y))) (shortness (textOf (atOnce x c)) out) →
         receipt (pick (eqb n 0) (took (wordOf c) k (length (textOf (atOnce x c)))) (declined n))
-        (sessionIn m g x (pick (eqb n 0) (phaseReceived x c) (pick (closes n) Closed Two)) (pick (eqb n 0) (applied t b c (payloadOf c l y)) t))
+        (sessionIn m g x (pick (eqb n 0) (phaseReceived x c) (pick (closes n) Closed q)) (pick (eqb n 0) (applied t b c (payloadOf c l y)) t))
         (pick (eqb n 0) (filledBy t b c (payloadOf c l y)) b)
-        (pick (eqb n 0) (filled (textOf (atOnce x c)) out) out) ≡ receivedStanza (sessionIn m g x Two t) b out l y k
+        (pick (eqb n 0) (filled (textOf (atOnce x c)) out) out) ≡ receivedStanza (sessionIn m g x q t) b out l y k
     unfolding receivedStanza
     step-is c n ec en = rw (sym ec, sym en) (go (eqb n 0) (closes n))
       where
         go : (f h : Bool) →
             receipt (pick f (took (wordOf c) k (length (textOf (atOnce x c)))) (declined n))
-            (sessionIn m g x (pick f (phaseReceived x c) (pick h Closed Two)) (pick f (applied t b c (payloadOf c l y)) t))
+            (sessionIn m g x (pick f (phaseReceived x c) (pick h Closed q)) (pick f (applied t b c (payloadOf c l y)) t))
             (pick f (filledBy t b c (payloadOf c l y)) b)
             (pick f (filled (textOf (atOnce x c)) out) out) ≡ pick f
             (receipt (took (wordOf c) k (length (textOf (atOnce x c)))) (sessionIn m g x (phaseReceived x c) (applied t b c (payloadOf c l y))) (filledBy t b c (payloadOf c l y)) (filled (textOf (atOnce x c)) out))
-            (receipt (declined n) (pick h (sessionIn m g x Closed t) (sessionIn m g x Two t)) b out)
+            (receipt (declined n) (pick h (sessionIn m g x Closed t) (sessionIn m g x q t)) b out)
         go true h = refl
         go false true = refl
         go false false = refl
 
-    -- the same by what each part of the code came to: the command, its payload's length, the decision, the answer at once, its length, the output's shortness,
-    -- the first fault; then the answer, the phase, the tables, the three buffers and the output
-    pub received-from : (c : CommandTwo) (q d : ℕ) (w : AtOnce) (j late n : ℕ) (a : Taking) (p : Phase) (t′ : Tables) (e′ s′ r′ o′ : List ℕ) → c ≡ rowTwo (wordTwo m (argumentOf l 0)) m l (length y) → q ≡ length (payloadOf c l y) → d ≡ decided false t b c q → w ≡ atOnce x c → j ≡ length (textOf w) →
-        late ≡ pick (ltb (length out) j) 15 0 → n ≡ firstOf d late → a ≡ pick (eqb n 0) (took (wordOf c) k j) (declined n) → p ≡ pick (eqb n 0) (phaseReceived x c) (pick (closes n) Closed Two) → t′ ≡ pick (eqb (firstOf d late) 0) (applied t b c (payloadOf c l y)) t →
-        e′ ≡ (pick (eqb (firstOf d late) 0) (filledBy t b c (payloadOf c l y)) b) .errors → s′ ≡ (pick (eqb (firstOf d late) 0) (filledBy t b c (payloadOf c l y)) b) .stanzas → r′ ≡ (pick (eqb (firstOf d late) 0) (filledBy t b c (payloadOf c l y)) b) .returned →
-        o′ ≡ pick (eqb n 0) (filled (textOf w) out) out → receipt a (sessionIn m g x p t′) (buffersOf e′ s′ r′) o′ ≡ receivedStanza (sessionIn m g x Two t) b out l y k
-    unfolding commandTwo
-    received-from c q d w j late n a p t′ e′ s′ r′ o′ ec eq ed ew ej el en ea ep et ee es er eo =
-        let number : n ≡ firstOf (decided false t b c (length (payloadOf c l y))) (shortness (textOf (atOnce x c)) out) = en ∙ ap₂ firstOf (ed ∙ ap (decided false t b c) eq) (el ∙ ap (λ j. pick (ltb (length out) j) 15 0) ej ∙ ap (λ w. shortness (textOf w) out) ew) in
-        let tables : t′ ≡ pick (eqb n 0) (applied t b c (payloadOf c l y)) t = et ∙ ap (λ i. pick (eqb i 0) (applied t b c (payloadOf c l y)) t) (sym en) in
-        let buffers : buffersOf e′ s′ r′ ≡ pick (eqb n 0) (filledBy t b c (payloadOf c l y)) b = rw (ee, es, er) (ap (λ i. pick (eqb i 0) (filledBy t b c (payloadOf c l y)) b) (sym en)) in
+    -- the same by what each part of the code came to: the command, what is ruled, the answer at once, its length, the output's shortness, the number; then the
+    -- answer, the phase, the tables, the buffers and the output
+    pub received-from : (c : CommandTwo) (r : ℕ) (w : AtOnce) (j late n : ℕ) (a : Taking) (p : Phase) (t′ : Tables) (b′ : BuffersTwo) (o′ : List ℕ) →
+        c ≡ rowTwo (wordTwo m (argumentOf l 0)) m l (length y) → r ≡ ruled false t c → w ≡ atOnce x c → j ≡ length (textOf w) → late ≡ pick (ltb (length out) j) 15 0 →
+        n ≡ firstOf (firstOf r (when (isSpaceless t b c (length (payloadOf c l y))) 8)) late → a ≡ pick (eqb n 0) (took (wordOf c) k j) (declined n) →
+        p ≡ pick (eqb n 0) (phaseReceived x c) (pick (closes n) Closed q) → t′ ≡ pick (eqb n 0) (applied t b c (payloadOf c l y)) t → b′ ≡ pick (eqb n 0) (filledBy t b c (payloadOf c l y)) b →
+        o′ ≡ pick (eqb n 0) (filled (textOf w) out) out → receipt a (sessionIn m g x p t′) b′ o′ ≡ receivedStanza (sessionIn m g x q t) b out l y k
+    unfolding commandTwo decided
+    received-from c r w j late n a p t′ b′ o′ ec er ew ej el en ea ep et eb eo =
         let text : textOf w ≡ textOf (atOnce x c) = ap textOf ew in
-        whole (ea ∙ ap (λ i. pick (eqb n 0) (took (wordOf c) k i) (declined n)) (ej ∙ ap length text)) ep tables buffers (eo ∙ ap (λ i. pick (eqb n 0) (filled i out) out) text) (step-is c n ec number)
+        let number : n ≡ firstOf (decided false t b c (length (payloadOf c l y))) (shortness (textOf (atOnce x c)) out) =
+        en ∙ ap₂ (λ r z. firstOf (firstOf r (when (isSpaceless t b c (length (payloadOf c l y))) 8)) z) er (el ∙ ap (λ j. pick (ltb (length out) j) 15 0) (ej ∙ ap length text)) in
+        whole (ea ∙ ap (λ i. pick (eqb n 0) (took (wordOf c) k i) (declined n)) (ej ∙ ap length text)) ep et eb (eo ∙ ap (λ i. pick (eqb n 0) (filled i out) out) text) (step-is c n ec number)
       where
-        whole : {a a₂ : Taking} {p p₂ : Phase} {t₁ t₂ : Tables} {b₁ b₂ : Buffers} {o o₂ : List ℕ} {z : Received} → a ≡ a₂ → p ≡ p₂ → t₁ ≡ t₂ → b₁ ≡ b₂ → o ≡ o₂ → receipt a₂ (sessionIn m g x p₂ t₂) b₂ o₂ ≡ z → receipt a (sessionIn m g x p t₁) b₁ o ≡ z
+        whole : {a a₂ : Taking} {p p₂ : Phase} {t₁ t₂ : Tables} {b₁ b₂ : BuffersTwo} {o o₂ : List ℕ} {z : Received} → a ≡ a₂ → p ≡ p₂ → t₁ ≡ t₂ → b₁ ≡ b₂ → o ≡ o₂ → receipt a₂ (sessionIn m g x p₂ t₂) b₂ o₂ ≡ z → receipt a (sessionIn m g x p t₁) b₁ o ≡ z
         whole ea ep et eb eo e = rw (ea, ep, et, eb, eo) e
 
 -- ---- whose turn it is
@@ -92,7 +93,7 @@ turn-keeps (Awaiting w) e = refl
 turn-keeps Ended e = refl
 turn-keeps Closed e = refl
 
-pub received-out-of-turn : (s : Session) (text : List ℕ) (b : Buffers) (out : List ℕ) (n : ℕ) → n ≡ turnTwo (s .phase) → eqb n 0 ≡ false → receipt (declined n) s b out ≡ received s text b out
+pub received-out-of-turn : (s : Session) (text : List ℕ) (b : BuffersTwo) (out : List ℕ) (n : ℕ) → n ≡ turnTwo (s .phase) → eqb n 0 ≡ false → receipt (declined n) s b out ≡ received s text b out
 unfolding received
 received-out-of-turn s text b out n e f =
     let z : eqb (turnTwo (s .phase)) 0 ≡ false = ap (λ j. eqb j 0) (sym e) ∙ f in
@@ -100,7 +101,6 @@ received-out-of-turn s text b out n e f =
     ∙ ap (λ q. receipt (declined (turnTwo (s .phase))) (pick q (closed s) s) b out) (sym (turn-keeps (s .phase) z))
     ∙ ap (λ q. pick q (receivedAs (readFirst text) s text b out) (refusedReceipt (turnTwo (s .phase)) s b out)) (sym z)
 
-pub received-in-turn : (m : Machine) (g : List ℕ) (x : Bool) (p : Phase) (t : Tables) (text : List ℕ) (b : Buffers) (out : List ℕ) → 0 ≡ turnTwo p →
-    receivedAs (readFirst text) (sessionIn m g x Two t) text b out ≡ received (sessionIn m g x p t) text b out
+pub received-in-turn : (s : Session) (text : List ℕ) (b : BuffersTwo) (out : List ℕ) → 0 ≡ turnTwo (s .phase) → receivedAs (readFirst text) s text b out ≡ received s text b out
 unfolding received
-received-in-turn m g x p t text b out e = rw (turn-second p (sym e))
+received-in-turn s text b out e = ap (λ n. pick (eqb n 0) (receivedAs (readFirst text) s text b out) (refusedReceipt n s b out)) e

@@ -7,22 +7,22 @@ use lib.Dec.{eqb}
 use Rattle.refusal.specs.Pick.{pick}
 use Rattle.stanza.specs.Grammar.{stanzaText}
 use Rattle.stanza.specs.Reading.{Reading, stanza, refused, readFirst}
-use Rattle.stanza.specs.Writing.{isWritable}
 use Rattle.responses.specs.Responses.{ResponseRead, response, nothing, responseLine, fitsWhole}
 use Rattle.responses.specs.declared.Response.{Response}
-use Rattle.responses.specs.declared.WordTwo.{WordTwo}
-use Rattle.session.specs.Commands as one-command
-use Rattle.session.specs.Commands.{Word}
-use Rattle.session.specs.PhaseOne as one
-use Rattle.session.specs.PhaseOne.{firstOf}
-use Rattle.session.specs.Phases.{turnOne, closes}
+use Rattle.session.specs.declared.words.WordTwo.{WordTwo}
+use Rattle.phase_one.specs.Commands as one-command
+use Rattle.phase_one.specs.Commands.{WordOne}
+use Rattle.phase_one.specs.PhaseOne as one
+use Rattle.refusal.specs.Verdict.{firstOf}
+use Rattle.phase_one.specs.Turns.{turnOne}
+use Rattle.session.specs.Phases.{closes}
 use Rattle.session.specs.declared.phases.Phase.{Phase}
 use Rattle.session.specs.declared.phases.Phase.the-variants.{One, Two, Awaiting, Ended, Closed}
-use Rattle.conversation.specs.Session.{Session, closed}
+use Rattle.session.specs.Session.{Session, closed}
 use Rattle.conversation.specs.Kinds.{Buffers, buffersOf}
 use Rattle.conversation.specs.CommandsTwo as two-command
 use Rattle.conversation.specs.PhaseTwo as two
-use Rattle.conversation.specs.TurnsTwo.{turnTwo}
+use Rattle.conversation.specs.TurnsTwo.{turnTwo, dueIn}
 use Rattle.conversation.specs.Receiving as receiving
 use Rattle.conversation.specs.Sending as sending
 use Rattle.conversation.specs.Sending.{shortness}
@@ -30,15 +30,8 @@ use Rattle.conversation.specs.ReceivingTwo as receiving-two
 use Rattle.conversation.specs.Replying as replying
 use Rattle.conversation.specs.SendingTwo as sending-two
 use Rattle.conversation.specs.Responding as responding
-use Rattle.conversation.specs.Calls.{Call, receive, send, receive-two, reply, send-two, respond, takingNumber, sentNumber, sentSize, takingTwoNumber, takingTwoSize, respondedNumber, respondedSize, outcome, outputIn, sessionAfter}
-
--- a refused call's session, tables, buffers and output buffer; nothing is written
-pub record Refused (s : Session) (b : Buffers) (c : Call) : Type 0 where
-  pub session : outcome s b c .session ≡ sessionAfter c (outcome s b c .number) s
-  pub tables : outcome s b c .session .tables ≡ s .tables
-  pub buffers : outcome s b c .buffers ≡ b
-  pub output : outcome s b c .output ≡ outputIn c
-  pub size : outcome s b c .size ≡ 0
+use Rattle.conversation.specs.Calls.{Call, receive, send, receive-two, reply, send-two, respond, takingNumber, sentNumber, sentSize, takingTwoNumber, takingTwoSize, respondedNumber, respondedSize, outcome, Refused}
+use Rattle.conversation.proofs.Laws.Sending.{by-writable}
 
 -- either branch of a conditional
 pub either : {X : Type 0} (P : X → Type 0) (f : Bool) (x y : X) → P x → P y → P (pick f x y)
@@ -51,7 +44,7 @@ Left number left x = (number x ≡ 0 → ⊥) → x ≡ left (number x)
 
 module _ (s : Session) where
   -- phase one, received
-  module _ (b : one.Buffers) where
+  module _ (b : one.BuffersOne) where
     abbrev LeftReceived : receiving.Received → Type 0
     LeftReceived = Left (λ r. takingNumber (r .answer)) (λ n. receiving.refusedReceipt n s b)
 
@@ -76,14 +69,14 @@ module _ (s : Session) where
       unfolding sending.sentStanza
       sent-stanza-left line body = either LeftSent (eqb (one.numberOne (s .machine) (s .name) (s .tables) b (shortness (stanzaText line body) out) line body) 0) _ _ (λ h. absurd (h refl)) (λ h. refl)
 
-      sent-left : (word : Word) (arguments body : List ℕ) → LeftSent (sending.sent s word arguments body b out)
+      sent-left : (word : WordOne) (arguments body : List ℕ) → LeftSent (sending.sent s word arguments body b out)
       unfolding sending.sent
       sent-left word arguments body =
           either LeftSent (eqb (turnOne (s .phase)) 0) _ _
-          (either LeftSent (isWritable (one-command.lineSent word arguments) body) _ _ (sent-stanza-left (one-command.lineSent word arguments) body) (λ h. refl)) (λ h. refl)
+          (by-writable LeftSent s b (one-command.lineSent word arguments) body out (λ w. sent-stanza-left (one-command.lineSent word arguments) body) (λ w h. refl)) (λ h. refl)
 
   -- phase two, commands: received
-  module _ (b : two.Buffers) (out : List ℕ) where
+  module _ (b : two.BuffersTwo) (out : List ℕ) where
     abbrev LeftReceivedTwo : receiving-two.Received → Type 0
     LeftReceivedTwo = Left (λ r. takingTwoNumber (r .answer)) (λ n. receiving-two.refusedReceipt n s b out)
 
@@ -122,7 +115,7 @@ module _ (s : Session) where
     unfolding replying.repliedTo
     reply-to-left w r body = either LeftReplied (eqb (firstOf (replying.numberReplied w r body) (shortness (stanzaText (responseLine r) body) out)) 0) _ _ (λ h. absurd (h refl)) (λ h. refl)
 
-    replied-left : (p : Phase) (r : Response) (body : List ℕ) → LeftReplied (replying.repliedIn p s r body out)
+    replied-left : (p : Phase) (r : Response) (body : List ℕ) → LeftReplied (replying.repliedBy (dueIn p) s r body out)
     replied-left One r body = λ h. refl
     replied-left Two r body = λ h. refl
     replied-left (Awaiting w) r body = reply-to-left w r body
@@ -142,7 +135,7 @@ module _ (s : Session) where
     response-text-left (stanza e n k) w text = response-left w _ _ k
     response-text-left (refused n) w text = λ h. refl
 
-    responded-left : (p : Phase) (text : List ℕ) → LeftResponded (responding.respondedIn p s text out)
+    responded-left : (p : Phase) (text : List ℕ) → LeftResponded (responding.respondedBy (dueIn p) s text out)
     responded-left One text = λ h. refl
     responded-left Two text = λ h. refl
     responded-left (Awaiting w) text = response-text-left (readFirst text) w text

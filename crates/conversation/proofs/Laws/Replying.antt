@@ -1,20 +1,19 @@
 -- Replying, by what writing the response came to: for the code of the client end.
 use Prim.Native.Nat.{ℕ}
-use mathlib.Core.Path.{_≡_, refl, sym, ap, ap₂, _∙_}
+use mathlib.Core.Path.{_≡_, sym, ap₂, _∙_}
 use mathlib.Core.Bool.{Bool, true, false}
 use mathlib.Core.List.{List}
 use lib.Dec.{eqb}
-use lib.ListN.{length}
 use native.Mathlib.Omega.{arith}
-use Rattle.refusal.specs.Output.{Answer, bytes, refused, overflows, filled}
+use Rattle.refusal.specs.Output.{Answer, bytes, refused, overflows}
 use Rattle.refusal.specs.Pick.{pick}
 use Rattle.stanza.specs.Grammar.{stanzaText}
 use Rattle.stanza.specs.Writing.{isWritable, written, bufferAfter}
 use Rattle.responses.specs.Responses.{fitsWhole, responseLine}
 use Rattle.responses.specs.declared.Response.{Response}
-use Rattle.responses.specs.declared.WordTwo.{WordTwo}
-use Rattle.session.specs.PhaseOne.{firstOf}
-use Rattle.conversation.specs.Session.{Session}
+use Rattle.session.specs.declared.words.WordTwo.{WordTwo}
+use Rattle.refusal.specs.Verdict.{firstOf}
+use Rattle.session.specs.Session.{Session}
 use Rattle.conversation.specs.TurnsTwo.{answered}
 use Rattle.conversation.specs.Replying.{Replied, refusedReply, repliedTo}
 

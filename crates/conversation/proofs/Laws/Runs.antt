@@ -1,12 +1,11 @@
 -- Lists of calls put together: what holds of a list and of what stands behind it.
-use Prim.Native.Nat.{ℕ}
-use mathlib.Core.Path.{_≡_, refl, ap}
+use mathlib.Core.Path.{_≡_, refl}
 use mathlib.Core.Logic.{_↔_}
 use mathlib.Core.List.{List, [], _∷_, _++_}
-use Rattle.conversation.specs.Calls.{Call, outcome, writtenBy, State, after, numbers, written, AllZero, Accepted}
+use Rattle.conversation.specs.Calls.{Call, outcome, after, numbers, AllZero, Accepted}
 use Rattle.conversation.specs.Kinds.{Buffers}
 use Rattle.conversation.specs.Phases.{LongEnough}
-use Rattle.conversation.specs.Session.{Session}
+use Rattle.session.specs.Session.{Session}
 
 pub after-append : (s : Session) (b : Buffers) (xs ys : List Call) → after s b (xs ++ ys) ≡ after (after s b xs .session) (after s b xs .buffers) ys
 unfolding after

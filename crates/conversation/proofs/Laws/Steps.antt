@@ -19,18 +19,20 @@ use Rattle.stanza.proofs.Laws.Index.{read-index}
 use Rattle.stanza.proofs.Laws.RoundTrip.{written-read}
 use Rattle.bech32.specs.Text.{parse}
 use Rattle.bech32.specs.Calls.{formOf, markOf}
-use Rattle.bech32.specs.declared.charset.Kind.{Kind as TextKind}
-use Rattle.bech32.specs.declared.charset.Kind.the-variants as the-kind
+use Rattle.bech32.specs.declared.TextKind.{TextKind}
+use Rattle.bech32.specs.declared.TextKind.the-variants as the-kind
 use Rattle.tables.specs.Tables.{Row, fits}
-use Rattle.session.specs.declared.commands.Machine.{Machine}
-use Rattle.session.specs.declared.commands.Machine.the-variants.{RecipientV1, IdentityV1}
+use Rattle.session.specs.declared.opening.Machine.{Machine}
+use Rattle.session.specs.declared.opening.Machine.the-variants.{RecipientV1, IdentityV1}
 use Rattle.session.specs.declared.phases.Phase.the-variants.{One}
-use Rattle.session.specs.Commands.{Word, add-recipient, add-identity, wrap-file-key, recipient-stanza, done-word, other-word, addRecipient, addIdentity, wrapFileKey, recipientStanza, doneWord, wordIn, Command, recipient, identity, key, header, done, other, bad, textOfKind, textCommand, headerMark, indexed, isBare, rowCommand, wordOf}
-use Rattle.session.specs.PhaseOne.{Tables, Buffers, falls, decided, applied, filledBy, firstOf, payloadIn}
-use Rattle.session.specs.Views.{Kind, recipients, identities, keys, headers, tableOf, bufferOf, viewOf, rowsOf}
-use Rattle.session.proofs.Laws.Views.{Reached, applied-reached, applied-view, payload-stored, space, header-space}
-use Rattle.session.specs.Phases.{phaseAfter}
-use Rattle.conversation.specs.Session.{Session, moved, openedSession}
+use Rattle.phase_one.specs.Commands.{WordOne, add-recipient, add-identity, wrap-file-key, recipient-stanza, done-word, other-word, addRecipient, addIdentity, wrapFileKey, recipientStanza, doneWord, wordIn, CommandOne, recipient, identity, key, header, done, other, bad, textOfKind, textCommand, headerMark, indexed, isBare, rowCommand, wordOf}
+use Rattle.session.specs.Tables.{Tables}
+use Rattle.phase_one.specs.PhaseOne.{BuffersOne, falls, decided, applied, filledBy, payloadIn}
+use Rattle.refusal.specs.Verdict.{firstOf}
+use Rattle.phase_one.specs.Views.{KindOne, recipients, identities, keys, headers, tableOf, bufferOf, viewOf, rowsOf}
+use Rattle.phase_one.proofs.Laws.Views.{Reached, applied-reached, applied-view, payload-stored, space, header-space}
+use Rattle.phase_one.specs.Turns.{phaseAfter}
+use Rattle.session.specs.Session.{Session, moved, openedSession}
 use Rattle.conversation.specs.Receiving.{Received, took, refusedReceipt, receivedStanza, receivedAs, received}
 use Rattle.conversation.specs.Calls.{receive, takingNumber, outcome, lineRead, bodyRead}
 use Rattle.conversation.specs.Phases.{Whole, lineIn, bodyIn, isDone, commandOf, rowsFrom}
@@ -41,7 +43,7 @@ use Rattle.conversation.proofs.Laws.Limits.{Within, Held, Grown, same a
 
 -- ---- a command that was read: only the word done makes done, and no fault has the number 0
 
-abbrev Proper : Bool → Command → Type 0
+abbrev pub Proper : Bool → CommandOne → Type 0
 Proper d (recipient m) = Unit
 Proper d (identity m) = Unit
 Proper d key = Unit
@@ -73,7 +75,7 @@ done-proper true = refl
 done-proper false = four
 
 module _ (g l : List ℕ) (n : ℕ) where
-  either : (d f : Bool) (v w : Word) → Proper d (rowCommand v g l n) → Proper d (rowCommand w g l n) → Proper d (rowCommand (pick f v w) g l n)
+  either : (d f : Bool) (v w : WordOne) → Proper d (rowCommand v g l n) → Proper d (rowCommand w g l n) → Proper d (rowCommand (pick f v w) g l n)
   either d true v w p q = p
   either d false v w p q = q
 
@@ -96,7 +98,7 @@ module _ (g l : List ℕ) (n : ℕ) where
       either d (same w addIdentity) add-identity (pick (same w recipientStanza) recipient-stanza (pick d done-word other-word)) (text-row d the-kind.Identity)
       (either d (same w recipientStanza) recipient-stanza (pick d done-word other-word) (header-proper d (leb 3 (countOf l)) (argumentOf l 1) (headerMark g l n)) (last-proper d))
 
-proper-phase : (c : Command) → Proper false c → phaseAfter c ≡ One
+pub proper-phase : (c : CommandOne) → Proper false c → phaseAfter c ≡ One
 proper-phase (recipient m) h = refl
 proper-phase (identity m) h = refl
 proper-phase key h = refl
@@ -107,9 +109,9 @@ proper-phase (bad n) h = refl
 
 -- ---- what the decision says of each kind
 
-module _ (t : Tables) (b : Buffers) where
+module _ (t : Tables) (b : BuffersOne) where
   -- by the command alone: in its own kind one entry more, where it fits; nothing in another
-  pub grown : (c : Command) (p : List ℕ) (k : Kind) →
+  pub grown : (c : CommandOne) (p : List ℕ) (k : KindOne) →
       Grown k (tableOf k t) (bufferOf k b) (decided t b c (length p)) (rowsOf c k p) (tableOf k (applied t b c p)) (bufferOf k (filledBy t b c p))
   grown (recipient m) p recipients = more p 0 m (λ z. (space (fits (t .recipients) (length p) (length (b .recipients))) z, tt))
   grown (recipient m) p identities = unchanged
@@ -131,7 +133,7 @@ module _ (t : Tables) (b : Buffers) where
   grown other p k = unchanged
   grown (bad n) p k = unchanged
 
-  decided-right : (d : Bool) (c : Command) (n : ℕ) → Proper d c → decided t b c n ≡ 0 → isRight c ≡ true
+  decided-right : (d : Bool) (c : CommandOne) (n : ℕ) → Proper d c → decided t b c n ≡ 0 → isRight c ≡ true
   decided-right d (recipient m) n h z = refl
   decided-right d (identity m) n h z = refl
   decided-right d key n h z = refl
@@ -142,13 +144,13 @@ module _ (t : Tables) (b : Buffers) where
 
   -- every kind's table and buffer
   abbrev pub Going : Type 0
-  Going = (k : Kind) → Held k (tableOf k t) (bufferOf k b)
+  Going = (k : KindOne) → Held k (tableOf k t) (bufferOf k b)
 
   -- rows more are within every kind's limits
-  abbrev pub Fitting : (Kind → List Row) → Type 0
-  Fitting rows = (k : Kind) → Within k (length (bufferOf k b)) (viewOf k t b ++ rows k)
+  abbrev pub Fitting : (KindOne → List Row) → Type 0
+  Fitting rows = (k : KindOne) → Within k (length (bufferOf k b)) (viewOf k t b ++ rows k)
 
-  decided-zero : (c : Command) (p : List ℕ) → Going → isRight c ≡ true → Fitting (λ k. rowsOf c k p) → decided t b c (length p) ≡ 0
+  decided-zero : (c : CommandOne) (p : List ℕ) → Going → isRight c ≡ true → Fitting (λ k. rowsOf c k p) → decided t b c (length p) ≡ 0
   decided-zero (recipient m) p g h w = rw (within-fits (t .recipients) (b .recipients) (record { payload = p; index = 0; mark = m }) recipients (g recipients) (w recipients) .0)
   decided-zero (identity m) p g h w = rw (within-fits (t .identities) (b .identities) (record { payload = p; index = 0; mark = m }) identities (g identities) (w identities) .0)
   decided-zero key p g h w = rw (within-fits (t .keys) (b .keys) (record { payload = p; index = 0; mark = 0 }) keys (g keys) (w keys) .0)
@@ -176,10 +178,10 @@ module _ (machine : Machine) (name : List ℕ) where
   abbrev pub payload : List ℕ → List ℕ
   payload x = payloadIn machine name (lineIn x) (bodyIn x)
 
-  proper : (x : List ℕ) → Proper (isDone x) (commandOf machine name x)
+  pub proper : (x : List ℕ) → Proper (isDone x) (commandOf machine name x)
   proper x = word-proper name (lineIn x) (length (bodyIn x)) machine (argumentOf (lineIn x) 0)
 
-  module _ (t : Tables) (b : Buffers) where
+  module _ (t : Tables) (b : BuffersOne) where
     -- the decision of a text; the tables and the buffers behind it where it is accepted
     abbrev pub judged : List ℕ → ℕ
     judged x = decided t b (commandOf machine name x) (length (payload x))
@@ -187,7 +189,7 @@ module _ (machine : Machine) (name : List ℕ) where
     abbrev pub tablesWith : List ℕ → Tables
     tablesWith x = applied t b (commandOf machine name x) (payload x)
 
-    abbrev pub buffersWith : List ℕ → Buffers
+    abbrev pub buffersWith : List ℕ → BuffersOne
     buffersWith x = filledBy t b (commandOf machine name x) (payload x)
 
     -- it is accepted exactly if it is right and its rows are within the limits
@@ -202,10 +204,10 @@ module _ (machine : Machine) (name : List ℕ) where
       reached k = g k .reached
 
       -- then its rows stand behind those of before, and buffers keep their lengths
-      pub view-with : (k : Kind) → viewOf k (tablesWith x) (buffersWith x) ≡ viewOf k t b ++ rowsFrom machine name k x
+      pub view-with : (k : KindOne) → viewOf k (tablesWith x) (buffersWith x) ≡ viewOf k t b ++ rowsFrom machine name k x
       view-with k = applied-view t b (payload x) reached (commandOf machine name x) z k
 
-      pub length-with : (k : Kind) → length (bufferOf k (buffersWith x)) ≡ length (bufferOf k b)
+      pub length-with : (k : KindOne) → length (bufferOf k (buffersWith x)) ≡ length (bufferOf k b)
       length-with k = grown-length (grown t b (commandOf machine name x) (payload x) k) z
 
       pub going-with : Going (tablesWith x) (buffersWith x)
@@ -219,7 +221,7 @@ module _ (machine : Machine) (name : List ℕ) where
   going screen t = moved (openedSession machine name screen) One t
 
   -- phase two's buffers are lent beside and stay
-  module _ (screen : Bool) (t : Tables) (b : Buffers) (later : two.Buffers) where
+  module _ (screen : Bool) (t : Tables) (b : BuffersOne) (later : two.BuffersTwo) where
     abbrev now : Session
     now = going screen t
 

@@ -1,38 +1,35 @@
 -- Phase two at the client end: one block, a text with its replies. When its calls are accepted, and what they leave and write.
-use Prim.Native.Nat.{ℕ, _+_, _≤_}
+use Prim.Native.Nat.{ℕ, _≤_}
 use mathlib.Core.Path.{_≡_, refl, sym, ap, ap₂, _∙_, subst, subst₂}
-use mathlib.Core.Bool.{Bool, true, false, _&&_, true≢false, false≢true}
+use mathlib.Core.Bool.{Bool, true, false, false≢true}
 use mathlib.Core.Logic.{_↔_}
-use mathlib.Core.List.{List, [], _∷_, _++_, map}
-use lib.Dec.{eqb, ltb}
+use mathlib.Core.List.{List, [], _∷_, map}
+use lib.Dec.{eqb}
 use lib.ListN.{length, take, drop}
 use lib.Seq.{take-append-seam}
 use native.Mathlib.Omega.{arith}
-use borrow.Author.Tests.{eqb-true, eqb-false, eq-eqb, le-ltb, ltb-false, ltb-true}
-use Rattle.refusal.specs.Output.{Answer, bytes, refused, overflows, filled}
+use borrow.Author.Tests.{eqb-true, eq-eqb, le-ltb}
+use Rattle.refusal.specs.Output.{bytes, filled}
 use Rattle.refusal.specs.Pick.{pick}
-use Rattle.refusal.proofs.Laws.Booleans.{cases}
-use Rattle.base64.specs.Lines.{bodyOf}
 use Rattle.stanza.specs.Grammar.{stanzaText}
 use Rattle.stanza.specs.Writing.{isWritable}
 use Rattle.responses.specs.Responses.{fitsWhole, responseLine}
 use Rattle.responses.specs.declared.Response.{Response}
-use Rattle.responses.specs.declared.WordTwo.{WordTwo}
-use Rattle.session.specs.PhaseOne as one
-use Rattle.session.specs.PhaseOne.{Tables, firstOf}
+use Rattle.session.specs.declared.words.WordTwo.{WordTwo}
+use Rattle.session.specs.Tables.{Tables}
+use Rattle.refusal.specs.Verdict.{firstOf}
 use Rattle.session.specs.declared.phases.Phase.{Phase}
 use Rattle.session.specs.declared.phases.Phase.the-variants.{One, Two, Awaiting, Ended, Closed}
-use Rattle.conversation.specs.Calls.{Call, receive-two, reply, takingTwoNumber, sentNumber, Outcome, receivedTwoOutcome, repliedOutcome, outcome, writtenBy, State, stateOf, after, numbers, written, lineRead, bodyRead, AllZero, Accepted}
+use Rattle.conversation.specs.Calls.{Call, receive-two, reply, takingTwoNumber, sentNumber, receivedTwoOutcome, repliedOutcome, outcome, writtenBy, stateOf, after, numbers, written, lineRead, bodyRead, AllZero, Accepted}
 use Rattle.conversation.specs.CommandsTwo.{CommandTwo, ask, stanza, key, error, done, other, bad, wordOf}
 use Rattle.conversation.specs.Kinds.{Buffers, buffersOf}
-use Rattle.conversation.specs.PhaseTwo as two
 use Rattle.conversation.specs.PhaseTwo.{decided, applied, filledBy}
-use Rattle.conversation.specs.Phases.{Whole, lineIn, bodyIn, commandIn, payloadIn, Reply, Block, Supply, skip, replyCalls, two-part, blockCalls, responsesTo, LongEnough, lending}
-use Rattle.conversation.specs.ReceivingTwo.{AtOnce, atOnce, textOf, phaseReceived, took, Received, refusedReceipt, receivedStanza, receivedAs, received}
+use Rattle.conversation.specs.Phases.{Whole, commandIn, payloadIn, Reply, Block, Supply, skip, replyCalls, two-part, blockCalls, responsesTo, LongEnough}
+use Rattle.conversation.specs.ReceivingTwo.{atOnce, textOf, phaseReceived, took, Received, refusedReceipt, receivedStanza, receivedAs, received}
 use Rattle.conversation.specs.Replying.{Replied, refusedReply, numberReplied, repliedTo}
 use Rattle.conversation.specs.Sending.{shortness}
-use Rattle.conversation.specs.Session.{Session, moved}
-use Rattle.conversation.specs.Allowed.{OneReply, AnsweredAsk, Answered}
+use Rattle.session.specs.Session.{Session, moved}
+use Rattle.conversation.specs.Allowed.{AnsweredAsk, Answered}
 use Rattle.conversation.proofs.Laws.Firsts.{first-iff}
 
 -- ---- output

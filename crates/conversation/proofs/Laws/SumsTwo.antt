@@ -1,21 +1,21 @@
 -- Phase two: what the decision asks of the tables are sums over the commands so far, and each accepted command adds its own weight to them. So it finds no fault
 -- exactly if the command is right, what it names is there, and the sums with its weight keep the limits.
 use Prim.Native.Nat.{ℕ, _+_, _<_, _≤_}
-use mathlib.Core.Path.{_≡_, refl, sym, ap, ap₂, _∙_, subst}
-use mathlib.Core.Bool.{Bool, true, false, not, _&&_, _||_, true≢false, false≢true}
+use mathlib.Core.Path.{_≡_, refl, sym, ap, _∙_}
+use mathlib.Core.Bool.{Bool, true, false, not, _||_, true≢false, false≢true}
 use mathlib.Core.Logic.{_⊎_, inl, inr, ⊎-elim, _↔_}
-use mathlib.Core.List.{List, [], _∷_, _++_}
+use mathlib.Core.List.{List}
 use lib.Dec.{ltb, leb, eqb}
 use lib.ListN.{length}
 use native.Mathlib.Omega.{arith}
-use borrow.Author.Tests.{ltb-true, ltb-false, leb-true, leb-false, lt-ltb, le-ltb, le-leb, lt-leb, eqb-true, eqb-false, eq-eqb, not-false}
+use borrow.Author.Tests.{ltb-true, ltb-false, leb-true, leb-false, lt-ltb, le-ltb, le-leb, lt-leb, eqb-true, eq-eqb, not-false}
 use Rattle.refusal.specs.Pick.{pick}
 use Rattle.refusal.proofs.Laws.Booleans.{and-true, true-and, cases}
 use Rattle.tables.specs.Tables.{Table, fits, entered}
 use Rattle.tables.proofs.Laws.Tables.{Kept}
-use Rattle.session.specs.PhaseOne.{Tables}
+use Rattle.session.specs.Tables.{Tables}
 use Rattle.conversation.specs.CommandsTwo.{Named, internal, identity, recipient, header, CommandTwo, ask, stanza, key, error, done, other, bad}
-use Rattle.conversation.specs.PhaseTwo.{Kind, errors, stanzas, returned, Buffers, tableOf, bufferOf, Label, labels, howMany, isAny, passes, isFile, mostStanzas, hasKey, markOf, indexOf, isAbout, hasErrorFor, isMissing, isSecondKey, isTooMany, isAgainstKey, isClashing, isSpaceless, decided, applied}
+use Rattle.conversation.specs.PhaseTwo.{KindTwo, errors, stanzas, returned, BuffersTwo, tableOf, bufferOf, Label, labels, howMany, isAny, isFile, mostStanzas, hasKey, markOf, indexOf, isAbout, isMissing, isSecondKey, isTooMany, isAgainstKey, isClashing, isSpaceless, applied}
 use Rattle.conversation.specs.Allowed.{isKeyFor, isErrorFor, isKind, Said, Sum, keys-for, stanzas-for, errors-for, entries, bytes, weight, slotsTwo, Limits}
 use Rattle.conversation.specs.Phases.{isStanzaFor}
 use Rattle.conversation.proofs.Laws.DecidedTwo.{Faultless, labels-more, many-append, many-one, passes-file}
@@ -35,15 +35,15 @@ said c p = record { command = c; payload = p }
 
 -- the tables of phase two that an opening and calls can reach
 pub record Going (t : Tables) : Type 0 where
-  pub held : (k : Kind) → Kept (tableOf k t)
-  pub wide : (k : Kind) → tableOf k t .width ≡ slotsTwo k
+  pub held : (k : KindTwo) → Kept (tableOf k t)
+  pub wide : (k : KindTwo) → tableOf k t .width ≡ slotsTwo k
 
 -- the limits with what a command adds
-abbrev pub With : Tables → Buffers → CommandTwo → List ℕ → Type 0
+abbrev pub With : Tables → BuffersTwo → CommandTwo → List ℕ → Type 0
 With t b c p = Limits (mostStanzas t) (λ k. length (bufferOf k b)) (λ m. sumsIn t m + weight m (said c p))
 
 -- .. and without
-abbrev pub Kept-limits : Tables → Buffers → Type 0
+abbrev pub Kept-limits : Tables → BuffersTwo → Type 0
 Kept-limits t b = Limits (mostStanzas t) (λ k. length (bufferOf k b)) (sumsIn t)
 
 -- ---- small facts
@@ -82,7 +82,7 @@ fits-iff t n c = (
 
 -- ---- from no fault to the limits
 
-module _ (t : Tables) (b : Buffers) (g : Going t) (l : Kept-limits t b) (p : List ℕ) where
+module _ (t : Tables) (b : BuffersTwo) (g : Going t) (l : Kept-limits t b) (p : List ℕ) where
   -- a sum to which a command adds nothing
   spared : (n m : ℕ) → n ≤ m → n + 0 ≤ m
   spared n m h = omega arith
@@ -146,16 +146,16 @@ module _ (t : Tables) (b : Buffers) (g : Going t) (l : Kept-limits t b) (p : Lis
   apart-file-with (bad n) e f = old-file f 0 0 refl refl
 
   -- a kind's slots and bytes: of its own command by what fits, of another's as they were
-  abbrev Space : CommandTwo → Kind → Type 0
+  abbrev Space : CommandTwo → KindTwo → Type 0
   Space c k = (sumsIn t (entries k) + weight (entries k) (said c p) ≤ slotsTwo k) × (sumsIn t (bytes k) + weight (bytes k) (said c p) ≤ length (bufferOf k b))
 
-  old-space : (k : Kind) → (tableOf k t .count + 0 ≤ slotsTwo k) × (tableOf k t .used + 0 ≤ length (bufferOf k b))
+  old-space : (k : KindTwo) → (tableOf k t .count + 0 ≤ slotsTwo k) × (tableOf k t .used + 0 ≤ length (bufferOf k b))
   old-space k = (spared _ _ (l .slots k), spared _ _ (l .bytes-fit k))
 
-  new-space : (k : Kind) → not (fits (tableOf k t) (length p) (length (bufferOf k b))) ≡ false → (tableOf k t .count + 1 ≤ slotsTwo k) × (tableOf k t .used + length p ≤ length (bufferOf k b))
+  new-space : (k : KindTwo) → not (fits (tableOf k t) (length p) (length (bufferOf k b))) ≡ false → (tableOf k t .count + 1 ≤ slotsTwo k) × (tableOf k t .used + length p ≤ length (bufferOf k b))
   new-space k e = let h = fits-iff (tableOf k t) (length p) (length (bufferOf k b)) .0 (not-false _ e) in (omega (arith, h .0, g .wide k), h .1)
 
-  space-with : (c : CommandTwo) → isSpaceless t b c (length p) ≡ false → (k : Kind) → Space c k
+  space-with : (c : CommandTwo) → isSpaceless t b c (length p) ≡ false → (k : KindTwo) → Space c k
   space-with (ask w) e k = old-space k
   space-with (stanza f) e errors = old-space errors
   space-with (stanza f) e stanzas = new-space stanzas e
@@ -182,7 +182,7 @@ module _ (t : Tables) (b : Buffers) (g : Going t) (l : Kept-limits t b) (p : Lis
 
 -- ---- and back
 
-module _ (t : Tables) (b : Buffers) (g : Going t) (p : List ℕ) where
+module _ (t : Tables) (b : BuffersTwo) (g : Going t) (p : List ℕ) where
   first-key-by : (c : CommandTwo) → With t b c p → isSecondKey t c ≡ false
   first-key-by (ask w) l = refl
   first-key-by (stanza x) l = refl
@@ -216,7 +216,7 @@ module _ (t : Tables) (b : Buffers) (g : Going t) (p : List ℕ) where
   apart-by other l = refl
   apart-by (bad n) l = refl
 
-  fits-by : (k : Kind) → tableOf k t .count + 1 ≤ slotsTwo k → tableOf k t .used + length p ≤ length (bufferOf k b) → not (fits (tableOf k t) (length p) (length (bufferOf k b))) ≡ false
+  fits-by : (k : KindTwo) → tableOf k t .count + 1 ≤ slotsTwo k → tableOf k t .used + length p ≤ length (bufferOf k b) → not (fits (tableOf k t) (length p) (length (bufferOf k b))) ≡ false
   fits-by k h j = not-is _ (fits-iff (tableOf k t) (length p) (length (bufferOf k b)) .1 (omega (arith, g .wide k), j))
 
   space-by : (c : CommandTwo) → With t b c p → isSpaceless t b c (length p) ≡ false
@@ -234,7 +234,7 @@ module _ (t : Tables) (b : Buffers) (g : Going t) (p : List ℕ) where
 
 -- ---- an accepted command adds its weight
 
-module _ (t : Tables) (b : Buffers) (g : Going t) (p : List ℕ) where
+module _ (t : Tables) (b : BuffersTwo) (g : Going t) (p : List ℕ) where
   abbrev Adds : CommandTwo → Type 0
   Adds c = (m : Sum) → sumsIn (applied t b c p) m ≡ sumsIn t m + weight m (said c p)
 
@@ -242,7 +242,7 @@ module _ (t : Tables) (b : Buffers) (g : Going t) (p : List ℕ) where
   nothing-added n = omega arith
 
   -- an entry more of a kind
-  module _ (k : Kind) (i m : ℕ) (e : not (fits (tableOf k t) (length p) (length (bufferOf k b))) ≡ false) where
+  module _ (k : KindTwo) (i m : ℕ) (e : not (fits (tableOf k t) (length p) (length (bufferOf k b))) ≡ false) where
     abbrev grown : Table
     grown = entered (tableOf k t) (length p) i m (length (bufferOf k b))
 
@@ -303,7 +303,7 @@ module _ (t : Tables) (b : Buffers) (g : Going t) (p : List ℕ) where
   idle-adds : (c : CommandTwo) → ((m : Sum) → weight m (said c p) ≡ 0) → applied t b c p ≡ t → Adds c
   idle-adds c w e m = ap (λ t. sumsIn t m) e ∙ nothing-added (sumsIn t m) ∙ ap (λ n. sumsIn t m + n) (sym (w m))
 
-  weightless : (m : Sum) (c : CommandTwo) → ((f : ℕ) → isKeyFor f c ≡ false) → ((f : ℕ) → isStanzaFor f c ≡ false) → ((f : ℕ) → isErrorFor f c ≡ false) → ((k : Kind) → isKind k c ≡ false) → weight m (said c p) ≡ 0
+  weightless : (m : Sum) (c : CommandTwo) → ((f : ℕ) → isKeyFor f c ≡ false) → ((f : ℕ) → isStanzaFor f c ≡ false) → ((f : ℕ) → isErrorFor f c ≡ false) → ((k : KindTwo) → isKind k c ≡ false) → weight m (said c p) ≡ 0
   weightless (keys-for f) c a s e k = rw (a f)
   weightless (stanzas-for f) c a s e k = rw (s f)
   weightless (errors-for f) c a s e k = rw (e f)

@@ -10,20 +10,21 @@ use borrow.Author.Tests.{eqb-true, eqb-false, eq-eqb, ne-eqb}
 use Rattle.refusal.specs.Pick.{pick}
 use Rattle.refusal.proofs.Laws.Booleans.{cases}
 use Rattle.stanza.specs.Reading.{readFirst}
-use Rattle.responses.specs.declared.WordTwo.the-variants.{Other}
+use Rattle.session.specs.declared.words.WordTwo.the-variants.{Other}
 use Rattle.tables.specs.Tables.{Row, view}
 use Rattle.tables.proofs.Laws.Tables.{view-count}
-use Rattle.session.specs.Commands.{Command, recipient, identity, key, header, done, other, bad}
-use Rattle.session.specs.PhaseOne as one
-use Rattle.session.specs.PhaseOne.{Tables, openedTables, commandIn, payloadIn}
-use Rattle.session.specs.Phases.{phaseAfter}
-use Rattle.session.specs.Views as one-kind
-use Rattle.session.specs.Views.{recipients, identities, keys, headers}
+use Rattle.phase_one.specs.Commands.{CommandOne, recipient, identity, key, header, done, other, bad}
+use Rattle.phase_one.specs.PhaseOne as one
+use Rattle.session.specs.Tables.{Tables, openedTables}
+use Rattle.phase_one.specs.PhaseOne.{commandIn, payloadIn}
+use Rattle.phase_one.specs.Turns.{phaseAfter}
+use Rattle.phase_one.specs.Views as one-kind
+use Rattle.phase_one.specs.Views.{recipients, identities, keys, headers}
 use Rattle.session.specs.declared.phases.Phase.{Phase}
 use Rattle.session.specs.declared.phases.Phase.the-variants.{Awaiting}
-use Rattle.session.proofs.Laws.Views.{Reached}
-use Rattle.conversation.specs.Session.{Session, moved, opened}
-use Rattle.conversation.specs.Kinds.{Kind, first, second, Buffers, buffersOf, tableOf, viewOf, ofFile}
+use Rattle.phase_one.proofs.Laws.Views.{Reached}
+use Rattle.session.specs.Session.{Session, moved, opened}
+use Rattle.conversation.specs.Kinds.{AnyKind, first, second, Buffers, buffersOf, tableOf, viewOf, ofFile}
 use Rattle.conversation.specs.CommandsTwo as two-command
 use Rattle.conversation.specs.CommandsTwo.{CommandTwo}
 use Rattle.conversation.specs.PhaseTwo as two
@@ -39,12 +40,12 @@ use Rattle.conversation.proofs.Laws.ViewsTwo.{kept-two, applied-view-tw
 -- ---- one call
 
 module _ (s : Session) (b : Buffers) where
-  same-rows : (o : Outcome) (k : Kind) → o .session .tables ≡ s .tables → o .buffers ≡ b → viewOf k (o .session .tables) (o .buffers) ≡ viewOf k (s .tables) b ++ []
+  same-rows : (o : Outcome) (k : AnyKind) → o .session .tables ≡ s .tables → o .buffers ≡ b → viewOf k (o .session .tables) (o .buffers) ≡ viewOf k (s .tables) b ++ []
   same-rows o k t e = ap₂ (viewOf k) t e ∙ sym (append-nil (viewOf k (s .tables) b))
 
 module _ (s : Session) (b : Buffers) (r : ReachedSession s) where
   -- the rows that an accepted command of phase one adds to a kind's table
-  one-rows : (line body text out : List ℕ) (o : Outcome) → AppliedOne s b line body text out o → (k : Kind) → viewOf k (o .session .tables) (o .buffers) ≡ viewOf k (s .tables) b ++ rowsOne s line body k
+  one-rows : (line body text out : List ℕ) (o : Outcome) → AppliedOne s b line body text out o → (k : AnyKind) → viewOf k (o .session .tables) (o .buffers) ≡ viewOf k (s .tables) b ++ rowsOne s line body k
   one-rows line body text out o a (first k) = applied-rows s (b .first) line body (o .session) (o .buffers .first) (a .applied) (r .tables) k
   one-rows line body text out o a (second k) =
       ap₂ (λ t x. view t (two.bufferOf k x))
@@ -53,7 +54,7 @@ module _ (s : Session) (b : Buffers) (r : ReachedSession s) where
 
   -- .. one of phase two
   two-rows : (own : Bool) (line body : List ℕ) (phase : Phase) (text out : List ℕ) (o : Outcome) → AppliedTwo own s b line body phase text out o →
-      (k : Kind) → viewOf k (o .session .tables) (o .buffers) ≡ viewOf k (s .tables) b ++ rowsTwo s line body k
+      (k : AnyKind) → viewOf k (o .session .tables) (o .buffers) ≡ viewOf k (s .tables) b ++ rowsTwo s line body k
   two-rows own line body phase text out o a (first k) =
       ap₂ (λ t x. view t (one-kind.bufferOf k x))
       (ap (λ x. one-kind.tableOf k (x .tables)) (a .session) ∙ two-leaves (s .tables) (payloadAt s line body) (b .second) (commandAt s line body) k) (ap (λ x. x .first) (a .buffers))
@@ -63,7 +64,7 @@ module _ (s : Session) (b : Buffers) (r : ReachedSession s) where
       ∙ applied-view-two own (s .tables) (b .second) (payloadAt s line body) (kept-two (s .tables) (r .later-tables)) (commandAt s line body) (a .faultless) k
 
   -- .. an accepted call
-  pub accepted-view : (c : Call) → AcceptedBy s b c → (k : Kind) → viewOf k (outcome s b c .session .tables) (outcome s b c .buffers) ≡ viewOf k (s .tables) b ++ rowsBrought s (broughtBy c) k
+  pub accepted-view : (c : Call) → AcceptedBy s b c → (k : AnyKind) → viewOf k (outcome s b c .session .tables) (outcome s b c .buffers) ≡ viewOf k (s .tables) b ++ rowsBrought s (broughtBy c) k
   accepted-view (receive text) a k = one-rows _ _ _ _ (outcome s b (receive text)) a k
   accepted-view (send word arguments body out) a k = one-rows _ _ _ _ (outcome s b (send word arguments body out)) a k
   accepted-view (receive-two text out) a k = two-rows false _ _ _ _ _ (outcome s b (receive-two text out)) a k
@@ -72,7 +73,7 @@ module _ (s : Session) (b : Buffers) (r : ReachedSession s) where
   accepted-view (respond text out) a k = same-rows s b (outcome s b (respond text out)) k (ap (λ x. x .tables) (a .1 .session)) (a .1 .buffers)
 
 -- the rows that a call adds to a kind's table: those of its command if it is accepted, else none
-pub call-view : (s : Session) (b : Buffers) (c : Call) → ReachedSession s → (k : Kind) →
+pub call-view : (s : Session) (b : Buffers) (c : Call) → ReachedSession s → (k : AnyKind) →
     viewOf k (outcome s b c .session .tables) (outcome s b c .buffers) ≡ viewOf k (s .tables) b ++ pick (eqb (outcome s b c .number) 0) (rowsBrought s (broughtBy c) k) []
 call-view s b c r k =
     cases (eqb (outcome s b c .number) 0)
@@ -83,7 +84,7 @@ call-view s b c r k =
 -- ---- lists of calls
 
 -- each kind's table afterwards is what it was, and behind it the rows of the list's accepted commands of that kind, in order
-pub tables-after : (k : Kind) (s : Session) (b : Buffers) (cs : List Call) → ReachedSession s →
+pub tables-after : (k : AnyKind) (s : Session) (b : Buffers) (cs : List Call) → ReachedSession s →
     viewOf k (after s b cs .session .tables) (after s b cs .buffers) ≡ viewOf k (s .tables) b ++ acceptedRows k s b cs
 unfolding after acceptedRows
 tables-after k s b [] r = sym (append-nil (viewOf k (s .tables) b))
@@ -91,7 +92,7 @@ tables-after k s b (c ∷ cs) r =
     tables-after k (outcome s b c .session) (outcome s b c .buffers) cs (call-reached s b c r) ∙ ap (λ v. v ++ acceptedRows k (outcome s b c .session) (outcome s b c .buffers) cs) (call-view s b c r k)
     ∙ append-assoc (viewOf k (s .tables) b) _ _
 
-empty-view : (k : Kind) (b : Buffers) → viewOf k openedTables b ≡ []
+empty-view : (k : AnyKind) (b : Buffers) → viewOf k openedTables b ≡ []
 empty-view (first recipients) b = refl
 empty-view (first identities) b = refl
 empty-view (first keys) b = refl
@@ -101,41 +102,41 @@ empty-view (second stanzas) b = refl
 empty-view (second returned) b = refl
 
 -- where the tables were as opened, each kind's table afterwards is exactly the list's accepted commands of that kind, in order
-pub tables-from-empty : (k : Kind) (s : Session) (b : Buffers) (cs : List Call) → s .tables ≡ openedTables →
+pub tables-from-empty : (k : AnyKind) (s : Session) (b : Buffers) (cs : List Call) → s .tables ≡ openedTables →
     viewOf k (after s b cs .session .tables) (after s b cs .buffers) ≡ acceptedRows k s b cs
 tables-from-empty k s b cs e = tables-after k s b cs (empty-reached s e) ∙ ap (λ v. v ++ acceptedRows k s b cs) (ap (λ t. viewOf k t b) e ∙ empty-view k b)
 
 -- so it is from any opening on
-pub tables-opened : (k : Kind) (machine name : List ℕ) (screen : Bool) (b : Buffers) (cs : List Call) →
+pub tables-opened : (k : AnyKind) (machine name : List ℕ) (screen : Bool) (b : Buffers) (cs : List Call) →
     viewOf k (after (opened machine name screen .session) b cs .session .tables) (after (opened machine name screen .session) b cs .buffers) ≡ acceptedRows k (opened machine name screen .session) b cs
 tables-opened k machine name screen b cs = tables-from-empty k (opened machine name screen .session) b cs (opening-tables machine name screen)
 
 -- ---- counts and numbers
 
 -- a kind's buffer
-abbrev pub bufferOf : Kind → Buffers → List ℕ
+abbrev pub bufferOf : AnyKind → Buffers → List ℕ
 bufferOf (first k) b = one-kind.bufferOf k (b .first)
 bufferOf (second k) b = two.bufferOf k (b .second)
 
 -- a kind's count is the number of its rows, whatever the buffers
-pub count-rows : (k : Kind) (s : Session) (b : Buffers) → ReachedSession s → tableOf k (s .tables) .count ≡ length (viewOf k (s .tables) b)
+pub count-rows : (k : AnyKind) (s : Session) (b : Buffers) → ReachedSession s → tableOf k (s .tables) .count ≡ length (viewOf k (s .tables) b)
 unfolding Reached
 count-rows (first k) s b r = sym (view-count (one-kind.tableOf k (s .tables)) (one-kind.bufferOf k (b .first)) (r .tables k .kept-so))
 count-rows (second k) s b r = sym (view-count (two.tableOf k (s .tables)) (two.bufferOf k (b .second)) (kept-two (s .tables) (r .later-tables) k))
 
 -- so a kind's count grows by the number of its accepted commands
-pub count-after : (k : Kind) (s : Session) (b : Buffers) (cs : List Call) → ReachedSession s → tableOf k (after s b cs .session .tables) .count ≡ tableOf k (s .tables) .count + length (acceptedRows k s b cs)
+pub count-after : (k : AnyKind) (s : Session) (b : Buffers) (cs : List Call) → ReachedSession s → tableOf k (after s b cs .session .tables) .count ≡ tableOf k (s .tables) .count + length (acceptedRows k s b cs)
 count-after k s b cs r =
     count-rows k (after s b cs .session) (after s b cs .buffers) (after-reached s b cs r) ∙ ap length (tables-after k s b cs r) ∙ length-append (viewOf k (s .tables) b) (acceptedRows k s b cs)
     ∙ ap (λ n. n + length (acceptedRows k s b cs)) (sym (count-rows k s b r))
 
 -- an accepted command of a kind: its number is the count before, and its row stands there
-pub record Numbered (s : Session) (b : Buffers) (c : Call) (k : Kind) (row : Row) : Type 0 where
+pub record Numbered (s : Session) (b : Buffers) (c : Call) (k : AnyKind) (row : Row) : Type 0 where
   pub count : tableOf k (outcome s b c .session .tables) .count ≡ tableOf k (s .tables) .count + 1
   pub entry : (d : Row) → getD (viewOf k (outcome s b c .session .tables) (outcome s b c .buffers)) (tableOf k (s .tables) .count) d ≡ row
   pub rows : viewOf k (outcome s b c .session .tables) (outcome s b c .buffers) ≡ viewOf k (s .tables) b ++ (row ∷ [])
 
-pub numbered : (s : Session) (b : Buffers) (c : Call) (k : Kind) (row : Row) → ReachedSession s → outcome s b c .number ≡ 0 → rowsBrought s (broughtBy c) k ≡ row ∷ [] → Numbered s b c k row
+pub numbered : (s : Session) (b : Buffers) (c : Call) (k : AnyKind) (row : Row) → ReachedSession s → outcome s b c .number ≡ 0 → rowsBrought s (broughtBy c) k ≡ row ∷ [] → Numbered s b c k row
 numbered s b c k row r z q =
     let v : viewOf k (outcome s b c .session .tables) (outcome s b c .buffers) ≡ viewOf k (s .tables) b ++ (row ∷ []) = accepted-view s b r c (accepted s b c z) k ∙ ap (λ l. viewOf k (s .tables) b ++ l) q in
     record {
@@ -159,11 +160,11 @@ unfolding ofFile
 own-file f row e = ap (λ x. pick x (row ∷ []) [] ++ []) (eq-eqb (row .index) f e)
 
 -- an accepted command for the file f, a stanza or a key: its number there is the count of that file's before it, and its row stands there
-pub record NumberedInFile (s : Session) (b : Buffers) (c : Call) (k : Kind) (f : ℕ) (row : Row) : Type 0 where
+pub record NumberedInFile (s : Session) (b : Buffers) (c : Call) (k : AnyKind) (f : ℕ) (row : Row) : Type 0 where
   pub rows : ofFile f (viewOf k (outcome s b c .session .tables) (outcome s b c .buffers)) ≡ ofFile f (viewOf k (s .tables) b) ++ (row ∷ [])
   pub entry : (d : Row) → getD (ofFile f (viewOf k (outcome s b c .session .tables) (outcome s b c .buffers))) (length (ofFile f (viewOf k (s .tables) b))) d ≡ row
 
-pub numbered-in-file : (s : Session) (b : Buffers) (c : Call) (k : Kind) (f : ℕ) (row : Row) → ReachedSession s → outcome s b c .number ≡ 0 →
+pub numbered-in-file : (s : Session) (b : Buffers) (c : Call) (k : AnyKind) (f : ℕ) (row : Row) → ReachedSession s → outcome s b c .number ≡ 0 →
     rowsBrought s (broughtBy c) k ≡ row ∷ [] → row .index ≡ f → NumberedInFile s b c k f row
 numbered-in-file s b c k f row r z q e =
     let v : ofFile f (viewOf k (outcome s b c .session .tables) (outcome s b c .buffers)) ≡ ofFile f (viewOf k (s .tables) b) ++ (row ∷ []) =
@@ -171,7 +172,7 @@ numbered-in-file s b c k f row r z q e =
     record { rows = v; entry = λ d. ap (λ l. getD l (length (ofFile f (viewOf k (s .tables) b))) d) v ∙ getD-at (ofFile f (viewOf k (s .tables) b)) row [] d (length (ofFile f (viewOf k (s .tables) b))) refl }
 
 -- another file's rows stay
-pub other-file : (s : Session) (b : Buffers) (c : Call) (k : Kind) (f : ℕ) (row : Row) → ReachedSession s → outcome s b c .number ≡ 0 →
+pub other-file : (s : Session) (b : Buffers) (c : Call) (k : AnyKind) (f : ℕ) (row : Row) → ReachedSession s → outcome s b c .number ≡ 0 →
     rowsBrought s (broughtBy c) k ≡ row ∷ [] → (row .index ≡ f → ⊥) → ofFile f (viewOf k (outcome s b c .session .tables) (outcome s b c .buffers)) ≡ ofFile f (viewOf k (s .tables) b)
 unfolding ofFile
 other-file s b c k f row r z q h =
@@ -181,7 +182,7 @@ other-file s b c k f row r z q h =
 -- ---- what a command leaves
 
 -- a command makes no entry of a kind: the kind's table and its buffer stay
-applied-elsewhere : (t : Tables) (b : one.Buffers) (c : Command) (k : one-kind.Kind) (p : List ℕ) → one-kind.rowsOf c k p ≡ [] →
+applied-elsewhere : (t : Tables) (b : one.BuffersOne) (c : CommandOne) (k : one-kind.KindOne) (p : List ℕ) → one-kind.rowsOf c k p ≡ [] →
     (one-kind.tableOf k (one.applied t b c p) ≡ one-kind.tableOf k t) × (one-kind.bufferOf k (one.filledBy t b c p) ≡ one-kind.bufferOf k b)
 applied-elsewhere t b (recipient m) recipients p h = (cc, cc)
 applied-elsewhere t b (recipient m) identities p h = (refl, refl)
@@ -203,7 +204,7 @@ applied-elsewhere t b done k p h = (refl, refl)
 applied-elsewhere t b other k p h = (refl, refl)
 applied-elsewhere t b (bad n) k p h = (refl, refl)
 
-two-elsewhere : (t : Tables) (b : two.Buffers) (c : CommandTwo) (k : two.Kind) (p : List ℕ) → two.rowsOf c k p ≡ [] →
+two-elsewhere : (t : Tables) (b : two.BuffersTwo) (c : CommandTwo) (k : two.KindTwo) (p : List ℕ) → two.rowsOf c k p ≡ [] →
     (two.tableOf k (two.applied t b c p) ≡ two.tableOf k t) × (two.bufferOf k (two.filledBy t b c p) ≡ two.bufferOf k b)
 two-elsewhere t b (two-command.ask w) k p h = (refl, refl)
 two-elsewhere t b (two-command.stanza f) errors p h = (refl, refl)
@@ -220,10 +221,10 @@ two-elsewhere t b two-command.other k p h = (refl, refl)
 two-elsewhere t b (two-command.bad n) k p h = (refl, refl)
 
 module _ (s : Session) (b : Buffers) where
-  abbrev Stays : Outcome → Kind → Type 0
+  abbrev Stays : Outcome → AnyKind → Type 0
   Stays o k = (tableOf k (o .session .tables) ≡ tableOf k (s .tables)) × (bufferOf k (o .buffers) ≡ bufferOf k b)
 
-  one-stays : (line body text out : List ℕ) (o : Outcome) → AppliedOne s b line body text out o → (k : Kind) → rowsOne s line body k ≡ [] → Stays o k
+  one-stays : (line body text out : List ℕ) (o : Outcome) → AppliedOne s b line body text out o → (k : AnyKind) → rowsOne s line body k ≡ [] → Stays o k
   one-stays line body text out o a (first k) q =
       let w = applied-elsewhere (s .tables) (b .first) (commandIn (s .machine) (s .name) line body) k (payloadIn (s .machine) (s .name) line body) q in
       (ap (λ x. one-kind.tableOf k (x .tables)) (a .applied .session) ∙ w .0, ap (one-kind.bufferOf k) (a .applied .buffers) ∙ w .1)
@@ -232,7 +233,7 @@ module _ (s : Session) (b : Buffers) where
     ap (two.bufferOf k) (a .second),
   )
 
-  two-stays : (own : Bool) (line body : List ℕ) (phase : Phase) (text out : List ℕ) (o : Outcome) → AppliedTwo own s b line body phase text out o → (k : Kind) → rowsTwo s line body k ≡ [] → Stays o k
+  two-stays : (own : Bool) (line body : List ℕ) (phase : Phase) (text out : List ℕ) (o : Outcome) → AppliedTwo own s b line body phase text out o → (k : AnyKind) → rowsTwo s line body k ≡ [] → Stays o k
   two-stays own line body phase text out o a (first k) q = (
     ap (λ x. one-kind.tableOf k (x .tables)) (a .session) ∙ two-leaves (s .tables) (payloadAt s line body) (b .second) (commandAt s line body) k,
     ap (λ x. one-kind.bufferOf k (x .first)) (a .buffers),
@@ -242,7 +243,7 @@ module _ (s : Session) (b : Buffers) where
       (ap (λ x. two.tableOf k (x .tables)) (a .session) ∙ w .0, ap (λ x. two.bufferOf k (x .second)) (a .buffers) ∙ w .1)
 
   -- an accepted call whose command makes no entry of a kind, or that has no command, changes neither the kind's table nor its buffer
-  pub elsewhere : (c : Call) (k : Kind) → outcome s b c .number ≡ 0 → rowsBrought s (broughtBy c) k ≡ [] →
+  pub elsewhere : (c : Call) (k : AnyKind) → outcome s b c .number ≡ 0 → rowsBrought s (broughtBy c) k ≡ [] →
       (tableOf k (outcome s b c .session .tables) ≡ tableOf k (s .tables)) × (bufferOf k (outcome s b c .buffers) ≡ bufferOf k b)
   elsewhere c k z = by c (accepted s b c z)
     where

@@ -11,33 +11,32 @@ use Rattle.refusal.specs.Pick.{pick}
 use Rattle.refusal.specs.Same.{same}
 use Rattle.refusal.proofs.Laws.Booleans.{and-true}
 use Rattle.stanza.specs.Arguments.{countOf, argumentOf}
-use Rattle.stanza.specs.Index.{Reading, number, refused, readIndex}
-use Rattle.responses.specs.declared.WordTwo.{WordTwo}
-use Rattle.responses.specs.declared.WordTwo.the-variants.{Msg, Confirm, RequestPublic, RequestSecret, RecipientStanza, FileKey, Error, Other, Done}
+use Rattle.stanza.specs.Index.{ReadIndex, number, refused, readIndex}
+use Rattle.session.specs.declared.words.WordTwo.{WordTwo}
+use Rattle.session.specs.declared.words.WordTwo.the-variants.{Msg, Confirm, RequestPublic, RequestSecret, RecipientStanza, FileKey, Error, Other, Done}
 use Rattle.tables.specs.Tables.{Table, fits, entered, kept, view}
 use Rattle.tables.proofs.Laws.Tables.{Kept, Filled, opened-kept, opened-filled, entered-kept, entered-filled, entered-view}
-use Rattle.session.specs.Commands.{isBare}
-use Rattle.session.specs.PhaseOne as one
-use Rattle.session.specs.PhaseOne.{Tables, openedTables, firstOf}
-use Rattle.session.specs.Commands as one-command
-use Rattle.session.specs.Views as one-kind
-use Rattle.session.specs.declared.commands.Machine.{Machine}
-use Rattle.session.specs.declared.commands.Machine.the-variants.{RecipientV1, IdentityV1}
-use Rattle.session.proofs.Laws.Views.{first-zero}
+use Rattle.phase_one.specs.Commands.{isBare}
+use Rattle.phase_one.specs.PhaseOne as one
+use Rattle.session.specs.Tables.{Tables, openedTables}
+use Rattle.phase_one.specs.Commands as one-command
+use Rattle.phase_one.specs.Views as one-kind
+use Rattle.session.specs.declared.opening.Machine.{Machine}
+use Rattle.session.specs.declared.opening.Machine.the-variants.{RecipientV1, IdentityV1}
 use Rattle.conversation.specs.CommandsTwo.{Named, identity, recipient, CommandTwo, ask, stanza, key, error, done, other, bad, internalWord, identityWord, recipientWord, stanzaWord, areLabels, stanzaAt, keyAt, errorAt, headerAt, errorOf, rowTwo, commandTwo, wordTwo, payloadOf}
-use Rattle.conversation.specs.PhaseTwo.{Kind, errors, stanzas, returned, Buffers, tableOf, viewOf, isMissing, isSecondKey, isTooMany, isClashing, isSpaceless, isHeldBack, faultOf, when, decided, applied, filledBy, rowsOf}
+use Rattle.conversation.specs.PhaseTwo.{KindTwo, errors, stanzas, returned, BuffersTwo, tableOf, viewOf, decided, applied, filledBy, rowsOf}
 use Rattle.conversation.proofs.Laws.DecidedTwo.{decided-iff}
 
 -- ---- tables that an opening and calls can reach
 
 -- an error's message may be empty, the payload of a stanza or a key is not
-abbrev pub KeptAs : Kind → Table → Type 0
+abbrev pub KeptAs : KindTwo → Table → Type 0
 KeptAs errors t = Kept t
 KeptAs stanzas t = Filled t
 KeptAs returned t = Filled t
 
 unfoldable pub ReachedTwo : Tables → Type 0
-ReachedTwo t = (k : Kind) → KeptAs k (tableOf k t)
+ReachedTwo t = (k : KindTwo) → KeptAs k (tableOf k t)
 
 pub opened-reached-two : ReachedTwo openedTables
 unfolding ReachedTwo
@@ -46,7 +45,7 @@ opened-reached-two stanzas = opened-filled 256
 opened-reached-two returned = opened-filled 256
 
 -- either way the entries stand one behind the other
-pub kept-two : (t : Tables) → ReachedTwo t → (k : Kind) → Kept (tableOf k t)
+pub kept-two : (t : Tables) → ReachedTwo t → (k : KindTwo) → Kept (tableOf k t)
 unfolding ReachedTwo
 kept-two t r errors = r errors
 kept-two t r stanzas = r stanzas .kept-so
@@ -63,7 +62,7 @@ StoredTwo other p = Unit
 StoredTwo (bad n) p = Unit
 
 -- commands keep them so
-pub applied-reached-two : (t : Tables) (b : Buffers) (c : CommandTwo) (p : List ℕ) → StoredTwo c p → ReachedTwo t → ReachedTwo (applied t b c p)
+pub applied-reached-two : (t : Tables) (b : BuffersTwo) (c : CommandTwo) (p : List ℕ) → StoredTwo c p → ReachedTwo t → ReachedTwo (applied t b c p)
 unfolding ReachedTwo
 applied-reached-two t b (ask w) p h r k = r k
 applied-reached-two t b (stanza f) p h r errors = r errors
@@ -87,11 +86,11 @@ own-row : (t : Table) (p b : List ℕ) (index mark : ℕ) → Kept t → (f : Bo
 own-row t p b index mark k true e h = entered-view t p b index mark k ∙ ap (λ x. pick x (view t b ++ (record { payload = p; index = index; mark = mark } ∷ [])) (view t b)) e
 own-row t p b index mark k false e h = cc
 
-module _ (own : Bool) (t : Tables) (b : Buffers) (p : List ℕ) (r : (k : Kind) → Kept (tableOf k t)) where
-  none : (k : Kind) → viewOf k t b ≡ viewOf k t b ++ []
+module _ (own : Bool) (t : Tables) (b : BuffersTwo) (p : List ℕ) (r : (k : KindTwo) → Kept (tableOf k t)) where
+  none : (k : KindTwo) → viewOf k t b ≡ viewOf k t b ++ []
   none k = sym (append-nil (viewOf k t b))
 
-  pub applied-view-two : (c : CommandTwo) → decided own t b c (length p) ≡ 0 → (k : Kind) → viewOf k (applied t b c p) (filledBy t b c p) ≡ viewOf k t b ++ rowsOf c k p
+  pub applied-view-two : (c : CommandTwo) → decided own t b c (length p) ≡ 0 → (k : KindTwo) → viewOf k (applied t b c p) (filledBy t b c p) ≡ viewOf k t b ++ rowsOf c k p
   applied-view-two (ask w) h k = none k
   applied-view-two (stanza f) h errors = none errors
   applied-view-two (stanza f) h stanzas = own-row (t .stanzas) p (b .stanzas) f 0 (r stanzas) (fits (t .stanzas) (length p) (length (b .stanzas))) refl (decided-iff own t b (stanza f) (length p) .0 h .space)
@@ -109,20 +108,20 @@ module _ (own : Bool) (t : Tables) (b : Buffers) (p : List ℕ) (r : (k : Kind) 
 -- ---- a command of one phase leaves the other phase's tables
 
 -- tables that are equal, kind by kind
-each-second : (t u : Tables) → (u .errors ≡ t .errors) × (u .stanzas ≡ t .stanzas) × (u .returned ≡ t .returned) → (k : Kind) → tableOf k u ≡ tableOf k t
+each-second : (t u : Tables) → (u .errors ≡ t .errors) × (u .stanzas ≡ t .stanzas) × (u .returned ≡ t .returned) → (k : KindTwo) → tableOf k u ≡ tableOf k t
 each-second t u e errors = e .0
 each-second t u e stanzas = e .1
 each-second t u e returned = e .2
 
 each-first : (t u : Tables) → (u .recipients ≡ t .recipients) × (u .identities ≡ t .identities) × (u .keys ≡ t .keys) × (u .headers ≡ t .headers) →
-    (k : one-kind.Kind) → one-kind.tableOf k u ≡ one-kind.tableOf k t
+    (k : one-kind.KindOne) → one-kind.tableOf k u ≡ one-kind.tableOf k t
 each-first t u e one-kind.recipients = e .0
 each-first t u e one-kind.identities = e .1
 each-first t u e one-kind.keys = e .2
 each-first t u e one-kind.headers = e .3
 
 module _ (t : Tables) (p : List ℕ) where
-  pub one-leaves : (b : one.Buffers) (c : one-command.Command) (k : Kind) → tableOf k (one.applied t b c p) ≡ tableOf k t
+  pub one-leaves : (b : one.BuffersOne) (c : one-command.CommandOne) (k : KindTwo) → tableOf k (one.applied t b c p) ≡ tableOf k t
   one-leaves b (one-command.recipient m) k = each-second t (one.applied t b (one-command.recipient m) p) (refl, refl, refl) k
   one-leaves b (one-command.identity m) k = each-second t (one.applied t b (one-command.identity m) p) (refl, refl, refl) k
   one-leaves b one-command.key k = each-second t (one.applied t b one-command.key p) (refl, refl, refl) k
@@ -131,7 +130,7 @@ module _ (t : Tables) (p : List ℕ) where
   one-leaves b one-command.other k = refl
   one-leaves b (one-command.bad n) k = refl
 
-  pub two-leaves : (b : Buffers) (c : CommandTwo) (k : one-kind.Kind) → one-kind.tableOf k (applied t b c p) ≡ one-kind.tableOf k t
+  pub two-leaves : (b : BuffersTwo) (c : CommandTwo) (k : one-kind.KindOne) → one-kind.tableOf k (applied t b c p) ≡ one-kind.tableOf k t
   two-leaves b (ask w) k = refl
   two-leaves b (stanza f) k = each-first t (applied t b (stanza f) p) (refl, refl, refl, refl) k
   two-leaves b (key f) k = each-first t (applied t b (key f) p) (refl, refl, refl, refl) k
@@ -150,19 +149,19 @@ module _ (line body : List ℕ) where
   at-either true x y h g = h refl
   at-either false x y h g = g
 
-  stanza-stored : (i : Reading) → Right (stanzaAt i)
+  stanza-stored : (i : ReadIndex) → Right (stanzaAt i)
   stanza-stored (number f) = simp length-append (omega arith)
   stanza-stored (refused n) = tt
 
-  key-stored : (i : Reading) → length body ≡ 16 → Right (keyAt i)
+  key-stored : (i : ReadIndex) → length body ≡ 16 → Right (keyAt i)
   key-stored (number f) h = omega arith
   key-stored (refused n) h = tt
 
-  named-stored : (name : ℕ → Named) (i : Reading) → Right (errorAt name i)
+  named-stored : (name : ℕ → Named) (i : ReadIndex) → Right (errorAt name i)
   named-stored name (number f) = tt
   named-stored name (refused n) = tt
 
-  header-stored : (f i : Reading) → Right (headerAt f i)
+  header-stored : (f i : ReadIndex) → Right (headerAt f i)
   header-stored (number f) (number i) = tt
   header-stored (number f) (refused n) = tt
   header-stored (refused n) i = tt

@@ -15,57 +15,33 @@ use Rattle.stanza.specs.Grammar.{stanzaText}
 use Rattle.stanza.specs.Reading.{stanza, readFirst}
 use Rattle.stanza.specs.Writing.{isWritable}
 use Rattle.stanza.proofs.Laws.RoundTrip.{read-written, read-arguments, read-body, written-read}
-use Rattle.responses.specs.Responses.{responseLine, response, responseOf}
+use Rattle.responses.specs.Responses.{responseLine, responseOf}
 use Rattle.responses.specs.declared.Response.{Response}
 use Rattle.responses.specs.declared.Response.the-variants.{Ok, Yes, No, Fail, Unsupported}
-use Rattle.responses.specs.declared.WordTwo.{WordTwo}
+use Rattle.session.specs.declared.words.WordTwo.{WordTwo}
 use Rattle.responses.proofs.Laws.Responses.{line-read, read-line}
-use Rattle.session.specs.Commands as one-command
-use Rattle.session.specs.Commands.{Word}
-use Rattle.session.specs.PhaseOne as one
-use Rattle.session.specs.declared.commands.Machine.{Machine}
+use Rattle.phase_one.specs.Commands as one-command
+use Rattle.phase_one.specs.Commands.{WordOne}
+use Rattle.phase_one.specs.PhaseOne as one
 use Rattle.conversation.specs.Calls.{send, receive-two, reply, send-two, Outcome, outcome, writtenBy, lineRead, bodyRead}
 use Rattle.conversation.specs.CommandsTwo.{commandTwo, payloadOf, lineSent}
 use Rattle.conversation.specs.Kinds.{Buffers}
-use Rattle.conversation.specs.Phases.{lineIn, bodyIn, commandOf, commandIn, payloadIn}
+use Rattle.conversation.specs.Phases.{lineIn, bodyIn, commandIn, payloadIn}
 use Rattle.conversation.specs.ReceivingTwo.{writes, atOnce, textOf}
-use Rattle.conversation.specs.Session.{Session}
+use Rattle.session.specs.Session.{Session}
+use Rattle.conversation.specs.WrittenRead.{ReadsBack, OneReadsBack, TwoReadsBack, ResponseReadsBack, ReceivedAgain}
 use Rattle.conversation.proofs.Laws.Accepted.{Written, accepted}
 
 -- ---- a text that reads back
 
--- a text is that of these arguments and this body, and the end that receives it, whatever stands behind it, takes all of it and finds them
-pub record ReadsBack (line body text : List ℕ) : Type 0 where
-  pub is-text : text ≡ stanzaText line body
-  pub is-stanza : (rest : List ℕ) → readFirst (text ++ rest) ≡ stanza (length line + 3) (length body) (length text)
-  pub same-line : (rest : List ℕ) → lineIn (text ++ rest) ≡ line
-  pub same-body : (rest : List ℕ) → bodyIn (text ++ rest) ≡ body
-
 -- whatever can be written
-reads-back : (line body text : List ℕ) → areBytes body ≡ true → isWritable line body ≡ true → text ≡ stanzaText line body → ReadsBack line body text
+pub reads-back : (line body text : List ℕ) → areBytes body ≡ true → isWritable line body ≡ true → text ≡ stanzaText line body → ReadsBack line body text
 reads-back line body text a w e = subst (ReadsBack line body) (sym e) (record {
   is-text = refl;
   is-stanza = λ rest. read-written line body rest a w;
   same-line = λ rest. ap (λ r. lineRead r (stanzaText line body ++ rest)) (read-written line body rest a w) ∙ read-arguments line body rest;
   same-body = λ rest. ap (λ r. bodyRead r (stanzaText line body ++ rest)) (read-written line body rest a w) ∙ read-body line body rest a;
 })
-
--- a command of phase one, to either machine and any plugin
-pub record OneReadsBack (line body text : List ℕ) : Type 0 where
-  pub back : ReadsBack line body text
-  pub command : (machine : Machine) (name rest : List ℕ) → commandOf machine name (text ++ rest) ≡ one.commandIn machine name line body
-  pub payload : (machine : Machine) (name rest : List ℕ) → one.payloadIn machine name (lineIn (text ++ rest)) (bodyIn (text ++ rest)) ≡ one.payloadIn machine name line body
-
--- a command of phase two, to either machine: its kind, its index and its payload
-pub record TwoReadsBack (line body text : List ℕ) : Type 0 where
-  pub back : ReadsBack line body text
-  pub command : (machine : Machine) (rest : List ℕ) → commandIn machine (text ++ rest) ≡ commandTwo machine line body
-  pub payload : (machine : Machine) (rest : List ℕ) → payloadIn machine (text ++ rest) ≡ payloadOf (commandTwo machine line body) line body
-
--- a response: which it is, and its body
-pub record ResponseReadsBack (r : Response) (body text : List ℕ) : Type 0 where
-  pub back : ReadsBack (responseLine r) body text
-  pub same-response : (rest : List ℕ) → responseOf (lineIn (text ++ rest)) ≡ response r
 
 one-back : (line body text : List ℕ) → ReadsBack line body text → OneReadsBack line body text
 one-back line body text h = record {
@@ -102,7 +78,7 @@ bodiless Unsupported = refl
 
 module _ (s : Session) (b : Buffers) where
   -- a command that the client end sends in phase one is parsed by the plugin end as that command
-  pub phase-one-written : (word : Word) (arguments body out : List ℕ) → areBytes body ≡ true → outcome s b (send word arguments body out) .number ≡ 0 →
+  pub phase-one-written : (word : WordOne) (arguments body out : List ℕ) → areBytes body ≡ true → outcome s b (send word arguments body out) .number ≡ 0 →
       OneReadsBack (one-command.lineSent word arguments) body (writtenBy s b (send word arguments body out))
   phase-one-written word arguments body out a h =
       let w = accepted s b (send word arguments body out) h in one-back _ _ _ (reads-back _ body _ a (w .writable) (front _ out _ (w .written)))
@@ -127,13 +103,6 @@ module _ (s : Session) (b : Buffers) where
   response-written r body out a h = let w = accepted s b (reply r body out) h in response-back r body _ (reads-back _ body _ a (w .writable) (front _ out _ (w .written)))
 
 -- ---- what is received would be written so again
-
--- the k bytes taken of a text are the text of what it is parsed as, which can be written
-pub record ReceivedAgain (t : List ℕ) (k : ℕ) : Type 0 where
-  pub bytes : areBytes (bodyIn t) ≡ true
-  pub writable : isWritable (lineIn t) (bodyIn t) ≡ true
-  pub again : take k t ≡ stanzaText (lineIn t) (bodyIn t)
-  pub as-response : (r : Response) → responseOf (lineIn t) ≡ response r → take k t ≡ stanzaText (responseLine r) (bodyIn t)
 
 -- a text that is received is the text that would be written for it, whether it is a command or a response
 pub received-again : (t : List ℕ) (e n k : ℕ) → readFirst t ≡ stanza e n k → ReceivedAgain t k

@@ -1,3 +1,4 @@
+-- By the answer: bytes set the length, a refusal gives its number and leaves it as it was; the buffer is what `body_of` ensures.
 use mathlib.Core.Path.{refl, sym, ap, _∙_}
 use Rattle.refusal.specs.Output.{said}
 use Rattle.exports.specs.Results.{numberIn, lengthOr}

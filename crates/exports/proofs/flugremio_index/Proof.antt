@@ -1,3 +1,4 @@
+-- By what was read: an index goes to `value`, a refusal gives its number and leaves `value` as it was.
 use mathlib.Core.Path.{refl}
 use borrow.Author.Needs.{needs}
 use Rattle.exports.proofs.flugremio_index.Statement.{statement}

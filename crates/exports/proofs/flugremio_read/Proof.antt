@@ -1,3 +1,4 @@
+-- By what was read: a stanza sets the three numbers, a refusal gives its number and leaves them as they were.
 use mathlib.Core.Path.{refl}
 use borrow.Author.Needs.{needs}
 use Rattle.exports.proofs.flugremio_read.Statement.{statement}

@@ -1,3 +1,4 @@
+-- By `read_text`, for an identity.
 use borrow.Author.Needs.{needs}
 use Rattle.exports.proofs.flugremio_read_identity.Statement.{statement}
 use Rattle.exports.proofs.flugremio_read_identity.Tie as tie

@@ -1,3 +1,4 @@
+-- By `read_text`, for a recipient.
 use borrow.Author.Needs.{needs}
 use Rattle.exports.proofs.flugremio_read_recipient.Statement.{statement}
 use Rattle.exports.proofs.flugremio_read_recipient.Tie as tie

@@ -1,3 +1,4 @@
+-- By `write_text`, for an identity.
 use borrow.Author.Needs.{needs}
 use Rattle.exports.proofs.flugremio_write_identity.Statement.{statement}
 use Rattle.exports.proofs.flugremio_write_identity.Tie as tie

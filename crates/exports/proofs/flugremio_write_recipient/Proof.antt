@@ -1,3 +1,4 @@
+-- By `write_text`, for a recipient.
 use borrow.Author.Needs.{needs}
 use Rattle.exports.proofs.flugremio_write_recipient.Statement.{statement}
 use Rattle.exports.proofs.flugremio_write_recipient.Tie as tie

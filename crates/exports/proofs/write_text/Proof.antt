@@ -1,3 +1,4 @@
+-- By the answer: bytes set the length, a refusal gives its number and leaves it as it was; the buffer is what `write` ensures.
 use mathlib.Core.Path.{refl}
 use borrow.Author.Needs.{needs}
 use Rattle.exports.proofs.write_text.Statement.{statement}

@@ -1,16 +1,14 @@
--- `judge_chunk` meets its contract: what `judge_window` ensures, and the rest is moved.
-use Prim.Native.Nat.{_<_}
-use native.Mathlib.Omega.{arith}
-use mathlib.Core.Path.{_≡_, sym, ap, _∙_}
-use mathlib.Core.Bool.{false≢true}
-use lib.ListN.{length}
-use lib.Seq.{length-take-le}
-use denote.Ref.{now}
-use Rattle.plugin.specs.Session.{sessionOf}
-use Rattle.judging.specs.Said.{standingIn}
+-- The cut is what `judge_window` ensures: where it goes on fewer than 8,192 bytes are left, which `keep_rest` moves to the front.
 use borrow.Author.Needs.{needs}
 use Rattle.judge.proofs.judge_chunk.Statement.{statement}
 use Rattle.judge.proofs.judge_chunk.Tie as tie
+use native.Mathlib.Omega.{arith}
+use mathlib.Core.Path.{sym, ap}
+use mathlib.Core.Bool.{false≢true}
+use lib.Seq.{length-take-le}
+use denote.Ref.{now}
+use Rattle.session.specs.Session.{sessionOf}
+use Rattle.judging.specs.Said.{standingIn}
 
 slice-reshare-prefix-judge-window : tie.Need-slice-reshare-prefix-judge-window
 slice-reshare-prefix-judge-window c = search needs
@@ -23,8 +21,8 @@ judge-window-requires c κs = search needs
 
 keep-rest-requires : tie.Need-keep-rest-requires
 keep-rest-requires c κs =
-    let a = c .before .before .before .before .before .before .before .before .before .before .before .before .before .before .before .before .args in
-    (omega (arith, c .before .before .before .before .before .before .before .judge-window .ensures .1 .within, length-take-le (a .end) (now (a .window)) (c .before .before .before .before .before .before .before .before .before .before .before .before .before .before .before .before .pre)), c .before .before .before .before .before .before .before .before .before .before .before .before .before .before .before .before .pre)
+    let a = c .before .before .before .before .before .before .before .before .before .before .before .before .before .before .before .before .before .before .args in
+    (omega (arith, c .before .before .before .before .before .before .before .judge-window .ensures .1 .within, length-take-le (a .end) (now (a .window)) (c .before .before .before .before .before .before .before .before .before .before .before .before .before .before .before .before .before .before .pre)), c .before .before .before .before .before .before .before .before .before .before .before .before .before .before .before .before .before .before .pre)
 
 enum-told : tie.Need-enum-told
 enum-told c = search needs
@@ -46,11 +44,11 @@ same-length-4 c = search needs
 
 returns : tie.Need-returns
 returns c =
-    let a = c .before .before .before .before .before .before .before .before .before .before .before .before .before .before .before .before .before .before .before .before .before .args in
+    let a = c .before .before .before .before .before .before .before .before .before .before .before .before .before .before .before .before .before .before .before .before .before .before .before .args in
     let j = c .before .before .before .before .before .before .before .before .before .before .before .before .judge-window in
     let k = c .before .before .before .before .keep-rest in
-    let l = j .ensures .1 .left (sessionOf (j .result .session)) (ap (λ p. standingIn p (sessionOf (j .result .session))) (c .enum-told .given .1)) in
-    (j .ensures .1, (k .ensures .1, (omega (arith, k .ensures .0), λ m. omega (arith, k .ensures .0, l .1, length-take-le (a .end) (now (a .window)) (c .before .before .before .before .before .before .before .before .before .before .before .before .before .before .before .before .before .before .before .before .before .pre)))))
+    let l = j .ensures .1 .left (sessionOf (j .result .session) (j .last .1 .1 .1 .0) (j .last .1 .1 .1 .1 .0)) (ap (λ p. standingIn p (sessionOf (j .result .session) (j .last .1 .1 .1 .0) (j .last .1 .1 .1 .1 .0))) (c .enum-told .given .1)) in
+    (j .ensures .1, (k .ensures .1, (omega (arith, k .ensures .0), λ m. omega (arith, k .ensures .0, l .1, length-take-le (a .end) (now (a .window)) (c .before .before .before .before .before .before .before .before .before .before .before .before .before .before .before .before .before .before .before .before .before .before .before .pre)))))
 
 same-length-5 : tie.Need-same-length-5
 same-length-5 c = search needs

@@ -1,19 +1,19 @@
--- `run` is safe and ends: the measure is the number of turns that are left. While the run goes on fewer than 8,192 bytes are left, so there is space to read to.
+-- Invariant: where it goes on, fewer than 8,192 bytes are left, so there is space to read to; the buffers keep their lengths.
+use Rattle.judge.proofs.run.Statement.{statement}
+use Rattle.judge.proofs.run.Tie as tie
 use Prim.Native.Nat.{_<_}
 use native.Mathlib.Omega.{arith}
 use mathlib.Core.Path.{_≡_, refl}
 use mathlib.Core.Bool.{true}
 use lib.ListN.{length}
 use borrow.Author.Needs.{needs}
-use Rattle.judge.proofs.run.Statement.{statement}
-use Rattle.judge.proofs.run.Tie as tie
 
 abbrev Inv-loop : tie.InvT-loop
-Inv-loop window₀ recipients₀ identities₀ keys₀ s₀ turns₀ window recipients identities keys s turns =
+Inv-loop window₀ slots₀ header₀ recipients₀ identities₀ keys₀ s₀ turns₀ window slots header recipients identities keys s turns =
     (s .more ≡ true → s .left < 8192) × (length window ≡ length window₀) × (length recipients ≡ length recipients₀) × (length identities ≡ length identities₀) × (length keys ≡ length keys₀)
 
 abbrev μ-loop : tie.MeasureT-loop
-μ-loop window₀ recipients₀ identities₀ keys₀ s₀ turns₀ window recipients identities keys s turns =
+μ-loop window₀ slots₀ header₀ recipients₀ identities₀ keys₀ s₀ turns₀ window slots header recipients identities keys s turns =
     turns
 
 open-requires : tie.Need-open-requires Inv-loop μ-loop
@@ -24,8 +24,8 @@ loop-holds c = (λ m. omega arith, refl, refl, refl, refl)
 
 run-turn-requires : tie.Need-run-turn-requires Inv-loop μ-loop
 run-turn-requires c κs =
-    let l = c .before .before .before .before .before .before .loop in
-    omega (arith, l .inv .0 (c .before .before .before .before .if1 .taken), l .inv .1, c .before .before .before .before .before .before .before .before .before .before .before .before .pre)
+    let l = c .before .before .before .before .before .before .before .before .loop in
+    omega (arith, l .inv .0 (c .before .before .before .before .before .before .if1 .taken), l .inv .1, c .before .before .before .before .before .before .before .before .before .before .before .before .before .before .pre)
 
 sub-turns : tie.Need-sub-turns Inv-loop μ-loop
 sub-turns c = search needs

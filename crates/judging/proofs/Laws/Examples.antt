@@ -12,9 +12,9 @@ use Rattle.stanza.specs.Arguments.{isGraphic, before, words}
 use Rattle.stanza.specs.Automaton.{next, verdict, scan}
 use Rattle.stanza.specs.Grammar.{firstLine}
 use Rattle.stanza.specs.Reading.{found}
-use Rattle.session.specs.Commands.{add-recipient, add-identity, wrap-file-key, done-word, lineSent}
+use Rattle.phase_one.specs.Commands.{add-recipient, add-identity, wrap-file-key, done-word, lineSent}
 use Rattle.conversation.specs.Receiving.{receivedStanza, received}
-use Rattle.judging.specs.Judging.{Judged, judgedWith, judged}
+use Rattle.judging.specs.Judging.{judgedWith, judged}
 
 -- a command with no body
 abbrev bare : List ℕ → List ℕ

@@ -22,12 +22,13 @@ use Rattle.stanza.proofs.Laws.Index.{read-index}
 use Rattle.stanza.proofs.Laws.RoundTrip.{read-text, written-read}
 use Rattle.stanza.proofs.Laws.Writing.{text-length}
 use Rattle.tables.specs.Tables.{fits}
-use Rattle.session.specs.PhaseOne.{Tables, Buffers, falls, decided, commandIn, payloadIn, numberOne}
-use Rattle.session.specs.Commands.{Word, add-recipient, add-identity, wrap-file-key, recipient-stanza, done-word, other-word, wordIn, Command, recipient, identity, key, header, done, other, bad, indexed, headerMark, isBare, rowCommand}
-use Rattle.session.specs.Phases.{turnOne}
+use Rattle.session.specs.Tables.{Tables}
+use Rattle.phase_one.specs.PhaseOne.{BuffersOne, falls, decided, commandIn, payloadIn, numberOne}
+use Rattle.phase_one.specs.Commands.{WordOne, add-recipient, add-identity, wrap-file-key, recipient-stanza, done-word, other-word, wordIn, CommandOne, recipient, identity, key, header, done, other, bad, indexed, headerMark, isBare, rowCommand}
+use Rattle.phase_one.specs.Turns.{turnOne}
 use Rattle.session.specs.declared.phases.Phase.{Phase}
 use Rattle.session.specs.declared.phases.Phase.the-variants.{One, Two, Awaiting, Ended, Closed}
-use Rattle.conversation.specs.Session.{Session}
+use Rattle.session.specs.Session.{Session}
 use Rattle.conversation.proofs.Laws.Refusals.{either}
 use Rattle.conversation.specs.Receiving.{took, declined, Received, refusedReceipt, receivedStanza, receivedAs, received}
 
@@ -100,7 +101,7 @@ taken-some t e n k r =
 -- ---- no fault of a whole stanza has the number 2
 
 -- a command that was read is no fault of the number 2
-abbrev NotTwo : Command → Type 0
+abbrev NotTwo : CommandOne → Type 0
 NotTwo (recipient m) = Unit
 NotTwo (identity m) = Unit
 NotTwo key = Unit
@@ -112,7 +113,7 @@ NotTwo (bad n) = n ≡ 2 → ⊥
 four : _≡_ {A = ℕ} 4 2 → ⊥
 four e = omega arith
 
-row-not-two : (w : Word) (g l : List ℕ) (n : ℕ) → NotTwo (rowCommand w g l n)
+row-not-two : (w : WordOne) (g l : List ℕ) (n : ℕ) → NotTwo (rowCommand w g l n)
 row-not-two add-recipient g l n = either NotTwo (eqb (countOf l) 2 && eqb n 0) _ _ tt four
 row-not-two add-identity g l n = either NotTwo (eqb (countOf l) 2 && eqb n 0) _ _ tt four
 row-not-two wrap-file-key g l n = either NotTwo (isBare l n 16) _ _ tt four
@@ -123,7 +124,7 @@ row-not-two recipient-stanza g l n =
 row-not-two done-word g l n = either NotTwo (isBare l n 0) _ _ tt four
 row-not-two other-word g l n = tt
 
-decided-not-two : (t : Tables) (b : Buffers) (c : Command) (n : ℕ) → NotTwo c → decided t b c n ≡ 2 → ⊥
+decided-not-two : (t : Tables) (b : BuffersOne) (c : CommandOne) (n : ℕ) → NotTwo c → decided t b c n ≡ 2 → ⊥
 decided-not-two t b (recipient m) n h = either (λ x. x ≡ 2 → ⊥) (fits (t .recipients) n (length (b .recipients))) 0 8 (λ e. omega arith) (λ e. omega arith)
 decided-not-two t b (identity m) n h = either (λ x. x ≡ 2 → ⊥) (fits (t .identities) n (length (b .identities))) 0 8 (λ e. omega arith) (λ e. omega arith)
 decided-not-two t b key n h = either (λ x. x ≡ 2 → ⊥) (fits (t .keys) n (length (b .keys))) 0 8 (λ e. omega arith) (λ e. omega arith)
@@ -143,7 +144,7 @@ turn-not-two Closed e = omega arith
 
 -- ---- receiving
 
-module _ (s : Session) (b : Buffers) where
+module _ (s : Session) (b : BuffersOne) where
   number-not-two : (line body : List ℕ) → numberOne (s .machine) (s .name) (s .tables) b 0 line body ≡ 2 → ⊥
   number-not-two line body =
       let n = length (payloadIn (s .machine) (s .name) line body) in
@@ -193,7 +194,7 @@ module _ (s : Session) (b : Buffers) where
 
   -- an accepted call takes a byte or more, and no more than its text has
   abbrev Takes : List ℕ → Received → Type 0
-  Takes t r = (w : Word) (k : ℕ) → r .answer ≡ took w k → (0 < k) × (k ≤ length t)
+  Takes t r = (w : WordOne) (k : ℕ) → r .answer ≡ took w k → (0 < k) × (k ≤ length t)
 
   refused-takes : (t : List ℕ) (n : ℕ) → Takes t (refusedReceipt n s b)
   refused-takes t n w k e = let z : _≡_ {A = ℕ} 0 1 = cc in absurd (omega arith)

@@ -11,10 +11,10 @@ use Rattle.refusal.specs.Same.{same}
 use Rattle.refusal.proofs.Laws.Lists.{part-rest}
 use Rattle.symbols.specs.Charset.{isLower}
 use Rattle.bech32.specs.Text.{isName, isNameByte}
-use Rattle.session.specs.Commands.{Word}
-use Rattle.session.specs.PhaseOne.{Buffers, buffersOf}
+use Rattle.phase_one.specs.Commands.{WordOne}
+use Rattle.phase_one.specs.PhaseOne.{BuffersOne, buffersOf}
 use Rattle.session.specs.Opening.{recipientV1}
-use Rattle.conversation.specs.Session.{Session, opened}
+use Rattle.session.specs.Session.{Session, opened}
 use Rattle.conversation.specs.Receiving.{Taking, took, declined, Received, received}
 use Rattle.judging.specs.Judging.{Judged, Standing, going, stopped, Turn, turnOf, behindCommand, behindRefusal, turnBy, turned, behind, judgedFrom, judgeName, start, judgedText}
 use Rattle.judging.specs.Said.{buffersIn}
@@ -34,7 +34,7 @@ empty-list (x ∷ l) h = absurd (omega arith)
 
 -- ---- one stanza: the code calls with the part of the window from `at` to its end
 
-module _ (last : Bool) (s after : Session) (b : Buffers) (r i k h : List ℕ) (window : List ℕ) (at : ℕ) (a : Taking) (none : length h ≡ 0)
+module _ (last : Bool) (s after : Session) (b : BuffersOne) (r i k h : List ℕ) (window : List ℕ) (at : ℕ) (a : Taking) (none : length h ≡ 0)
     (e : _≡_ {A = Received} (record { answer = a; session = after; buffers = buffersOf r i k h }) (received s (take (length window - at) (drop at window)) b)) where
   by-answer : (a′ : Taking) → a ≡ a′ → behind at (turnBy last s (record { answer = a′; session = after; buffers = buffersIn r i k })) ≡ behind at (turned last s b (drop at window))
   by-answer a′ q =
@@ -49,11 +49,11 @@ module _ (last : Bool) (s after : Session) (b : Buffers) (r i k h : List ℕ) (w
   turn-refused n d q f = ap (λ x. turnOf x (buffersIn r i k) at) f ∙ sym (behind-stays (behindRefusal last n s) (buffersIn r i k) at) ∙ by-answer (declined n) q
 
   -- behind a command
-  pub turn-command : (w : Word) (n : ℕ) (d : Standing) → a ≡ took w n → d ≡ behindCommand w after → turnOf d (buffersIn r i k) (at + n) ≡ behind at (turned last s b (drop at window))
+  pub turn-command : (w : WordOne) (n : ℕ) (d : Standing) → a ≡ took w n → d ≡ behindCommand w after → turnOf d (buffersIn r i k) (at + n) ≡ behind at (turned last s b (drop at window))
   turn-command w n d q f = ap (λ x. turnOf x (buffersIn r i k) (at + n)) f ∙ by-answer (took w n) q
 
   -- what was taken lies within the window
-  pub turn-within : (w : Word) (n : ℕ) → a ≡ took w n → at ≤ length window → at + n ≤ length window
+  pub turn-within : (w : WordOne) (n : ℕ) → a ≡ took w n → at ≤ length window → at + n ≤ length window
   turn-within w n q f =
       let l = received-takes s b (take (length window - at) (drop at window)) w n (ap (λ x. x .answer) (sym e) ∙ q) .1 in
       omega (arith, ap length (part-rest at window), length-drop at window)
@@ -61,11 +61,11 @@ module _ (last : Bool) (s after : Session) (b : Buffers) (r i k h : List ℕ) (w
 -- ---- one turn of the loop
 
 -- where judging has stopped the window's turn is over
-pub step-stopped : (last : Bool) (d : Standing) (x : Judged) (b : Buffers) (at : ℕ) (text : List ℕ) → d ≡ stopped x → behind at (judgedFrom last d b text) ≡ turnOf d b at
+pub step-stopped : (last : Bool) (d : Standing) (x : Judged) (b : BuffersOne) (at : ℕ) (text : List ℕ) → d ≡ stopped x → behind at (judgedFrom last d b text) ≡ turnOf d b at
 step-stopped last d x b at text e =
     ap (λ y. behind at (judgedFrom last y b text)) e ∙ ap (behind at) (ended (suc (length text)) last x b text) ∙ behind-stays (stopped x) b at ∙ ap (λ y. turnOf y b at) (sym e)
 
-module _ (last : Bool) (window : List ℕ) (at : ℕ) (s : Session) (b : Buffers) (fits : at ≤ length window)
+module _ (last : Bool) (window : List ℕ) (at : ℕ) (s : Session) (b : BuffersOne) (fits : at ≤ length window)
     (d : Standing) (goes : d ≡ going s) (u : Turn) (e : u ≡ behind at (turned last s b (drop at window))) where
   pub step-within : (at ≤ u .taken) × (u .taken ≤ length window)
   step-within =
@@ -93,5 +93,5 @@ module _ (last : Bool) (window : List ℕ) (at : ℕ) (s : Session) (b : Buffers
 
 -- ---- a whole text
 
-pub whole : (u : Turn) (d : Standing) (b : Buffers) (text : List ℕ) → u ≡ judgedFrom true d b text → d ≡ going start → u ≡ judgedText b text
+pub whole : (u : Turn) (d : Standing) (b : BuffersOne) (text : List ℕ) → u ≡ judgedFrom true d b text → d ≡ going start → u ≡ judgedText b text
 whole u d b text e q = e ∙ ap (λ x. judgedFrom true x b text) q

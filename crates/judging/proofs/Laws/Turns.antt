@@ -9,18 +9,18 @@ use native.Mathlib.Nat.{zero-add, add-zero, add-assoc}
 use native.Mathlib.Omega.{arith}
 use borrow.Author.Tests.{eq-eqb, ne-eqb, eqb-false}
 use Rattle.refusal.proofs.Laws.Booleans.{cases}
-use Rattle.session.specs.PhaseOne.{Buffers}
-use Rattle.session.specs.Commands.{Word}
-use Rattle.conversation.specs.Session.{Session}
+use Rattle.phase_one.specs.PhaseOne.{BuffersOne}
+use Rattle.phase_one.specs.Commands.{WordOne}
+use Rattle.session.specs.Session.{Session}
 use Rattle.conversation.specs.Receiving.{Taking, took, declined, received}
 use Rattle.judging.specs.Judging.{Judged, Standing, going, stopped, Turn, turnOf, turnBy, turned, behind, judgedWith, judgedFrom}
 use Rattle.judging.proofs.Laws.Reading.{received-takes}
 
 -- a stanza takes no more than the text
-pub turned-within : (last : Bool) (s : Session) (b : Buffers) (text : List ℕ) → turned last s b text .taken ≤ length text
+pub turned-within : (last : Bool) (s : Session) (b : BuffersOne) (text : List ℕ) → turned last s b text .taken ≤ length text
 turned-within last s b text = any (received s text b .answer) (received-takes s b text)
   where
-    any : (a : Taking) → ((w : Word) (k : ℕ) → a ≡ took w k → (0 < k) × (k ≤ length text)) →
+    any : (a : Taking) → ((w : WordOne) (k : ℕ) → a ≡ took w k → (0 < k) × (k ≤ length text)) →
         turnBy last s (record { answer = a; session = received s text b .session; buffers = received s text b .buffers }) .taken ≤ length text
     any (took w k) h = h w k refl .1
     any (declined n) h = omega arith
@@ -30,7 +30,7 @@ turned-within last s b text = any (received s text b .answer) (received-takes s 
 pub behind-zero : (t : Turn) → behind 0 t ≡ t
 behind-zero t = ap (turnOf (t .standing) (t .buffers)) (zero-add (t .taken))
 
-pub behind-stays : (d : Standing) (b : Buffers) (k : ℕ) → behind k (turnOf d b 0) ≡ turnOf d b k
+pub behind-stays : (d : Standing) (b : BuffersOne) (k : ℕ) → behind k (turnOf d b 0) ≡ turnOf d b k
 behind-stays d b k = ap (turnOf d b) (add-zero k)
 
 pub behind-behind : (j k : ℕ) (t : Turn) → behind j (behind k t) ≡ behind (j + k) t
@@ -39,13 +39,13 @@ behind-behind j k t = ap (turnOf (t .standing) (t .buffers)) (sym (add-assoc j k
 -- ---- without fuel
 
 -- numbers that stand are kept
-pub ended : (f : ℕ) (last : Bool) (x : Judged) (b : Buffers) (text : List ℕ) → judgedWith f last (stopped x) b text ≡ turnOf (stopped x) b 0
+pub ended : (f : ℕ) (last : Bool) (x : Judged) (b : BuffersOne) (text : List ℕ) → judgedWith f last (stopped x) b text ≡ turnOf (stopped x) b 0
 unfolding judgedWith
 ended zero last x b text = refl
 ended (suc f) last x b text = refl
 
 -- fuel that is more than the text's length is never used up
-more : (f g : ℕ) (last : Bool) (d : Standing) (b : Buffers) (text : List ℕ) → length text < f → length text < g → judgedWith f last d b text ≡ judgedWith g last d b text
+more : (f g : ℕ) (last : Bool) (d : Standing) (b : BuffersOne) (text : List ℕ) → length text < f → length text < g → judgedWith f last d b text ≡ judgedWith g last d b text
 unfolding judgedWith
 more zero g last d b text h i = absurd (omega arith)
 more (suc f) zero last d b text h i = absurd (omega arith)
@@ -60,7 +60,7 @@ more (suc f) (suc g) last (going s) b text h i =
     let n = eqb-false (t .taken) 0 e in
     rw e (ap (behind (t .taken)) (more f g last (t .standing) (t .buffers) (drop (t .taken) text) (omega arith) (omega arith))))
 
-module _ (last : Bool) (s : Session) (b : Buffers) (text : List ℕ) where
+module _ (last : Bool) (s : Session) (b : BuffersOne) (text : List ℕ) where
   -- a stanza that takes nothing ends it
   pub unrolled-end : turned last s b text .taken ≡ 0 → judgedFrom last (going s) b text ≡ turned last s b text
   unfolding judgedWith

@@ -11,8 +11,8 @@ use borrow.Author.Tests.{eqb-true, eqb-false, not-true}
 use Rattle.refusal.proofs.Laws.Booleans.{and-true, and-false-right, cases}
 use Rattle.stanza.specs.Reading.{refused, readFirst}
 use Rattle.stanza.proofs.Laws.Exact.{refused-2}
-use Rattle.session.specs.PhaseOne.{Buffers}
-use Rattle.conversation.specs.Session.{Session}
+use Rattle.phase_one.specs.PhaseOne.{BuffersOne}
+use Rattle.session.specs.Session.{Session}
 use Rattle.conversation.specs.Receiving.{Taking, took, declined, received}
 use Rattle.conversation.specs.Calls.{receive, takingNumber}
 use Rattle.conversation.proofs.Laws.Refusals.{refusal}
@@ -23,11 +23,11 @@ use Rattle.judging.proofs.Laws.Turns.{turned-within, behind-zero, behin
 use Rattle.conversation.specs.Kinds.{buffersOf}
 use Rattle.conversation.specs.PhaseTwo as later
 
-module _ (last : Bool) (s : Session) (b : Buffers) (w : List ℕ) where
+module _ (last : Bool) (s : Session) (b : BuffersOne) (w : List ℕ) where
   -- the first stanza of a window waits for more; or, whatever comes behind the window, it is judged alike, and stops judging or takes a byte or more
   data Looked (rest : List ℕ) : Type 0 where
     waits : last ≡ false → readFirst w ≡ refused 2 → turned last s b w ≡ turnOf (going s) b 0 → Looked rest
-    ends : (x : Judged) (b′ : Buffers) → turned last s b w ≡ turnOf (stopped x) b′ 0 → turned true s b (w ++ rest) ≡ turned last s b w → Looked rest
+    ends : (x : Judged) (b′ : BuffersOne) → turned last s b w ≡ turnOf (stopped x) b′ 0 → turned true s b (w ++ rest) ≡ turned last s b w → Looked rest
     moves : 0 < turned last s b w .taken → turned true s b (w ++ rest) ≡ turned last s b w → Looked rest
 
   -- a turn by another answer
@@ -116,7 +116,7 @@ module _ (last : Bool) (s : Session) (b : Buffers) (w : List ℕ) where
           ∙ behind-behind (turned last s b w .taken) (u .taken) (judgedFrom true (u .standing) (u .buffers) (drop (u .taken) (drop (turned last s b w .taken) w) ++ rest))
           ∙ ap (λ x. behind (turned last s b w .taken + u .taken) (judgedFrom true (u .standing) (u .buffers) (x ++ rest))) (drop-drop (u .taken) (turned last s b w .taken) w)
 
-cut-with : (f : ℕ) (last : Bool) (d : Standing) (b : Buffers) (w : List ℕ) → length w < f → Cut last d b w (judgedWith f last d b w)
+cut-with : (f : ℕ) (last : Bool) (d : Standing) (b : BuffersOne) (w : List ℕ) → length w < f → Cut last d b w (judgedWith f last d b w)
 unfolding judgedWith
 cut-with zero last d b w h = absurd (omega arith)
 cut-with (suc f) last (stopped x) b w h = record {
@@ -135,16 +135,16 @@ cut-with (suc f) last (going s) b w h =
     (λ e. let n = eqb-false (t .taken) 0 e in rw e (cut-on last s b w n _ (cut-with f last (t .standing) (t .buffers) (drop (t .taken) w) (omega arith))))
 
 -- what judging a window promises
-pub judged-cut : (last : Bool) (d : Standing) (b : Buffers) (window : List ℕ) → Cut last d b window (judgedFrom last d b window)
+pub judged-cut : (last : Bool) (d : Standing) (b : BuffersOne) (window : List ℕ) → Cut last d b window (judgedFrom last d b window)
 judged-cut last d b window = cut-with (suc (length window)) last d b window (omega arith)
 
 -- a whole text makes it stop: the going case of `numbersOf` never shows
-pub stops : (b : Buffers) (text : List ℕ) (s : Session) → judgedText b text .standing ≡ going s → ⊥
+pub stops : (b : BuffersOne) (text : List ℕ) (s : Session) → judgedText b text .standing ≡ going s → ⊥
 stops b text s e = false≢true (sym (judged-cut true (going start) b text .left s e .0))
 
 -- ---- any cuts: the chunks of an input one after the other, each behind what the one before left
 
-unfoldable pub fed : Standing → Buffers → List ℕ → List (List ℕ) → Turn
+unfoldable pub fed : Standing → BuffersOne → List ℕ → List (List ℕ) → Turn
 fed d b left [] = judgedFrom true d b left
 fed d b left (c ∷ cs) = let t = judgedFrom false d b (left ++ c) in behind (t .taken) (fed (t .standing) (t .buffers) (drop (t .taken) (left ++ c)) cs)
 
@@ -152,7 +152,7 @@ unfoldable pub joined : List (List ℕ) → List ℕ
 joined [] = []
 joined (c ∷ cs) = c ++ joined cs
 
-pub fed-judged : (cs : List (List ℕ)) (d : Standing) (b : Buffers) (left : List ℕ) → fed d b left cs ≡ judgedFrom true d b (left ++ joined cs)
+pub fed-judged : (cs : List (List ℕ)) (d : Standing) (b : BuffersOne) (left : List ℕ) → fed d b left cs ≡ judgedFrom true d b (left ++ joined cs)
 unfolding fed joined
 fed-judged [] d b left = ap (judgedFrom true d b) (sym (append-nil left))
 fed-judged (c ∷ cs) d b left =

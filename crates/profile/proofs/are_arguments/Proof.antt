@@ -1,3 +1,4 @@
+-- By the count of the words: with the tag they are three or four, and in both cases the first two decide before a third.
 use mathlib.Core.Path.{sym, ap, _∙_}
 use mathlib.Core.Bool.{_&&_}
 use denote.Ref.{now}
@@ -10,48 +11,33 @@ use Rattle.profile.proofs.Laws.Profile.{two, three, other}
 use borrow.Author.Needs.{needs}
 use Rattle.profile.proofs.are_arguments.Statement.{statement}
 use Rattle.profile.proofs.are_arguments.Tie as tie
-use Rattle.profile.proofs.are_arguments.Reads as reads
-use Rattle.profile.proofs.are_arguments.Lts as lts
-use Rattle.profile.proofs.are_two.Reads as are-two-reads
-use Rattle.profile.proofs.is_some.Reads as is-some-reads
-use Rattle.stanza.proofs.argument.Reads as argument-reads
-use Rattle.stanza.proofs.count.Reads as count-reads
 
--- src/lib.rt:53:9
 count-requires : tie.Need-count-requires
 count-requires c κs = search needs
 
--- src/lib.rt:55:9
 are-two-requires : tie.Need-are-two-requires
 are-two-requires c κs = search needs
 
--- src/lib.rt:55:9
 returns : tie.Need-returns
 returns c = c .are-two .ensures ∙ sym (two (words (now (c .before .before .before .before .args .line))) (sym (c .before .before .count .ensures) ∙ c .before .if1 .taken))
 
--- src/lib.rt:58:9
 returns-2 : tie.Need-returns-2
 returns-2 c = sym (other (words (now (c .before .before .before .before .args .line))) (λ e. c .before .if1 .left (c .before .before .count .ensures ∙ e)) (λ e. c .if2 .taken (c .before .before .count .ensures ∙ e)))
 
--- src/lib.rt:60:9
 are-two-requires-2 : tie.Need-are-two-requires-2
 are-two-requires-2 c κs = search needs
 
--- src/lib.rt:61:9
 returns-3 : tie.Need-returns-3
 returns-3 c =
     let ws = words (now (c .before .before .before .before .before .before .args .line)) in
     sym (three ws (sym (c .before .before .before .before .count .ensures) ∙ c .before .before .if2 .left) ∙ ap (λ b. b && isSome (getD ws 3 [])) (sym (c .before .are-two2 .ensures) ∙ not-true (c .before .are-two2 .result) (c .if3 .taken)))
 
--- src/lib.rt:63:9
 argument-requires : tie.Need-argument-requires
 argument-requires c κs = search needs
 
--- src/lib.rt:64:5
 is-some-requires : tie.Need-is-some-requires
 is-some-requires c κs = search needs
 
--- src/lib.rt:50:1
 returns-4 : tie.Need-returns-4
 returns-4 c =
     let ws = words (now (c .before .before .before .before .before .before .before .before .args .line)) in

@@ -1,34 +1,25 @@
+-- The tests in the definition's order: tag, arguments, body.
 use mathlib.Core.Path.{sym, _∙_}
 use borrow.Author.Tests.{not-true, not-false, eq-eqb, ne-eqb}
 use borrow.Author.Needs.{needs}
 use Rattle.profile.proofs.check.Statement.{statement}
 use Rattle.profile.proofs.check.Tie as tie
-use Rattle.profile.proofs.check.Reads as reads
-use Rattle.profile.proofs.check.Lts as lts
-use Rattle.profile.proofs.are_arguments.Reads as are-arguments-reads
-use Rattle.profile.proofs.is_known.Reads as is-known-reads
 
--- src/lib.rt:82:9
 is-known-requires : tie.Need-is-known-requires
 is-known-requires c κs = search needs
 
--- src/lib.rt:83:9
 returns : tie.Need-returns
 returns c = rw (sym (c .before .is-known .ensures) ∙ not-true (c .before .is-known .result) (c .if1 .taken))
 
--- src/lib.rt:85:9
 are-arguments-requires : tie.Need-are-arguments-requires
 are-arguments-requires c κs = search needs
 
--- src/lib.rt:86:9
 returns-2 : tie.Need-returns-2
 returns-2 c = rw (sym (c .before .before .before .is-known .ensures) ∙ not-false (c .before .before .before .is-known .result) (c .before .before .if1 .left), sym (c .before .are-arguments .ensures) ∙ not-true (c .before .are-arguments .result) (c .if2 .taken))
 
--- src/lib.rt:89:9
 returns-3 : tie.Need-returns-3
 returns-3 c = rw (sym (c .before .before .before .before .is-known .ensures) ∙ not-false (c .before .before .before .before .is-known .result) (c .before .before .before .if1 .left), sym (c .before .before .are-arguments .ensures) ∙ not-false (c .before .before .are-arguments .result) (c .before .if2 .left), eq-eqb (c .before .before .before .before .before .before .before .args .body) 32 (c .if3 .taken))
 
--- src/lib.rt:79:1
 returns-4 : tie.Need-returns-4
 returns-4 c = rw (sym (c .before .before .before .before .is-known .ensures) ∙ not-false (c .before .before .before .before .is-known .result) (c .before .before .before .if1 .left), sym (c .before .before .are-arguments .ensures) ∙ not-false (c .before .before .are-arguments .result) (c .before .if2 .left), ne-eqb (c .before .before .before .before .before .before .before .args .body) 32 (c .if3 .left))
 

@@ -1,3 +1,4 @@
+-- A text is base64 exactly if measuring it gives a size, which is compared.
 use mathlib.Core.Path.{sym, ap, _∙_}
 use denote.Ref.{now}
 use Rattle.base64.specs.Code.{sizeSaid}
@@ -5,29 +6,21 @@ use Rattle.profile.proofs.Laws.Profile.{measured-is, measured-not}
 use borrow.Author.Needs.{needs}
 use Rattle.profile.proofs.is_bytes.Statement.{statement}
 use Rattle.profile.proofs.is_bytes.Tie as tie
-use Rattle.profile.proofs.is_bytes.Reads as reads
-use Rattle.profile.proofs.is_bytes.Lts as lts
-use Rattle.base64.proofs.measure.Reads as measure-reads
 
--- src/lib.rt:19:9
 measure-requires : tie.Need-measure-requires
 measure-requires c κs = search needs
 
--- src/lib.rt:21:21
 enum-known-size : tie.Need-enum-known-size
 enum-known-size c = search needs
 
--- src/lib.rt:22:28
 enum-told : tie.Need-enum-told
 enum-told c = search needs
 
--- src/lib.rt:16:1
 returns : tie.Need-returns
 returns c =
     let q = measured-is (now (c .before .before .before .before .before .args .text)) _ (sym (c .before .before .before .measure .ensures) ∙ ap sizeSaid (c .before .size .given .1)) in
     rw (q .0, q .1)
 
--- src/lib.rt:16:1
 returns-2 : tie.Need-returns-2
 returns-2 c = rw (measured-not (now (c .before .before .before .before .args .text)) (sym (c .before .before .measure .ensures) ∙ ap sizeSaid (c .enum-told .given .1)))
 

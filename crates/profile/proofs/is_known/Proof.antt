@@ -1,39 +1,28 @@
+-- The plugin's name decides first, then the tag.
 use mathlib.Core.Path.{sym, _∙_}
 use borrow.Author.Tests.{not-true, not-false}
 use borrow.Author.Needs.{needs}
 use Rattle.profile.proofs.is_known.Statement.{statement}
 use Rattle.profile.proofs.is_known.Tie as tie
-use Rattle.profile.proofs.is_known.Reads as reads
-use Rattle.profile.proofs.is_known.Lts as lts
-use Rattle.bech32.proofs.is_lowered.Reads as is-lowered-reads
-use Rattle.stanza.proofs.argument.Reads as argument-reads
-use Rattle.stanza.proofs.is_same.Reads as is-same-reads
 
--- src/lib.rt:71:36
 slice-aggregate-is-lowered : tie.Need-slice-aggregate-is-lowered
 slice-aggregate-is-lowered c = search needs
 
--- src/lib.rt:71:9
 is-lowered-requires : tie.Need-is-lowered-requires
 is-lowered-requires c κs = search needs
 
--- src/lib.rt:72:9
 returns : tie.Need-returns
 returns c = rw (sym (c .before .is-lowered .ensures) ∙ not-true (c .before .is-lowered .result) (c .if1 .taken))
 
--- src/lib.rt:74:9
 argument-requires : tie.Need-argument-requires
 argument-requires c κs = search needs
 
--- src/lib.rt:75:26
 slice-aggregate-is-same : tie.Need-slice-aggregate-is-same
 slice-aggregate-is-same c = search needs
 
--- src/lib.rt:75:5
 is-same-requires : tie.Need-is-same-requires
 is-same-requires c κs = search needs
 
--- src/lib.rt:68:1
 returns-2 : tie.Need-returns-2
 returns-2 c = rw (sym (c .before .before .before .before .is-lowered .ensures) ∙ not-false (c .before .before .before .before .is-lowered .result) (c .before .before .before .if1 .left), ← c .before .before .argument .ensures) (c .is-same .ensures)
 

@@ -1,5 +1,5 @@
 -- A rule that holds at every number below a bound, by one test that antt computes.
-use mathlib.Core.Path.{_≡_, _∙_, refl, subst, sym, ap}
+use mathlib.Core.Path.{_≡_, _∙_, subst, sym, ap}
 use mathlib.Core.Bool.{Bool, true, false, _&&_}
 use mathlib.Core.Logic.{⊎-elim}
 use mathlib.Core.List.{List, [], _∷_}

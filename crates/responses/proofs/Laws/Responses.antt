@@ -14,8 +14,8 @@ use Rattle.stanza.specs.Arguments.{isGraphic, isArgument, areArguments, words a
 use Rattle.stanza.specs.Writing.{isWritable}
 use Rattle.responses.specs.declared.Response.{Response}
 use Rattle.responses.specs.declared.Response.the-variants.{Ok, Yes, No, Fail, Unsupported}
-use Rattle.responses.specs.declared.WordTwo.{WordTwo}
-use Rattle.responses.specs.declared.WordTwo.the-variants.{Msg, Confirm, RequestPublic, RequestSecret, RecipientStanza, FileKey, Error, Other, Done}
+use Rattle.session.specs.declared.words.WordTwo.{WordTwo}
+use Rattle.session.specs.declared.words.WordTwo.the-variants.{Msg, Confirm, RequestPublic, RequestSecret, RecipientStanza, FileKey, Error, Other, Done}
 use Rattle.responses.specs.Responses.{rowOf, columnOf, fitting, okWord, yesLine, noLine, failWord, unsupportedWord, responseLine, ResponseRead, response, nothing, responseOf}
 
 -- ---- the table

@@ -1,30 +1,22 @@
+-- The tests in the definition's order: whether the response fits, whether the body is empty, whether there may be one.
 use mathlib.Core.Path.{sym, _∙_}
 use borrow.Author.Tests.{eq-eqb, ne-eqb, not-true, not-false}
 use borrow.Author.Needs.{needs}
 use Rattle.responses.proofs.fits_whole.Statement.{statement}
 use Rattle.responses.proofs.fits_whole.Tie as tie
-use Rattle.responses.proofs.fits_whole.Reads as reads
-use Rattle.responses.proofs.fits_whole.Lts as lts
-use Rattle.responses.proofs.fits.Reads as fits-reads
-use Rattle.responses.proofs.may_have_body.Reads as may-have-body-reads
 
--- src/lib.rt:132:9
 fits-requires : tie.Need-fits-requires
 fits-requires c κs = search needs
 
--- src/lib.rt:133:9
 returns : tie.Need-returns
 returns c = rw (sym (c .before .fits2 .ensures) ∙ not-true _ (c .if1 .taken))
 
--- src/lib.rt:136:9
 returns-2 : tie.Need-returns-2
 returns-2 c = rw (sym (c .before .before .fits2 .ensures) ∙ not-false _ (c .before .if1 .left), eq-eqb _ 0 (c .if2 .taken))
 
--- src/lib.rt:138:5
 may-have-body-requires : tie.Need-may-have-body-requires
 may-have-body-requires c κs = search needs
 
--- src/lib.rt:129:1
 returns-3 : tie.Need-returns-3
 returns-3 c = rw (sym (c .before .before .before .fits2 .ensures) ∙ not-false _ (c .before .before .if1 .left), ne-eqb _ 0 (c .before .if2 .left)) (c .may-have-body .ensures)
 

@@ -1,26 +1,19 @@
+-- The command decides first; then the column, which is 0 for ok alone.
 use mathlib.Core.Path.{sym, _∙_}
-use borrow.Author.Tests.{eq-eqb, ne-eqb, not-true, not-false}
+use borrow.Author.Tests.{not-true, not-false}
 use borrow.Author.Needs.{needs}
 use Rattle.responses.proofs.may_have_body.Statement.{statement}
 use Rattle.responses.proofs.may_have_body.Tie as tie
-use Rattle.responses.proofs.may_have_body.Reads as reads
-use Rattle.responses.proofs.may_have_body.Lts as lts
-use Rattle.responses.proofs.column.Reads as column-reads
-use Rattle.responses.proofs.is_request.Reads as is-request-reads
 
--- src/lib.rt:122:9
 is-request-requires : tie.Need-is-request-requires
 is-request-requires c κs = search needs
 
--- src/lib.rt:123:9
 returns : tie.Need-returns
 returns c = rw (sym (c .before .is-request .ensures) ∙ not-true _ (c .if1 .taken))
 
--- src/lib.rt:125:5
 column-requires : tie.Need-column-requires
 column-requires c κs = search needs
 
--- src/lib.rt:119:1
 returns-2 : tie.Need-returns-2
 returns-2 c = rw (sym (c .before .before .is-request .ensures) ∙ not-false _ (c .before .if1 .left), c .column .ensures .0)
 

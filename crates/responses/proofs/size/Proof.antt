@@ -1,87 +1,65 @@
+-- By the response: each has its arguments' text.
 use borrow.Author.Needs.{needs}
 use Rattle.responses.proofs.size.Statement.{statement}
 use Rattle.responses.proofs.size.Tie as tie
-use Rattle.responses.proofs.size.Reads as reads
-use Rattle.responses.proofs.size.Lts as lts
-use Rattle.stanza.proofs.size.Reads as size-reads
 
--- src/lib.rt:168:38
 enum-told : tie.Need-enum-told
 enum-told c = search needs
 
--- src/lib.rt:168:38
 slice-aggregate-size : tie.Need-slice-aggregate-size
 slice-aggregate-size c = search needs
 
--- src/lib.rt:168:25
 size-requires : tie.Need-size-requires
 size-requires c κs = search needs
 
--- src/lib.rt:169:39
 enum-told-2 : tie.Need-enum-told-2
 enum-told-2 c = search needs
 
--- src/lib.rt:169:39
 slice-aggregate-size-2 : tie.Need-slice-aggregate-size-2
 slice-aggregate-size-2 c = search needs
 
--- src/lib.rt:169:26
 size-requires-2 : tie.Need-size-requires-2
 size-requires-2 c κs = search needs
 
--- src/lib.rt:170:38
 enum-told-3 : tie.Need-enum-told-3
 enum-told-3 c = search needs
 
--- src/lib.rt:170:38
 slice-aggregate-size-3 : tie.Need-slice-aggregate-size-3
 slice-aggregate-size-3 c = search needs
 
--- src/lib.rt:170:25
 size-requires-3 : tie.Need-size-requires-3
 size-requires-3 c κs = search needs
 
--- src/lib.rt:171:40
 enum-told-4 : tie.Need-enum-told-4
 enum-told-4 c = search needs
 
--- src/lib.rt:171:40
 slice-aggregate-size-4 : tie.Need-slice-aggregate-size-4
 slice-aggregate-size-4 c = search needs
 
--- src/lib.rt:171:27
 size-requires-4 : tie.Need-size-requires-4
 size-requires-4 c κs = search needs
 
--- src/lib.rt:172:47
 enum-told-5 : tie.Need-enum-told-5
 enum-told-5 c = search needs
 
--- src/lib.rt:172:47
 slice-aggregate-size-5 : tie.Need-slice-aggregate-size-5
 slice-aggregate-size-5 c = search needs
 
--- src/lib.rt:172:34
 size-requires-5 : tie.Need-size-requires-5
 size-requires-5 c κs = search needs
 
--- src/lib.rt:164:1
 returns : tie.Need-returns
 returns c = rw (c .before .before .enum-told .given .1) (c .size .ensures)
 
--- src/lib.rt:164:1
 returns-2 : tie.Need-returns-2
 returns-2 c = rw (c .before .before .enum-told2 .given .1) (c .size2 .ensures)
 
--- src/lib.rt:164:1
 returns-3 : tie.Need-returns-3
 returns-3 c = rw (c .before .before .enum-told3 .given .1) (c .size3 .ensures)
 
--- src/lib.rt:164:1
 returns-4 : tie.Need-returns-4
 returns-4 c = rw (c .before .before .enum-told4 .given .1) (c .size4 .ensures)
 
--- src/lib.rt:164:1
 returns-5 : tie.Need-returns-5
 returns-5 c = rw (c .before .before .enum-told5 .given .1) (c .size5 .ensures)
 

@@ -1,3 +1,4 @@
+-- By the response: each has its arguments' text.
 use mathlib.Core.Path.{sym, ap, _∙_}
 use denote.Ref.{now}
 use Rattle.stanza.specs.Writing.{written, bufferAfter}
@@ -5,75 +6,55 @@ use Rattle.responses.specs.Responses.{responseLine}
 use borrow.Author.Needs.{needs}
 use Rattle.responses.proofs.write.Statement.{statement}
 use Rattle.responses.proofs.write.Tie as tie
-use Rattle.responses.proofs.write.Reads as reads
-use Rattle.responses.proofs.write.Lts as lts
-use Rattle.stanza.proofs.write.Reads as write-reads
 
--- src/lib.rt:182:39
 enum-told : tie.Need-enum-told
 enum-told c = search needs
 
--- src/lib.rt:182:39
 slice-aggregate-write : tie.Need-slice-aggregate-write
 slice-aggregate-write c = search needs
 
--- src/lib.rt:182:25
 write-requires : tie.Need-write-requires
 write-requires c κs = search needs
 
--- src/lib.rt:183:40
 enum-told-2 : tie.Need-enum-told-2
 enum-told-2 c = search needs
 
--- src/lib.rt:183:40
 slice-aggregate-write-2 : tie.Need-slice-aggregate-write-2
 slice-aggregate-write-2 c = search needs
 
--- src/lib.rt:183:26
 write-requires-2 : tie.Need-write-requires-2
 write-requires-2 c κs = search needs
 
--- src/lib.rt:184:39
 enum-told-3 : tie.Need-enum-told-3
 enum-told-3 c = search needs
 
--- src/lib.rt:184:39
 slice-aggregate-write-3 : tie.Need-slice-aggregate-write-3
 slice-aggregate-write-3 c = search needs
 
--- src/lib.rt:184:25
 write-requires-3 : tie.Need-write-requires-3
 write-requires-3 c κs = search needs
 
--- src/lib.rt:185:41
 enum-told-4 : tie.Need-enum-told-4
 enum-told-4 c = search needs
 
--- src/lib.rt:185:41
 slice-aggregate-write-4 : tie.Need-slice-aggregate-write-4
 slice-aggregate-write-4 c = search needs
 
--- src/lib.rt:185:27
 write-requires-4 : tie.Need-write-requires-4
 write-requires-4 c κs = search needs
 
--- src/lib.rt:186:48
 enum-told-5 : tie.Need-enum-told-5
 enum-told-5 c = search needs
 
--- src/lib.rt:186:48
 slice-aggregate-write-5 : tie.Need-slice-aggregate-write-5
 slice-aggregate-write-5 c = search needs
 
--- src/lib.rt:186:34
 write-requires-5 : tie.Need-write-requires-5
 write-requires-5 c κs = search needs
 
--- src/lib.rt:177:1
 same-length : tie.Need-same-length
 same-length c = search needs
 
--- src/lib.rt:177:1
 returns : tie.Need-returns
 returns c =
     let b = now (c .before .before .before .before .before .before .before .before .before .args .body) in
@@ -82,11 +63,9 @@ returns c =
     let w = c .before .before .write .ensures in
     (w .0 ∙ ap (λ r. written (responseLine r) b o) e, w .1 ∙ ap (λ r. bufferAfter (responseLine r) b o) e)
 
--- src/lib.rt:177:1
 same-length-2 : tie.Need-same-length-2
 same-length-2 c = search needs
 
--- src/lib.rt:177:1
 returns-2 : tie.Need-returns-2
 returns-2 c =
     let b = now (c .before .before .before .before .before .before .before .before .before .args .body) in
@@ -95,11 +74,9 @@ returns-2 c =
     let w = c .before .before .write2 .ensures in
     (w .0 ∙ ap (λ r. written (responseLine r) b o) e, w .1 ∙ ap (λ r. bufferAfter (responseLine r) b o) e)
 
--- src/lib.rt:177:1
 same-length-3 : tie.Need-same-length-3
 same-length-3 c = search needs
 
--- src/lib.rt:177:1
 returns-3 : tie.Need-returns-3
 returns-3 c =
     let b = now (c .before .before .before .before .before .before .before .before .before .args .body) in
@@ -108,11 +85,9 @@ returns-3 c =
     let w = c .before .before .write3 .ensures in
     (w .0 ∙ ap (λ r. written (responseLine r) b o) e, w .1 ∙ ap (λ r. bufferAfter (responseLine r) b o) e)
 
--- src/lib.rt:177:1
 same-length-4 : tie.Need-same-length-4
 same-length-4 c = search needs
 
--- src/lib.rt:177:1
 returns-4 : tie.Need-returns-4
 returns-4 c =
     let b = now (c .before .before .before .before .before .before .before .before .before .args .body) in
@@ -121,11 +96,9 @@ returns-4 c =
     let w = c .before .before .write4 .ensures in
     (w .0 ∙ ap (λ r. written (responseLine r) b o) e, w .1 ∙ ap (λ r. bufferAfter (responseLine r) b o) e)
 
--- src/lib.rt:177:1
 same-length-5 : tie.Need-same-length-5
 same-length-5 c = search needs
 
--- src/lib.rt:177:1
 returns-5 : tie.Need-returns-5
 returns-5 c =
     let b = now (c .before .before .before .before .before .before .before .before .before .args .body) in

@@ -13,10 +13,10 @@ use Rattle.refusal.proofs.Laws.Booleans.{and-false-right}
 use Rattle.refusal.proofs.Laws.Lists.{drop-one}
 use Rattle.stanza.specs.Index.{isDigit, valueFrom, decimal}
 use Rattle.stanza.proofs.Laws.Index.{value-above, decimal-digits, decimal-some}
-use Rattle.script.specs.Number.{Reading, value, bad, isNumber, readNumber}
+use Rattle.script.specs.Number.{ReadNumber, value, bad, isNumber, readNumber}
 
 -- the rest of a number, where v has been read
-unfoldable pub restNumber : ℕ → ℕ → List ℕ → Reading
+unfoldable pub restNumber : ℕ → ℕ → List ℕ → ReadNumber
 restNumber limit v t = pick (all isDigit t && leb (valueFrom v t) limit) (value (valueFrom v t)) bad
 
 some-digits : (t : List ℕ) → 0 < length t → isNumber t ≡ all isDigit t

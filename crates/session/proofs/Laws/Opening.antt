@@ -1,7 +1,7 @@
 -- Openings: a plugin's name by value, by the tests of the code.
 use Prim.Native.Nat.{ℕ, _≤_}
-use mathlib.Core.Path.{_≡_, refl, sym, ap, _∙_}
-use mathlib.Core.Bool.{true, false, _&&_}
+use mathlib.Core.Path.{_≡_, ap, _∙_}
+use mathlib.Core.Bool.{true, _&&_}
 use mathlib.Core.List.{List, []}
 use lib.Dec.{leb}
 use lib.ListN.{length, take, replicate}
@@ -14,9 +14,9 @@ use Rattle.refusal.specs.Run.{all}
 use Rattle.refusal.proofs.Laws.Booleans.{cases, and-true}
 use Rattle.bech32.specs.Calls.{padded, givenName}
 use Rattle.bech32.specs.Text.{isName, isNameByte}
-use Rattle.session.specs.Opening.{Settings, settingsNamed, refusedSettings}
-use Rattle.session.specs.declared.commands.Machine.{Machine}
-use Rattle.session.specs.declared.commands.Machine.the-variants.{RecipientV1}
+use Rattle.session.specs.Opening.{settingsNamed, refusedSettings}
+use Rattle.session.specs.declared.opening.Machine.{Machine}
+use Rattle.session.specs.declared.opening.Machine.the-variants.{RecipientV1}
 
 name-some : (t : List ℕ) → isName t ≡ true → 1 ≤ length t
 unfolding isName

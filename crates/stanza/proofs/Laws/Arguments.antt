@@ -1,18 +1,16 @@
 -- Words of a text: what the code's loops pass over, and that splitting a text and joining its words undo each other.
 use Prim.Native.Nat.{ℕ, zero, suc, _+_, _-_, _<_, _≤_}
 use mathlib.Core.Path.{_≡_, refl, sym, ap, _∙_}
-use mathlib.Core.Bool.{Bool, true, false, _&&_, false≢true}
+use mathlib.Core.Bool.{Bool, true, false, _&&_}
 use mathlib.Core.List.{List, [], _∷_, _++_}
 use lib.Dec.{eqb, ltb, eqb·zero-suc, eqb·suc-zero, eqb·suc-suc, leb·suc-suc}
-use lib.ListN.{length, take, drop, getD, length-drop, drop-of-length-le}
+use lib.ListN.{length, take, drop, getD, length-drop}
 use lib.Seq.{drop-drop, getD-drop}
 use native.Mathlib.Omega.{arith}
 use borrow.Author.Tests.{lt-ltb, le-ltb, eq-eqb, ne-eqb, leb-true, eqb-true, not-true}
 use Rattle.refusal.specs.Pick.{pick}
 use Rattle.refusal.specs.Run.{all, run}
 use Rattle.refusal.proofs.Laws.Booleans.{cases, and-true, and-assoc}
-use Rattle.refusal.proofs.Laws.Lists.{drop-one}
-use Rattle.refusal.proofs.Laws.Run.{run-le}
 use Rattle.stanza.specs.Arguments.{isGraphic, isWordByte, before, words, isArgument, areArguments, isLine, countOf, argumentOf}
 
 -- ---- runs
@@ -29,29 +27,9 @@ words-split (b ∷ t) =
     cases (eqb b 32) (λ e. rw (e, lt-ltb 0 (suc (length t)) (omega arith)))
     (λ e. rw (e, words-split t, leb·suc-suc (suc (run isWordByte t)) (length t)))
 
--- one byte on: a space ends a word, and another byte does not
-pub count-space : (t : List ℕ) (i : ℕ) → i < length t → getD t i 0 ≡ 32 → countOf (drop i t) ≡ countOf (drop (i + 1) t) + 1
-unfolding words
-count-space t i h e = rw (drop-one t i 0 h, eq-eqb (getD t i 0) 32 e) (omega arith)
-
-pub count-none : (t : List ℕ) (i : ℕ) → length t ≤ i → countOf (drop i t) ≡ 1
-unfolding words
-count-none t i h = rw (drop-of-length-le t h)
-
-before-length : (b : ℕ) (ws : List (List ℕ)) → 0 < length ws → length (before b ws) ≡ length ws
-unfolding before
-before-length b [] h = absurd (omega arith)
-before-length b (w ∷ ws) h = refl
-
 -- there is at least one word
 pub words-some : (t : List ℕ) → 0 < countOf t
 words-some t = rw (words-split t) (omega arith)
-
-pub count-other : (t : List ℕ) (i : ℕ) → i < length t → (getD t i 0 ≡ 32 → ⊥) → countOf (drop i t) ≡ countOf (drop (i + 1) t)
-unfolding words
-count-other t i h e =
-    rw (drop-one t i 0 h, ne-eqb (getD t i 0) 32 e)
-    (before-length (getD t i 0) (words (drop (i + 1) t)) (words-some (drop (i + 1) t)))
 
 -- the word that begins at i and ends at j: it is the word of number 0 there, and behind it the others are numbered from 1
 module _ (t : List ℕ) (i j : ℕ) (e : j ≡ i + run isWordByte (drop i t)) where
@@ -71,6 +49,16 @@ module _ (t : List ℕ) (i j : ℕ) (e : j ≡ i + run isWordByte (drop i t)) wh
       let d : i + suc (run isWordByte (drop i t)) ≡ j + 1 = omega arith in
       let m : suc k - 1 ≡ k = omega arith in
       rw (words-split (drop i t), lt-ltb (run isWordByte (drop i t)) (length (drop i t)) (omega (arith, length-drop i t)), drop-drop (suc (run isWordByte (drop i t))) i t, d, m)
+
+  -- it is the last word, or one before the others
+  pub count-last : length t ≤ j → countOf (drop i t) ≡ 1
+  count-last g =
+      rw (words-split (drop i t), le-ltb (run isWordByte (drop i t)) (length (drop i t)) (omega (arith, length-drop i t)))
+
+  pub count-next : j < length t → countOf (drop i t) ≡ countOf (drop (j + 1) t) + 1
+  count-next g =
+      let d : i + suc (run isWordByte (drop i t)) ≡ j + 1 = omega arith in
+      rw (words-split (drop i t), lt-ltb (run isWordByte (drop i t)) (length (drop i t)) (omega (arith, length-drop i t)), drop-drop (suc (run isWordByte (drop i t))) i t, d) (omega arith)
 
 -- ---- lines
 

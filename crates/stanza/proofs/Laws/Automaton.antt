@@ -1,25 +1,24 @@
 -- The automaton, run over a text: what several bytes of one class do to it.
 use Prim.Native.Nat.{ℕ, zero, suc, _+_, _-_, _<_, _≤_}
 use mathlib.Core.Path.{_≡_, refl, sym, ap, _∙_}
-use mathlib.Core.Bool.{Bool, true, false, _&&_, not, false≢true}
-use mathlib.Core.List.{List, [], _∷_, _++_}
+use mathlib.Core.Bool.{true, false, _&&_, false≢true}
+use mathlib.Core.List.{List, [], _∷_}
 use lib.Dec.{ltb, leb, eqb}
 use lib.ListN.{length, take, drop, getD, length-drop, drop-of-length-le}
 use lib.Seq.{drop-drop, getD-drop, getD-take, length-take-le}
-use native.Mathlib.Numerals.{add-one}
 use native.Mathlib.Nat.{add-zero}
 use native.Mathlib.Omega.{arith}
-use borrow.Author.Tests.{lt-ltb, le-ltb, eq-eqb, ne-eqb, leb-true, ltb-true, eqb-true}
+use borrow.Author.Tests.{lt-ltb, ne-eqb, leb-true, ltb-true, eqb-true}
 use Rattle.refusal.specs.Pick.{pick}
 use Rattle.refusal.specs.Run.{all, run}
-use Rattle.refusal.proofs.Laws.Booleans.{and-true, true-and, cases}
+use Rattle.refusal.proofs.Laws.Booleans.{and-true, cases}
 use Rattle.refusal.proofs.Laws.Lists.{drop-one}
-use Rattle.refusal.proofs.Laws.Run.{run-stop, run-first, run-in-class, run-take, run-le, run-more, run-in, all-wider}
+use Rattle.refusal.proofs.Laws.Run.{run-stop, run-in-class, run-take, run-le, run-more, run-in, all-wider}
 use Rattle.base64.specs.Alphabet.{isCharacter, valueOf}
 use Rattle.base64.specs.Code.{endsWell}
 use Rattle.base64.specs.Lines.{isFull}
 use Rattle.stanza.specs.Arguments.{isGraphic}
-use Rattle.stanza.specs.Automaton.{State, start, hyphen, arrow, gap, word, line, ended, dead, next, after, Scan, bad, short, whole, verdict, scan}
+use Rattle.stanza.specs.Automaton.{State, start, hyphen, arrow, gap, word, line, ended, dead, next, bad, short, whole, verdict, scan}
 use Rattle.stanza.specs.Reading.{isNotLf, lineEnd}
 
 -- one byte on, and the text's end

@@ -1,21 +1,19 @@
 -- Reading gives exactly the number that document 01 says: each answer, and when it is given, in terms of stanzas alone.
 use Prim.Native.Nat.{ℕ, zero, suc, _+_, _-_, _<_, _≤_, min}
 use mathlib.Core.Path.{_≡_, refl, sym, ap, _∙_, subst}
-use mathlib.Core.Bool.{Bool, true, false}
 use mathlib.Core.Logic.{_↔_}
-use mathlib.Core.List.{List, [], _∷_, _++_, append-nil}
+use mathlib.Core.List.{List, [], _∷_, _++_}
 use lib.Dec.{ltb}
-use lib.ListN.{length, take, drop, length-take}
+use lib.ListN.{length, take, length-take}
 use lib.Seq.{take-take, take-all}
-use native.Mathlib.Numerals.{add-one}
 use native.Mathlib.Omega.{arith}
 use borrow.Author.Tests.{lt-ltb, le-ltb, ltb-true, ltb-false}
 use Rattle.refusal.specs.Pick.{pick}
 use Rattle.refusal.proofs.Laws.Booleans.{cases}
 use Rattle.stanza.specs.Automaton.{State, start, hyphen, arrow, gap, word, line, ended, dead, next, after, Scan, bad, short, whole, verdict, scan}
 use Rattle.stanza.specs.Grammar.{IsStanza}
-use Rattle.stanza.specs.Reading.{Reading, stanza, refused, found, readFirst}
-use Rattle.stanza.proofs.Laws.Grammar.{dead-or, after-append, after-dead, after-dead-not, after-ended, completion, completes, Fits, after-fits, ended-iff, dead-iff}
+use Rattle.stanza.specs.Reading.{stanza, refused, found, readFirst}
+use Rattle.stanza.proofs.Laws.Grammar.{dead-or, after-append, after-dead, after-dead-not, completion, completes, Fits, after-fits, ended-iff, dead-iff}
 
 -- ---- where a scan stops
 

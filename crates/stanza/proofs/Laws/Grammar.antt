@@ -1,16 +1,16 @@
 -- The automaton is right: it has ended behind exactly the stanzas, and it is dead behind exactly the texts with which no stanza, of any length,
 -- begins. So 1 is given at exactly the first byte that no stanza can have there.
-use Prim.Native.Nat.{ℕ, zero, suc, _+_, _-_, _%_, _<_, _≤_}
+use Prim.Native.Nat.{ℕ, suc, _+_, _-_, _%_, _<_, _≤_}
 use mathlib.Core.Path.{_≡_, refl, sym, ap, _∙_, subst}
-use mathlib.Core.Bool.{Bool, true, false, _&&_, not, true≢false, false≢true}
+use mathlib.Core.Bool.{Bool, true, false, false≢true}
 use mathlib.Core.Logic.{_↔_}
-use mathlib.Core.List.{List, [], _∷_, _++_, append-assoc, append-nil}
-use lib.Dec.{ltb, leb, eqb}
-use lib.ListN.{length, take, drop, getD, length-append}
+use mathlib.Core.List.{List, [], _∷_, _++_, append-assoc}
+use lib.Dec.{ltb, eqb}
+use lib.ListN.{length}
 use lib.Pow.{areBytes}
 use native.Mathlib.Nat.{add-zero}
 use native.Mathlib.Omega.{arith}
-use borrow.Author.Tests.{lt-ltb, le-ltb, eq-eqb, ne-eqb, leb-true, ltb-true, eqb-true, eqb-false}
+use borrow.Author.Tests.{lt-ltb, eq-eqb, ne-eqb, ltb-true, eqb-true, eqb-false}
 use Rattle.refusal.specs.Pick.{pick}
 use Rattle.refusal.specs.Run.{all}
 use Rattle.refusal.proofs.Laws.Booleans.{and-true, true-and, cases}
@@ -18,7 +18,7 @@ use Rattle.base64.specs.Alphabet.{isCharacter, valueOf}
 use Rattle.base64.specs.Code.{encoded, decoded, endsWell, isBase64, last}
 use Rattle.base64.specs.Lines.{wrapped, linesOf}
 use Rattle.base64.proofs.Laws.RoundTrip.{decoded-bytes, encoded-decoded, encoded-is}
-use Rattle.stanza.specs.Arguments.{isGraphic, before, words, isArgument, areArguments, isLine}
+use Rattle.stanza.specs.Arguments.{isGraphic, isLine}
 use Rattle.stanza.specs.Automaton.{State, start, hyphen, arrow, gap, word, line, ended, dead, next, after}
 use Rattle.stanza.specs.Grammar.{firstLine, stanzaText, IsStanza}
 use Rattle.stanza.proofs.Laws.Arguments.{goesOn, graphic-no-space, space-not-graphic, line-cons, line-nil, goes-nil, goes-space, goes-cons}

@@ -1,22 +1,20 @@
 -- Reading: what the window and the body's size come to.
-use Prim.Native.Nat.{ℕ, zero, suc, _+_, _-_, _<_, _≤_, min}
-use mathlib.Core.Path.{_≡_, refl, sym, ap, _∙_}
+use Prim.Native.Nat.{ℕ, _+_, _-_, _<_, _≤_, min}
+use mathlib.Core.Path.{_≡_, refl, sym, _∙_}
 use mathlib.Core.Bool.{Bool, true, false}
-use mathlib.Core.List.{List, [], _∷_}
+use mathlib.Core.List.{List}
 use lib.Dec.{ltb}
-use lib.ListN.{length, take, drop, length-take, length-drop}
+use lib.ListN.{length, take, drop, length-drop}
 use lib.Seq.{length-take-le, take-all}
 use native.Mathlib.Omega.{arith}
 use native.Mathlib.Decide.{decLe, decLt}
 use borrow.Author.Tests.{lt-ltb, le-ltb}
 use Rattle.refusal.specs.Pick.{pick}
-use Rattle.refusal.specs.Run.{run}
 use Rattle.refusal.proofs.Laws.Run.{run-front}
-use Rattle.base64.specs.Lines.{bodyOf}
 use Rattle.base64.specs.Tables.{bodySize}
 use Rattle.base64.proofs.Laws.Lines.{body-length}
 use Rattle.stanza.specs.Automaton.{Scan, bad, short, whole}
-use Rattle.stanza.specs.Reading.{Reading, stanza, refused, found, isNotLf, lineEnd, linesIn}
+use Rattle.stanza.specs.Reading.{stanza, refused, found, isNotLf, lineEnd}
 
 -- the window is the first 8,192 bytes
 pub window-is : (t : List ℕ) (n : ℕ) → n ≡ min 8192 (length t) → take 8192 t ≡ take n t

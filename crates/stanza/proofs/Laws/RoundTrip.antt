@@ -1,15 +1,14 @@
 -- What is written reads back, with the same arguments and body and the same length; what was read is what would be written again, byte for byte.
-use Prim.Native.Nat.{ℕ, zero, suc, _+_, _-_, _<_, _≤_, min}
-use mathlib.Core.Path.{_≡_, refl, sym, ap, ap₂, _∙_, subst}
-use mathlib.Core.Bool.{Bool, true, false, _&&_, not, false≢true}
+use Prim.Native.Nat.{ℕ, suc, _+_, _-_, _<_, _≤_}
+use mathlib.Core.Path.{_≡_, refl, sym, ap, ap₂, _∙_}
+use mathlib.Core.Bool.{true, false, false≢true}
 use mathlib.Core.List.{List, [], _∷_, _++_, append-assoc, append-nil}
 use lib.Dec.{leb, eqb}
-use lib.ListN.{length, take, drop, length-append, length-take}
+use lib.ListN.{length, take, drop, length-append}
 use lib.Pow.{areBytes}
-use lib.Seq.{take-take, take-append-seam, drop-at, take-at, length-take-le}
+use lib.Seq.{take-take, take-append-seam, drop-at, length-take-le}
 use native.Mathlib.Omega.{arith}
-use borrow.Author.Tests.{le-leb, leb-true, ne-eqb, eqb-true}
-use Rattle.refusal.specs.Pick.{pick}
+use borrow.Author.Tests.{le-leb, leb-true, eqb-true}
 use Rattle.refusal.specs.Run.{all, run}
 use Rattle.refusal.proofs.Laws.Run.{run-back, run-stop-append}
 use Rattle.refusal.proofs.Laws.Booleans.{and-true, true-and, cases}
@@ -17,13 +16,13 @@ use Rattle.base64.specs.Lines.{linesOf, bodyOf}
 use Rattle.base64.proofs.Laws.RoundTrip.{body-lines}
 use Rattle.base64.proofs.Laws.Lines.{lines-length}
 use Rattle.stanza.specs.Arguments.{isGraphic, isLine}
-use Rattle.stanza.specs.Automaton.{scan, start, whole}
-use Rattle.stanza.specs.Grammar.{firstLine, stanzaText, IsStanza}
-use Rattle.stanza.specs.Reading.{Reading, stanza, refused, found, readFirst, isNotLf, lineEnd, linesIn}
+use Rattle.stanza.specs.Automaton.{whole}
+use Rattle.stanza.specs.Grammar.{firstLine, stanzaText}
+use Rattle.stanza.specs.Reading.{stanza, found, readFirst, isNotLf, lineEnd, linesIn}
 use Rattle.stanza.specs.Writing.{isWritable}
 use Rattle.stanza.proofs.Laws.Arguments.{goesOn, line-cons, line-nil, goes-space, goes-cons}
 use Rattle.stanza.proofs.Laws.Automaton.{graphic-not-lf}
-use Rattle.stanza.proofs.Laws.Exact.{Taken, scan-taken, taken-iff, found-whole}
+use Rattle.stanza.proofs.Laws.Exact.{Taken, scan-taken, taken-iff}
 use Rattle.stanza.proofs.Laws.Writing.{text-length}
 
 -- ---- where the parts of a stanza's text are

@@ -1,15 +1,18 @@
 -- Laws of the alphabet and of case.
-use Prim.Native.Nat.{ℕ, _+_, _-_, _<_, _≤_}
+use Prim.Native.Nat.{ℕ, _+_, _-_, _%_, _<_, _≤_}
 use mathlib.Core.Path.{_≡_, sym, ap, _∙_}
 use mathlib.Core.Bool.{true, false}
-use mathlib.Core.List.{List, [], _∷_}
+use mathlib.Core.List.{List, [], _∷_, map}
 use lib.Dec.{eqb, leb, eqb→eq}
-use lib.ListN.{length, getD}
+use lib.ListN.{length, take, drop, getD}
 use native.Mathlib.Omega.{arith}
 use borrow.Author.Tests.{eqb-true, leb-true, le-leb, lt-leb}
 use Rattle.refusal.proofs.Laws.Below.{below}
 use Rattle.refusal.proofs.Laws.Booleans.{and-true, true-and, cases}
 use Rattle.symbols.specs.Charset.{charset, placeOf, valueOf, characterOf, isUpper, isLower, lower, upper}
+use Rattle.symbols.specs.Calls.{valueAt, symbolAt}
+use Rattle.symbols.specs.Steps.{Values, valueIn, symbolIn}
+use Rattle.symbols.proofs.Laws.Maps.{map-part}
 
 -- what stands at its own place
 place-at : (b : ℕ) (xs : List ℕ) → placeOf b xs < length xs → getD xs (placeOf b xs) 0 ≡ b
@@ -80,3 +83,12 @@ upper-not-lower b =
     cases (isLower b)
     (λ e. let w = lower-bounds b e in ap isLower (raised b e) ∙ lower-is-not (b - 32) (omega arith))
     (λ e. ap isLower (upper-plain b e) ∙ e)
+
+-- ---- by the table of the values, a part of a text has its values and its symbols
+
+module _ (t : List ℕ) (v : Values t) where
+  pub values-by : (n m : ℕ) (l : List ℕ) → ((i : ℕ) → getD l i 0 < 256) → map (valueIn t) (take n (drop m l)) ≡ map valueAt (take n (drop m l))
+  values-by = map-part (valueIn t) valueAt v
+
+  pub symbols-by : (n m : ℕ) (l : List ℕ) → ((i : ℕ) → getD l i 0 < 256) → map (symbolIn t) (take n (drop m l)) ≡ map symbolAt (take n (drop m l))
+  symbols-by = map-part (symbolIn t) symbolAt (λ b h. ap (λ x. x % 32) (v b h))

@@ -1,6 +1,6 @@
 -- Lists mapped: parts, elements, one map after another.
 use Prim.Native.Nat.{ℕ, zero, suc, _+_, _<_}
-use mathlib.Core.Path.{_≡_, refl, ap}
+use mathlib.Core.Path.{_≡_, refl, sym, ap, ap₂, _∙_}
 use mathlib.Core.List.{List, [], _∷_, map}
 use lib.ListN.{length, take, drop, getD}
 use native.Mathlib.Omega.{arith}
@@ -35,3 +35,13 @@ module _ (f : ℕ → ℕ) where
   pub map-map : (g : ℕ → ℕ) (l : List ℕ) → map f (map g l) ≡ map (λ b. f (g b)) l
   map-map g [] = refl
   map-map g (b ∷ l) = ap (λ t. f (g b) ∷ t) (map-map g l)
+
+-- two functions that agree on bytes, of a part of a list of bytes
+module _ (f g : ℕ → ℕ) (agree : (b : ℕ) → b < 256 → f b ≡ g b) where
+  map-bytes : (l : List ℕ) → ((i : ℕ) → getD l i 0 < 256) → map f l ≡ map g l
+  map-bytes [] h = refl
+  map-bytes (b ∷ l) h = ap₂ (λ x t. x ∷ t) (agree b (h 0)) (map-bytes l (λ i. h (suc i)))
+
+  pub map-part : (n m : ℕ) (l : List ℕ) → ((i : ℕ) → getD l i 0 < 256) → map f (take n (drop m l)) ≡ map g (take n (drop m l))
+  map-part n m l h =
+      sym (map-take f n (drop m l)) ∙ ap (take n) (sym (map-drop f m l) ∙ ap (drop m) (map-bytes l h) ∙ map-drop g m l) ∙ map-take g n (drop m l)

@@ -1,33 +1,35 @@
--- A part laid into a buffer.
-use Prim.Native.Nat.{ℕ, _+_, _-_, _<_, _≤_}
+-- A payload put into a buffer behind those that are there.
+use Prim.Native.Nat.{ℕ, _+_, _-_, _≤_}
 use mathlib.Core.Path.{_≡_, sym, ap, _∙_}
-use mathlib.Core.List.{List, _++_, append-assoc}
-use lib.Dec.{leb}
-use lib.ListN.{length, take, drop}
+use mathlib.Core.List.{List, _∷_, _++_, append-assoc}
+use lib.Dec.{eqb}
+use lib.ListN.{length, take, drop, length-append}
 use lib.Seq.{drop-drop}
-use borrow.Author.Tests.{le-leb, lt-leb, lt-ltb, le-ltb}
-use Rattle.refusal.specs.Pick.{pick}
+use native.Mathlib.Omega.{arith}
 use Rattle.refusal.proofs.Laws.Lists.{part-rest, put-rest}
-use Rattle.tables.specs.Tables.{Table, kept}
-use Rattle.tables.specs.Steps.{pasted, laid}
+use Rattle.base64.specs.Tables.{bodySize}
+use Rattle.refusal.specs.Pick.{pick}
+use Rattle.tables.specs.Tables.{Table, storing, placed, kept}
+use Rattle.tables.proofs.Laws.Tables.{storing-fits}
 
--- where it does not fit
-pub laid-not : (part buffer : List ℕ) (at : ℕ) → length buffer < at + length part → buffer ≡ laid part at buffer
-laid-not part buffer at h = rw (lt-leb (at + length part) (length buffer) h)
+-- lines have no fewer bytes than their body
+pub body-less : (n : ℕ) → bodySize n ≤ n
+body-less n = omega arith
 
--- where it fits: the part part′ from `at` on comes back with it at its front
-pub laid-is : (part buffer part′ : List ℕ) (at n : ℕ) → at + n ≤ length buffer → length part ≡ n → part′ ≡ part ++ drop n (take (length buffer - at) (drop at buffer)) →
-    take at buffer ++ (part′ ++ drop (length buffer - at) (drop at buffer)) ≡ laid part at buffer
-laid-is part buffer part′ at n h q e =
-    let f : leb (at + length part) (length buffer) ≡ leb (at + n) (length buffer) = ap (λ k. leb (at + k) (length buffer)) q in
-    put-rest at buffer part′
-    ∙ ap (λ x. take at buffer ++ x) (e ∙ ap (λ d. part ++ drop n d) (part-rest at buffer) ∙ ap (λ d. part ++ d) (drop-drop n at buffer) ∙ ap (λ k. part ++ drop (at + k) buffer) (sym q))
-    ∙ sym (append-assoc (take at buffer) part (drop (at + length part) buffer))
-    ∙ sym (ap (λ b. pick b (pasted part at buffer) buffer) (f ∙ le-leb (at + n) (length buffer) h))
+-- the part behind the payloads comes back with the payload at its front
+pub placed-is : (t : Table) (p b part : List ℕ) →
+    part ≡ p ++ drop (length p) (take (length b - t .used) (drop (t .used) b)) →
+    take (t .used) b ++ (part ++ drop (length b - t .used) (drop (t .used) b)) ≡ placed t p b
+placed-is t p b part e =
+    put-rest (t .used) b part
+    ∙ ap (λ x. take (t .used) b ++ x) (e ∙ ap (λ d. p ++ drop (length p) d) (part-rest (t .used) b) ∙ ap (λ d. p ++ d) (drop-drop (length p) (t .used) b))
+    ∙ sym (append-assoc (take (t .used) b) p (drop (t .used + length p) b))
 
--- a payload behind those that are there, where a slot is free, and where none is
-pub kept-laid : (t : Table) (payload buffer : List ℕ) → t .count < t .width → laid payload (t .used) buffer ≡ kept t payload buffer
-kept-laid t payload buffer h = rw (lt-ltb (t .count) (t .width) h)
+-- what is kept where nothing is refused
+pub kept-placed : (t : Table) (p b : List ℕ) (late : ℕ) → storing t (length p) (length b) late ≡ 0 → placed t p b ≡ pick (eqb (storing t (length p) (length b) late) 0) (kept t p b) b
+kept-placed t p b late z =
+    ap (λ f. pick f (placed t p b) b) (sym (storing-fits t (length p) (length b) late z)) ∙ ap (λ n. pick (eqb n 0) (kept t p b) b) (sym z)
 
-pub kept-full : (t : Table) (payload buffer : List ℕ) → t .width ≤ t .count → buffer ≡ kept t payload buffer
-kept-full t payload buffer h = rw (le-ltb (t .count) (t .width) h)
+-- a line, an LF and a body
+pub lines-length : (f s : List ℕ) → length f + 1 + length s ≡ length (f ++ 10 ∷ s)
+lines-length f s = sym (length-append f (10 ∷ s) ∙ omega arith)

@@ -9,7 +9,7 @@ use native.Mathlib.Decide.{decLt}
 use native.Mathlib.Omega.{arith}
 use borrow.Author.Tests.{lt-ltb, le-ltb, le-leb, lt-leb}
 use Rattle.tables.specs.Tables.{Table, empty, rowOf, view, found, partOf, shown}
-use Rattle.tables.specs.declared.tables.Entry.{Entry}
+use Rattle.tables.specs.declared.slots.Entry.{Entry}
 use Rattle.tables.specs.declared.tables.Found.the-variants as the
 use Rattle.tables.proofs.Laws.Tables.{AllSome, Kept, Filled}
 

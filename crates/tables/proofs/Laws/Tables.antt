@@ -8,30 +8,46 @@ use lib.ListN.{length, take, drop, set, replicate, length-drop, length-set, leng
 use lib.Seq.{length-take-le, take-append-le, drop-append-le, take-suc-set, drop-at, take-take, drop-drop, drop-set-lt, take-append-seam}
 use native.Mathlib.Nat.{sub-zero}
 use native.Mathlib.Omega.{arith}
-use borrow.Author.Tests.{ltb-true, leb-true, lt-ltb, le-ltb, le-leb, lt-leb}
+use borrow.Author.Tests.{ltb-true, leb-true, leb-false, lt-ltb, le-ltb, le-leb, lt-leb}
 use Rattle.refusal.specs.Pick.{pick}
 use Rattle.refusal.proofs.Laws.Booleans.{and-true, and-false-right, cases}
 use Rattle.refusal.proofs.Laws.Lists.{drop-take}
-use Rattle.tables.specs.Tables.{Table, empty, opened, fits, appended, entered, rowOf, view, placed, kept}
-use Rattle.tables.specs.declared.tables.Entry.{Entry}
+use Rattle.tables.specs.Tables.{Table, empty, opened, fits, storing, appended, entered, rowOf, view, placed, kept}
+use Rattle.tables.specs.declared.slots.Entry.{Entry}
 
--- ---- what entering does, by the tests of the code
+-- ---- whether a command fits, by the tests of the code
 
-module _ (t : Table) (n index mark capacity : ℕ) where
-  pub enter-full : t .width ≤ t .count → t ≡ entered t n index mark capacity
-  enter-full h = rw (le-ltb (t .count) (t .width) h)
+module _ (count width used n capacity : ℕ) where
+  pub no-slot : width ≤ count → false ≡ (ltb count width && leb (used + n) capacity)
+  no-slot h = rw (le-ltb count width h)
 
-  pub enter-short : capacity < t .used + n → t ≡ entered t n index mark capacity
-  enter-short h =
-      let e : fits t n capacity ≡ false = ap (λ b. ltb (t .count) (t .width) && b) (lt-leb (t .used + n) capacity h) ∙ and-false-right (ltb (t .count) (t .width)) in
-      rw e
+  pub no-capacity : capacity < used + n → false ≡ (ltb count width && leb (used + n) capacity)
+  no-capacity h = sym (ap (λ b. ltb count width && b) (lt-leb (used + n) capacity h) ∙ and-false-right (ltb count width))
 
-  pub enters : t .count < t .width → t .used + n ≤ capacity → appended t n index mark ≡ entered t n index mark capacity
-  enters h g = rw (lt-ltb (t .count) (t .width) h, le-leb (t .used + n) capacity g)
+  pub space-is : count < width → used ≤ capacity → leb n (capacity - used) ≡ (ltb count width && leb (used + n) capacity)
+  space-is h g =
+      rw (lt-ltb count width h)
+      (cases (leb n (capacity - used))
+      (λ e. let l = leb-true n (capacity - used) e in e ∙ sym (le-leb (used + n) capacity (omega arith)))
+      (λ e. let l = leb-false n (capacity - used) e in e ∙ sym (lt-leb (used + n) capacity (omega arith))))
 
--- the same length, said otherwise
-pub enter-as : (x t : Table) (k n index mark capacity : ℕ) → k ≡ n → x ≡ entered t k index mark capacity → x ≡ entered t n index mark capacity
-enter-as x t k n index mark capacity q e = e ∙ ap (λ j. entered t j index mark capacity) q
+-- ---- what storing comes to
+
+module _ (t : Table) (n capacity late : ℕ) where
+  -- 8 first
+  pub storing-full : fits t n capacity ≡ false → 8 ≡ storing t n capacity late
+  storing-full f = rw f
+
+  pub storing-late : fits t n capacity ≡ true → late ≡ storing t n capacity late
+  storing-late f = rw f
+
+  -- nothing is refused only if it fits
+  pub storing-fits : storing t n capacity late ≡ 0 → fits t n capacity ≡ true
+  storing-fits z = cases (fits t n capacity) (λ f. f) (λ f. absurd (let e = storing-full f in omega (arith, e, z)))
+
+  -- and then the payload lies within the buffer
+  pub storing-within : storing t n capacity late ≡ 0 → t .used + n ≤ capacity
+  storing-within z = leb-true (t .used + n) capacity (and-true (ltb (t .count) (t .width)) (leb (t .used + n) capacity) (storing-fits z) .1)
 
 -- ---- tables that an opening and calls can reach: entries one behind the other, the rest of the slots as opened
 

@@ -1,11 +1,9 @@
+-- The table is the definition tabulated at the 64 values.
 use Rattle.refusal.proofs.Laws.Below.{tabulated-at}
 use Rattle.base64.specs.Alphabet.{characterOf}
 use Rattle.base64.proofs.alphabet.alphabet_characters.Statement.{statement}
 use Rattle.base64.proofs.alphabet.alphabet_characters.Tie as tie
-use Rattle.base64.proofs.alphabet.alphabet_characters.Reads as reads
-use Rattle.base64.proofs.alphabet.alphabet_characters.Lts as lts
 
--- src/alphabet.rt:40:1
 returns : tie.Need-returns
 unfolding characterOf
 returns c = tabulated-at characterOf 64

@@ -1,21 +1,16 @@
-use Prim.Native.Nat.{ℕ, _+_, _-_, _<_, _≤_, max}
-use mathlib.Core.Path.{_≡_, refl, ap, sym, _∙_}
-use mathlib.Core.Bool.{Bool, _&&_}
-use mathlib.Core.List.{List}
-use lib.ListN.{length, take, drop, getD, length-drop}
+-- Invariant of both loops: the run of characters ends at the same place, seen from `from` and from i.
+use Prim.Native.Nat.{_+_, _-_, _≤_, max}
+use mathlib.Core.Path.{_≡_, refl, sym, _∙_}
+use lib.ListN.{drop}
 use native.Mathlib.Omega.{arith}
 use borrow.Author.Needs.{needs}
 use borrow.Author.Tests.{not-true, not-false}
 use denote.Ref.{now}
 use Rattle.base64.specs.Alphabet.{isCharacter}
-use Rattle.refusal.specs.Run.{all, run}
+use Rattle.refusal.specs.Run.{run}
 use Rattle.refusal.proofs.Laws.Run.{run-in, run-out, run-more, run-end}
 use Rattle.base64.proofs.alphabet.characters.Statement.{statement}
 use Rattle.base64.proofs.alphabet.characters.Tie as tie
-use Rattle.base64.proofs.alphabet.characters.Reads as reads
-use Rattle.base64.proofs.alphabet.characters.Lts as lts
-use Rattle.base64.proofs.alphabet.eight.Reads as eight-reads
-use Rattle.base64.proofs.alphabet.is_character.Reads as is-character-reads
 
 abbrev Inv-loop : tie.InvT-loop
 Inv-loop text from n i₀ i = (from ≤ i) × (i ≤ max from n) × (from + run isCharacter (drop from text) ≡ i + run isCharacter (drop i text))
@@ -29,60 +24,46 @@ Inv-loop2 text from n i₀ i = (from ≤ i) × (i ≤ max from n) × (from + run
 abbrev μ-loop2 : tie.MeasureT-loop2
 μ-loop2 text from n i₀ i = n - i
 
--- src/alphabet.rt:76:5
 loop-holds : tie.Need-loop-holds Inv-loop μ-loop Inv-loop2 μ-loop2
 loop-holds c = (search needs, search needs, refl)
 
--- src/alphabet.rt:77:12
 sub-if1 : tie.Need-sub-if1 Inv-loop μ-loop Inv-loop2 μ-loop2
 sub-if1 c = search needs
 
--- src/alphabet.rt:80:13
 eight-requires : tie.Need-eight-requires Inv-loop μ-loop Inv-loop2 μ-loop2
 eight-requires c κs = search needs
 
--- src/alphabet.rt:83:9
 add-i : tie.Need-add-i Inv-loop μ-loop Inv-loop2 μ-loop2
 add-i c = search needs
 
--- src/alphabet.rt:76:5
 loop-less : tie.Need-loop-less Inv-loop μ-loop Inv-loop2 μ-loop2
 loop-less c = search needs
 
--- src/alphabet.rt:76:5
 loop-again : tie.Need-loop-again Inv-loop μ-loop Inv-loop2 μ-loop2
 loop-again c = (search needs, search needs, c .before .before .before .before .loop .inv .2 ∙ run-more isCharacter 8 (now (c .before .before .before .before .before .before .args .text)) (c .before .before .before .before .loop .i) (omega arith) (sym (c .before .eight .ensures) ∙ not-false _ (c .if2 .left)))
 
--- src/alphabet.rt:85:5
 loop2-holds : tie.Need-loop2-holds Inv-loop μ-loop Inv-loop2 μ-loop2
 loop2-holds c = c .before .loop .inv
 
--- src/alphabet.rt:86:26
 shared-slice-read-is-character :
     tie.Need-shared-slice-read-is-character Inv-loop μ-loop Inv-loop2 μ-loop2
 shared-slice-read-is-character c = search needs
 
--- src/alphabet.rt:86:13
 is-character-requires : tie.Need-is-character-requires Inv-loop μ-loop Inv-loop2 μ-loop2
 is-character-requires c κs = search needs
 
--- src/alphabet.rt:87:13
 returns : tie.Need-returns Inv-loop μ-loop Inv-loop2 μ-loop2
 returns c = sym (c .before .before .before .before .loop2 .inv .2 ∙ run-out isCharacter (now (c .before .before .before .before .before .before .before .before .args .text)) (c .before .before .before .before .loop2 .i) (c .before .before .before .loop2-test .taken) (sym (c .before .is-character .ensures) ∙ not-true _ (c .if3 .taken)))
 
--- src/alphabet.rt:89:9
 add-i-2 : tie.Need-add-i-2 Inv-loop μ-loop Inv-loop2 μ-loop2
 add-i-2 c = search needs
 
--- src/alphabet.rt:85:5
 loop2-less : tie.Need-loop2-less Inv-loop μ-loop Inv-loop2 μ-loop2
 loop2-less c = search needs
 
--- src/alphabet.rt:85:5
 loop2-again : tie.Need-loop2-again Inv-loop μ-loop Inv-loop2 μ-loop2
 loop2-again c = (search needs, search needs, c .before .before .before .before .loop2 .inv .2 ∙ run-in isCharacter (now (c .before .before .before .before .before .before .before .before .args .text)) (c .before .before .before .before .loop2 .i) (c .before .before .before .loop2-test .taken) (sym (c .before .is-character .ensures) ∙ not-false _ (c .if3 .left)))
 
--- src/alphabet.rt:71:1
 returns-2 : tie.Need-returns-2 Inv-loop μ-loop Inv-loop2 μ-loop2
 returns-2 c = sym (c .before .loop2 .inv .2 ∙ run-end isCharacter (now (c .before .before .before .before .before .args .text)) (c .before .loop2 .i) (c .loop2-test .left))
 

@@ -1,6 +1,7 @@
+-- Invariant: `good` says whether the first j bytes from `at` on are all characters.
 use Prim.Native.Nat.{_-_, _≤_}
 use mathlib.Core.Path.{_≡_, refl, _∙_}
-use lib.ListN.{length, take, drop}
+use lib.ListN.{take, drop}
 use native.Mathlib.Omega.{arith}
 use borrow.Author.Needs.{needs}
 use denote.Ref.{now}
@@ -9,9 +10,6 @@ use Rattle.refusal.specs.Run.{all}
 use Rattle.refusal.proofs.Laws.Run.{all-more}
 use Rattle.base64.proofs.alphabet.eight.Statement.{statement}
 use Rattle.base64.proofs.alphabet.eight.Tie as tie
-use Rattle.base64.proofs.alphabet.eight.Reads as reads
-use Rattle.base64.proofs.alphabet.eight.Lts as lts
-use Rattle.base64.proofs.alphabet.is_character.Reads as is-character-reads
 
 abbrev Inv-loop : tie.InvT-loop
 Inv-loop text at good₀ j₀ good j = (j ≤ 8) × (good ≡ all isCharacter (take j (drop at text)))
@@ -19,36 +17,28 @@ Inv-loop text at good₀ j₀ good j = (j ≤ 8) × (good ≡ all isCharacter (t
 abbrev μ-loop : tie.MeasureT-loop
 μ-loop text at good₀ j₀ good j = 8 - j
 
--- src/alphabet.rt:63:5
 loop-holds : tie.Need-loop-holds Inv-loop μ-loop
 unfolding all
 loop-holds c = (search needs, refl)
 
--- src/alphabet.rt:64:41
 add-is-character : tie.Need-add-is-character Inv-loop μ-loop
 add-is-character c = search needs
 
--- src/alphabet.rt:64:36
 shared-slice-read-is-character : tie.Need-shared-slice-read-is-character Inv-loop μ-loop
 shared-slice-read-is-character c = search needs
 
--- src/alphabet.rt:64:23
 is-character-requires : tie.Need-is-character-requires Inv-loop μ-loop
 is-character-requires c κs = search needs
 
--- src/alphabet.rt:65:9
 add-j : tie.Need-add-j Inv-loop μ-loop
 add-j c = search needs
 
--- src/alphabet.rt:63:5
 loop-less : tie.Need-loop-less Inv-loop μ-loop
 loop-less c = search needs
 
--- src/alphabet.rt:63:5
 loop-again : tie.Need-loop-again Inv-loop μ-loop
 loop-again c = (search needs, all-more isCharacter (now (c .before .before .before .before .before .args .text)) (c .before .before .before .before .before .args .at) (c .before .before .before .loop .j) (omega arith) (c .before .before .before .loop .inv .1) (c .is-character .ensures))
 
--- src/alphabet.rt:57:1
 returns : tie.Need-returns Inv-loop μ-loop
 returns c =
     let e : c .before .loop .j ≡ 8 = omega arith in

@@ -1,32 +1,25 @@
+-- By what n leaves modulo 4, in the definition's order; the last character's value is what `value` ensures.
 use Rattle.base64.specs.Code.{endsWell}
 use borrow.Author.Tests.{eq-eqb, ne-eqb}
 use borrow.Author.Needs.{needs}
 use Rattle.base64.proofs.alphabet.ends_well.Statement.{statement}
 use Rattle.base64.proofs.alphabet.ends_well.Tie as tie
-use Rattle.base64.proofs.alphabet.ends_well.Reads as reads
-use Rattle.base64.proofs.alphabet.ends_well.Lts as lts
-use Rattle.base64.proofs.alphabet.value.Reads as value-reads
 
--- src/alphabet.rt:100:9
 returns : tie.Need-returns
 unfolding endsWell
 returns c = simp (eq-eqb _ _ (c .if1 .taken))
 
--- src/alphabet.rt:102:9
 value-requires : tie.Need-value-requires
 value-requires c κs = search needs
 
--- src/alphabet.rt:104:9
 returns-2 : tie.Need-returns-2
 unfolding endsWell
 returns-2 c = simp (ne-eqb _ _ (c .before .before .if1 .left), eq-eqb _ _ (c .if2 .taken), c .before .value .ensures)
 
--- src/alphabet.rt:107:9
 returns-3 : tie.Need-returns-3
 unfolding endsWell
 returns-3 c = simp (ne-eqb _ _ (c .before .before .before .if1 .left), ne-eqb _ _ (c .before .if2 .left), eq-eqb _ _ (c .if3 .taken), c .before .before .value .ensures)
 
--- src/alphabet.rt:95:1
 returns-4 : tie.Need-returns-4
 unfolding endsWell
 returns-4 c = simp (ne-eqb _ _ (c .before .before .before .if1 .left), ne-eqb _ _ (c .before .if2 .left), ne-eqb _ _ (c .if3 .left))

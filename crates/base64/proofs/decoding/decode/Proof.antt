@@ -1,3 +1,4 @@
+-- By what was measured: no base64, 15 where the buffer is shorter than that, else what `decode_into` ensures.
 use mathlib.Core.Path.{refl, sym, ap, _∙_}
 use native.Mathlib.Omega.{arith}
 use borrow.Author.Tests.{lt-ltb, le-ltb}
@@ -7,49 +8,35 @@ use Rattle.base64.proofs.Laws.Code.{decoded-length, measured-size, meas
 use borrow.Author.Needs.{needs}
 use Rattle.base64.proofs.decoding.decode.Statement.{statement}
 use Rattle.base64.proofs.decoding.decode.Tie as tie
-use Rattle.base64.proofs.decoding.decode.Reads as reads
-use Rattle.base64.proofs.decoding.decode.Lts as lts
-use Rattle.base64.proofs.alphabet.values.Reads as values-reads
-use Rattle.base64.proofs.decoding.decode_into.Reads as decode-into-reads
-use Rattle.base64.proofs.decoding.measure.Reads as measure-reads
 
--- src/decoding.rt:49:9
 measure-requires : tie.Need-measure-requires
 measure-requires c κs = search needs
 
--- src/decoding.rt:51:28
 enum-told : tie.Need-enum-told
 enum-told c = search needs
 
--- src/decoding.rt:52:21
 enum-known-m : tie.Need-enum-known-m
 enum-known-m c = search needs
 
--- src/decoding.rt:54:17
 returns : tie.Need-returns
 returns c =
     let s = (measured-size (now (c .before .before .before .before .before .before .before .args .text)) (c .before .before .m .given .0 .0) (ap sizeSaid (sym (c .before .before .m .given .1)) ∙ c .before .before .before .before .measure .ensures)) in
     rw (s .0, lt-ltb _ _ (rw (s .1) at (c .if1 .taken))) (refl, refl)
 
--- src/decoding.rt:56:25
 values-requires : tie.Need-values-requires
 values-requires c κs = search needs
 
--- src/decoding.rt:57:13
 decode-into-requires : tie.Need-decode-into-requires
 decode-into-requires c κs =
     let s = (measured-size (now (c .before .before .before .before .before .before .before .before .before .before .args .text)) (c .before .before .before .before .before .m .given .0 .0) (ap sizeSaid (sym (c .before .before .before .before .before .m .given .1)) ∙ c .before .before .before .before .before .before .before .measure .ensures)) in
     (c .before .before .values .ensures, omega (arith, s .1, decoded-length (now (c .before .before .before .before .before .before .before .before .before .before .args .text))))
 
--- src/decoding.rt:45:1
 returns-2 : tie.Need-returns-2
 returns-2 c = rw (measured-none (now (c .before .before .before .before .before .args .text)) (ap sizeSaid (sym (c .enum-told .given .1)) ∙ c .before .before .measure .ensures)) (refl, refl)
 
--- src/decoding.rt:45:1
 same-length : tie.Need-same-length
 same-length c = search needs
 
--- src/decoding.rt:45:1
 returns-3 : tie.Need-returns-3
 returns-3 c =
     let s = (measured-size (now (c .before .before .before .before .before .before .before .before .before .before .before .before .before .args .text)) (c .before .before .before .before .before .before .before .before .m .given .0 .0) (ap sizeSaid (sym (c .before .before .before .before .before .before .before .before .m .given .1)) ∙ c .before .before .before .before .before .before .before .before .before .before .measure .ensures)) in

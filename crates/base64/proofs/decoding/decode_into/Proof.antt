@@ -1,21 +1,18 @@
+-- Invariant: the first i groups' bytes stand at the front of `out`, 3 of each, and behind them `out` is as it was.
 use borrow.Rule.Slice.PartMut.{same-len-mid}
 use Rattle.base64.specs.Alphabet.{valueOf}
-use Prim.Native.Nat.{ℕ, _+_, _-_, _*_, _/_, _%_, _<_, _≤_}
-use mathlib.Core.Path.{_≡_, refl, sym, ap, _∙_}
+use Prim.Native.Nat.{ℕ, _+_, _-_, _*_, _/_, _%_, _≤_}
+use mathlib.Core.Path.{_≡_, refl, _∙_}
 use mathlib.Core.List.{List, [], _∷_, _++_}
-use lib.ListN.{length, take, drop, getD, set, length-set, length-drop, length-append}
+use lib.ListN.{length, take, drop, getD, set, length-set, length-drop}
 use native.Mathlib.Omega.{arith}
 use denote.Ref.{now}
 use Rattle.base64.specs.Code.{decoded}
-use Rattle.base64.proofs.Laws.Code.{decoded-end, decoded-length, decoded-append, decoded-turn, decoded-groups}
-use Rattle.refusal.proofs.Laws.Lists.{part-rest, store-three, overwrite, overwrite-part}
+use Rattle.base64.proofs.Laws.Code.{decoded-end, decoded-turn, decoded-groups}
+use Rattle.refusal.proofs.Laws.Lists.{part-rest, store-three, overwrite}
 use borrow.Author.Needs.{needs}
 use Rattle.base64.proofs.decoding.decode_into.Statement.{statement}
 use Rattle.base64.proofs.decoding.decode_into.Tie as tie
-use Rattle.base64.proofs.decoding.decode_into.Reads as reads
-use Rattle.base64.proofs.decoding.decode_into.Lts as lts
-use Rattle.base64.proofs.decoding.decode_rest.Reads as decode-rest-reads
-use Rattle.base64.proofs.decoding.look_up.Reads as look-up-reads
 
 -- a turn: one group more
 turn : (t o o₀ : List ℕ) (i a b c d : ℕ) → 4 * i + 4 ≤ length t → 3 * i + 3 ≤ length o → o ≡ decoded (take (4 * i) t) ++ drop (3 * i) o₀ →
@@ -34,136 +31,103 @@ Inv-loop table text out₀ n i₀ out i =
 abbrev μ-loop : tie.MeasureT-loop
 μ-loop table text out₀ n i₀ out i = n - i
 
--- src/decoding.rt:85:5
 loop-holds : tie.Need-loop-holds Inv-loop μ-loop
 unfolding decoded
 loop-holds c = (search needs, refl, refl)
 
--- src/decoding.rt:86:37
 mul-look-up : tie.Need-mul-look-up Inv-loop μ-loop
 mul-look-up c = search needs
 
--- src/decoding.rt:86:32
 shared-slice-read-look-up : tie.Need-shared-slice-read-look-up Inv-loop μ-loop
 shared-slice-read-look-up c = search needs
 
--- src/decoding.rt:86:13
 look-up-requires : tie.Need-look-up-requires Inv-loop μ-loop
 look-up-requires c κs = search needs
 
--- src/decoding.rt:87:37
 mul-look-up-2 : tie.Need-mul-look-up-2 Inv-loop μ-loop
 mul-look-up-2 c = search needs
 
--- src/decoding.rt:87:37
 add-look-up : tie.Need-add-look-up Inv-loop μ-loop
 add-look-up c = search needs
 
--- src/decoding.rt:87:32
 shared-slice-read-look-up-2 : tie.Need-shared-slice-read-look-up-2 Inv-loop μ-loop
 shared-slice-read-look-up-2 c = search needs
 
--- src/decoding.rt:87:13
 look-up-requires-2 : tie.Need-look-up-requires-2 Inv-loop μ-loop
 look-up-requires-2 c κs = search needs
 
--- src/decoding.rt:88:37
 mul-look-up-3 : tie.Need-mul-look-up-3 Inv-loop μ-loop
 mul-look-up-3 c = search needs
 
--- src/decoding.rt:88:37
 add-look-up-2 : tie.Need-add-look-up-2 Inv-loop μ-loop
 add-look-up-2 c = search needs
 
--- src/decoding.rt:88:32
 shared-slice-read-look-up-3 : tie.Need-shared-slice-read-look-up-3 Inv-loop μ-loop
 shared-slice-read-look-up-3 c = search needs
 
--- src/decoding.rt:88:13
 look-up-requires-3 : tie.Need-look-up-requires-3 Inv-loop μ-loop
 look-up-requires-3 c κs = search needs
 
--- src/decoding.rt:89:37
 mul-look-up-4 : tie.Need-mul-look-up-4 Inv-loop μ-loop
 mul-look-up-4 c = search needs
 
--- src/decoding.rt:89:37
 add-look-up-3 : tie.Need-add-look-up-3 Inv-loop μ-loop
 add-look-up-3 c = search needs
 
--- src/decoding.rt:89:32
 shared-slice-read-look-up-4 : tie.Need-shared-slice-read-look-up-4 Inv-loop μ-loop
 shared-slice-read-look-up-4 c = search needs
 
--- src/decoding.rt:89:13
 look-up-requires-4 : tie.Need-look-up-requires-4 Inv-loop μ-loop
 look-up-requires-4 c κs = search needs
 
--- src/decoding.rt:90:22
 mul-out : tie.Need-mul-out Inv-loop μ-loop
 mul-out c = search needs
 
--- src/decoding.rt:90:22
 add-out : tie.Need-add-out Inv-loop μ-loop
 add-out c = search needs
 
--- src/decoding.rt:90:13
 mul-out-2 : tie.Need-mul-out-2 Inv-loop μ-loop
 mul-out-2 c = search needs
 
--- src/decoding.rt:90:9
 slice-write-out : tie.Need-slice-write-out Inv-loop μ-loop
 slice-write-out c = search needs
 
--- src/decoding.rt:91:26
 mul-out-3 : tie.Need-mul-out-3 Inv-loop μ-loop
 mul-out-3 c = search needs
 
--- src/decoding.rt:91:26
 add-out-2 : tie.Need-add-out-2 Inv-loop μ-loop
 add-out-2 c = search needs
 
--- src/decoding.rt:91:13
 mul-out-4 : tie.Need-mul-out-4 Inv-loop μ-loop
 mul-out-4 c = search needs
 
--- src/decoding.rt:91:13
 add-out-3 : tie.Need-add-out-3 Inv-loop μ-loop
 add-out-3 c = search needs
 
--- src/decoding.rt:91:9
 slice-write-out-2 : tie.Need-slice-write-out-2 Inv-loop μ-loop
 slice-write-out-2 c = simp length-set (omega arith)
 
--- src/decoding.rt:92:26
 mul-out-5 : tie.Need-mul-out-5 Inv-loop μ-loop
 mul-out-5 c = search needs
 
--- src/decoding.rt:92:26
 add-out-4 : tie.Need-add-out-4 Inv-loop μ-loop
 add-out-4 c = search needs
 
--- src/decoding.rt:92:13
 mul-out-6 : tie.Need-mul-out-6 Inv-loop μ-loop
 mul-out-6 c = search needs
 
--- src/decoding.rt:92:13
 add-out-5 : tie.Need-add-out-5 Inv-loop μ-loop
 add-out-5 c = search needs
 
--- src/decoding.rt:92:9
 slice-write-out-3 : tie.Need-slice-write-out-3 Inv-loop μ-loop
 slice-write-out-3 c = simp length-set (omega arith)
 
--- src/decoding.rt:93:9
 add-i : tie.Need-add-i Inv-loop μ-loop
 add-i c = search needs
 
--- src/decoding.rt:85:5
 loop-less : tie.Need-loop-less Inv-loop μ-loop
 loop-less c = search needs
 
--- src/decoding.rt:85:5
 loop-again : tie.Need-loop-again Inv-loop μ-loop
 loop-again c =
     let i = c .before .before .before .before .before .before .before .before .before .loop .i in
@@ -176,49 +140,38 @@ loop-again c =
     let e = c .look-up4 .result in
     (search needs, simp length-set (c .before .before .before .before .before .before .before .before .before .loop .inv .1), turn text out out₀ i a b d e (omega arith) (omega arith) (c .before .before .before .before .before .before .before .before .before .loop .inv .2) (c .before .before .before .before .before .before .look-up .ensures .0) (c .before .before .before .before .look-up2 .ensures .0) (c .before .before .look-up3 .ensures .0) (c .look-up4 .ensures .0))
 
--- src/decoding.rt:95:30
 mul-decode-rest : tie.Need-mul-decode-rest Inv-loop μ-loop
 mul-decode-rest c = search needs
 
--- src/decoding.rt:95:24
 sub-decode-rest : tie.Need-sub-decode-rest Inv-loop μ-loop
 sub-decode-rest c = search needs
 
--- src/decoding.rt:95:24
 part-decode-rest-start : tie.Need-part-decode-rest-start Inv-loop μ-loop
 part-decode-rest-start c = search needs
 
--- src/decoding.rt:95:24
 part-decode-rest-end : tie.Need-part-decode-rest-end Inv-loop μ-loop
 part-decode-rest-end c = search needs
 
--- src/decoding.rt:95:49
 mul-decode-rest-2 : tie.Need-mul-decode-rest-2 Inv-loop μ-loop
 mul-decode-rest-2 c = search needs
 
--- src/decoding.rt:95:40
 sub-decode-rest-2 : tie.Need-sub-decode-rest-2 Inv-loop μ-loop
 sub-decode-rest-2 c = search needs
 
--- src/decoding.rt:95:40
 part-decode-rest-start-2 : tie.Need-part-decode-rest-start-2 Inv-loop μ-loop
 part-decode-rest-start-2 c = search needs
 
--- src/decoding.rt:95:40
 part-decode-rest-end-2 : tie.Need-part-decode-rest-end-2 Inv-loop μ-loop
 part-decode-rest-end-2 c = search needs
 
--- src/decoding.rt:95:5
 decode-rest-requires : tie.Need-decode-rest-requires Inv-loop μ-loop
 decode-rest-requires c κs = (c .before .before .before .before .before .before .pre .0, (rw (part-rest (4 * (length (now (c .before .before .before .before .before .before .args .text)) / 4)) (now (c .before .before .before .before .before .before .args .text))) (simp length-drop (omega arith)), rw (part-rest (4 * (length (now (c .before .before .before .before .before .before .args .text)) / 4)) (now (c .before .before .before .before .before .before .args .text)), part-rest (3 * (length (now (c .before .before .before .before .before .before .args .text)) / 4)) (c .before .before .before .loop .out)) (simp length-drop (omega arith))))
 
--- src/decoding.rt:78:1
 same-length : tie.Need-same-length Inv-loop μ-loop
 same-length c =
     let k = 3 * (length (now (c .before .before .before .before .before .before .before .before .before .args .text)) / 4) in
     same-len-mid k (length (c .before .before .before .before .before .before .loop .out) - k) (c .before .before .before .before .before .before .loop .out) (c .before .before .decode-rest .last .1 .1 .0) (c .before .before .decode-rest .kept .1 .1 .0) ∙ c .before .before .before .before .before .before .loop .inv .1
 
--- src/decoding.rt:78:1
 returns : tie.Need-returns Inv-loop μ-loop
 returns c =
     let n : c .before .before .before .before .before .before .loop .i ≡ length (now (c .before .before .before .before .before .before .before .before .before .args .text)) / 4 = omega arith in

@@ -1,3 +1,4 @@
+-- By the number of characters: fewer than two make no byte, two make one, three make two.
 use mathlib.Core.List.{[], _∷_}
 use lib.ListN.{length-set}
 use lib.Seq.{sets-eq}
@@ -7,75 +8,55 @@ use Rattle.base64.proofs.Laws.Code.{decoded-none, decoded-two, decoded-
 use borrow.Author.Needs.{needs}
 use Rattle.base64.proofs.decoding.decode_rest.Statement.{statement}
 use Rattle.base64.proofs.decoding.decode_rest.Tie as tie
-use Rattle.base64.proofs.decoding.decode_rest.Reads as reads
-use Rattle.base64.proofs.decoding.decode_rest.Lts as lts
-use Rattle.base64.proofs.decoding.look_up.Reads as look-up-reads
 
--- src/decoding.rt:108:9
 returns : tie.Need-returns
 returns c = rw (decoded-none (now (c .before .before .before .args .text)) (c .if1 .taken))
 
--- src/decoding.rt:110:28
 shared-slice-read-look-up : tie.Need-shared-slice-read-look-up
 shared-slice-read-look-up c = search needs
 
--- src/decoding.rt:110:9
 look-up-requires : tie.Need-look-up-requires
 look-up-requires c κs = search needs
 
--- src/decoding.rt:111:28
 shared-slice-read-look-up-2 : tie.Need-shared-slice-read-look-up-2
 shared-slice-read-look-up-2 c = search needs
 
--- src/decoding.rt:111:9
 look-up-requires-2 : tie.Need-look-up-requires-2
 look-up-requires-2 c κs = search needs
 
--- src/decoding.rt:112:14
 mul-out : tie.Need-mul-out
 mul-out c = search needs
 
--- src/decoding.rt:112:14
 add-out : tie.Need-add-out
 add-out c = search needs
 
--- src/decoding.rt:112:5
 slice-write-out : tie.Need-slice-write-out
 slice-write-out c = search needs
 
--- src/decoding.rt:114:32
 shared-slice-read-look-up-3 : tie.Need-shared-slice-read-look-up-3
 shared-slice-read-look-up-3 c = search needs
 
--- src/decoding.rt:114:13
 look-up-requires-3 : tie.Need-look-up-requires-3
 look-up-requires-3 c κs = search needs
 
--- src/decoding.rt:115:18
 mul-out-2 : tie.Need-mul-out-2
 mul-out-2 c = search needs
 
--- src/decoding.rt:115:18
 add-out-2 : tie.Need-add-out-2
 add-out-2 c = search needs
 
--- src/decoding.rt:115:9
 slice-write-out-2 : tie.Need-slice-write-out-2
 slice-write-out-2 c = simp length-set (omega arith)
 
--- src/decoding.rt:100:1
 same-length : tie.Need-same-length
 same-length c = search needs
 
--- src/decoding.rt:100:1
 returns-2 : tie.Need-returns-2
 returns-2 c = rw (decoded-three (now (c .before .before .before .before .before .before .before .before .before .before .args .text)) (omega arith), ← c .before .before .before .before .before .look-up .ensures .0, ← c .before .before .before .look-up2 .ensures .0, ← c .look-up3 .ensures .0) (sets-eq (_ ∷ _ ∷ []) (now (c .before .before .before .before .before .before .before .before .before .before .args .out)) 0 (omega arith))
 
--- src/decoding.rt:100:1
 same-length-2 : tie.Need-same-length-2
 same-length-2 c = search needs
 
--- src/decoding.rt:100:1
 returns-3 : tie.Need-returns-3
 returns-3 c = rw (decoded-two (now (c .before .before .before .before .before .before .before .before .args .text)) (omega arith), ← c .before .before .before .look-up .ensures .0, ← c .before .look-up2 .ensures .0) (sets-eq (_ ∷ []) (now (c .before .before .before .before .before .before .before .before .args .out)) 0 (omega arith))
 

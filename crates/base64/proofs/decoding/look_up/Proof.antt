@@ -1,20 +1,15 @@
+-- The table holds the value of each byte, and every value is below 64.
 use Rattle.base64.proofs.Laws.Alphabet.{value-lt}
 use borrow.Author.Needs.{needs}
 use Rattle.base64.proofs.decoding.look_up.Statement.{statement}
 use Rattle.base64.proofs.decoding.look_up.Tie as tie
-use Rattle.base64.proofs.decoding.look_up.Reads as reads
-use Rattle.base64.proofs.decoding.look_up.Lts as lts
-use Rattle.base64.proofs.decoding.wide.Reads as wide-reads
 
--- src/decoding.rt:74:11
 wide-requires : tie.Need-wide-requires
 wide-requires c κs = search needs
 
--- src/decoding.rt:74:5
 element-copy-out-result : tie.Need-element-copy-out-result
 element-copy-out-result c = search needs
 
--- src/decoding.rt:70:1
 returns : tie.Need-returns
 returns c =
     let e = c .before .before .pre (c .before .before .args .b) (search needs) in

@@ -1,3 +1,4 @@
+-- The text is base64 if the run of characters reaches its end and the last may stand there; an empty text is.
 use Prim.Native.Nat.{ℕ}
 use mathlib.Core.Path.{_≡_, refl}
 use mathlib.Core.Bool.{true}
@@ -13,59 +14,44 @@ use Rattle.refusal.proofs.Laws.Run.{run-part, run-whole}
 use borrow.Author.Needs.{needs}
 use Rattle.base64.proofs.decoding.measure.Statement.{statement}
 use Rattle.base64.proofs.decoding.measure.Tie as tie
-use Rattle.base64.proofs.decoding.measure.Reads as reads
-use Rattle.base64.proofs.decoding.measure.Lts as lts
-use Rattle.base64.proofs.alphabet.characters.Reads as characters-reads
-use Rattle.base64.proofs.alphabet.ends_well.Reads as ends-well-reads
 
 nothing : (t : List ℕ) → length t ≡ 0 → isBase64 t ≡ true
 unfolding isBase64 all endsWell
 nothing [] h = refl
 nothing (a ∷ t) h = absurd (omega arith)
 
--- src/decoding.rt:33:9
 returns : tie.Need-returns
 returns c = rw (nothing (now (c .before .before .args .text)) (c .if1 .taken), decoded-none (now (c .before .before .args .text)) (omega arith))
 
--- src/decoding.rt:35:8
 characters-requires : tie.Need-characters-requires
 characters-requires c κs = search needs
 
--- src/decoding.rt:36:9
 returns-2 : tie.Need-returns-2
 unfolding isBase64
 returns-2 c = simp (run-part isCharacter (now (c .before .before .before .before .args .text)) (omega (arith, c .before .characters .ensures)))
 
--- src/decoding.rt:38:26
 sub-ends-well : tie.Need-sub-ends-well
 sub-ends-well c = search needs
 
--- src/decoding.rt:38:21
 shared-slice-read-ends-well : tie.Need-shared-slice-read-ends-well
 shared-slice-read-ends-well c = search needs
 
--- src/decoding.rt:38:8
 ends-well-requires : tie.Need-ends-well-requires
 ends-well-requires c κs = search needs
 
--- src/decoding.rt:39:28
 mul-t9 : tie.Need-mul-t9
 mul-t9 c = search needs
 
--- src/decoding.rt:39:40
 mul-t11 : tie.Need-mul-t11
 mul-t11 c = search needs
 
--- src/decoding.rt:39:28
 add-t13 : tie.Need-add-t13
 add-t13 c = search needs
 
--- src/decoding.rt:39:9
 returns-3 : tie.Need-returns-3
 unfolding isBase64
 returns-3 c = simp (run-whole isCharacter (now (c .before .before .before .before .before .before .before .args .text)) (omega (arith, c .before .before .before .before .characters .ensures)), ← c .before .ends-well .ensures, c .if3 .taken, decoded-length (now (c .before .before .before .before .before .before .before .args .text)))
 
--- src/decoding.rt:28:1
 returns-4 : tie.Need-returns-4
 unfolding isBase64
 returns-4 c = simp (run-whole isCharacter (now (c .before .before .before .before .before .before .before .args .text)) (omega (arith, c .before .before .before .before .characters .ensures)), ← c .before .ends-well .ensures, c .if3 .left)

@@ -1,8 +1,9 @@
+-- Invariant: the first i groups' characters stand at the front of `out`, 4 of each, and behind them `out` is as it was.
 use borrow.Author.Needs.{needs}
-use Prim.Native.Nat.{ℕ, _+_, _-_, _*_, _/_, _%_, _<_, _≤_}
-use mathlib.Core.Path.{_≡_, refl, sym, ap, _∙_}
+use Prim.Native.Nat.{ℕ, _+_, _-_, _*_, _/_, _%_, _≤_}
+use mathlib.Core.Path.{_≡_, refl, _∙_}
 use mathlib.Core.List.{List, [], _∷_, _++_}
-use lib.ListN.{length, take, drop, getD, set, length-set, length-drop, length-append}
+use lib.ListN.{length, take, drop, getD, set, length-set, length-drop}
 use native.Mathlib.Omega.{arith}
 use borrow.Rule.Slice.PartMut.{same-len-mid}
 use denote.Ref.{now}
@@ -12,13 +13,6 @@ use Rattle.base64.proofs.Laws.Code.{encoded-end, encoded-turn, encoded-
 use Rattle.refusal.proofs.Laws.Lists.{part-rest, store-four, overwrite}
 use Rattle.base64.proofs.encoding.encode_into.Statement.{statement}
 use Rattle.base64.proofs.encoding.encode_into.Tie as tie
-use Rattle.base64.proofs.encoding.encode_into.Reads as reads
-use Rattle.base64.proofs.encoding.encode_into.Lts as lts
-use Rattle.base64.proofs.encoding.encode_rest.Reads as encode-rest-reads
-use Rattle.base64.proofs.encoding.first.Reads as first-reads
-use Rattle.base64.proofs.encoding.fourth.Reads as fourth-reads
-use Rattle.base64.proofs.encoding.second.Reads as second-reads
-use Rattle.base64.proofs.encoding.third.Reads as third-reads
 
 -- a turn: one group more
 turn : (t o o₀ : List ℕ) (i : ℕ) → 3 * i + 3 ≤ length t → 4 * i + 4 ≤ length o → o ≡ encoded (take (3 * i) t) ++ drop (4 * i) o₀ →
@@ -37,112 +31,85 @@ Inv-loop table bytes out₀ n i₀ out i =
 abbrev μ-loop : tie.MeasureT-loop
 μ-loop table bytes out₀ n i₀ out i = n - i
 
--- src/encoding.rt:79:5
 loop-holds : tie.Need-loop-holds Inv-loop μ-loop
 unfolding encoded
 loop-holds c = (search needs, refl, refl)
 
--- src/encoding.rt:80:23
 mul-a : tie.Need-mul-a Inv-loop μ-loop
 mul-a c = search needs
 
--- src/encoding.rt:80:17
 shared-slice-read-a : tie.Need-shared-slice-read-a Inv-loop μ-loop
 shared-slice-read-a c = search needs
 
--- src/encoding.rt:81:23
 mul-b : tie.Need-mul-b Inv-loop μ-loop
 mul-b c = search needs
 
--- src/encoding.rt:81:23
 add-b : tie.Need-add-b Inv-loop μ-loop
 add-b c = search needs
 
--- src/encoding.rt:81:17
 shared-slice-read-b : tie.Need-shared-slice-read-b Inv-loop μ-loop
 shared-slice-read-b c = search needs
 
--- src/encoding.rt:82:23
 mul-c : tie.Need-mul-c Inv-loop μ-loop
 mul-c c = search needs
 
--- src/encoding.rt:82:23
 add-c : tie.Need-add-c Inv-loop μ-loop
 add-c c = search needs
 
--- src/encoding.rt:82:17
 shared-slice-read-c : tie.Need-shared-slice-read-c Inv-loop μ-loop
 shared-slice-read-c c = search needs
 
--- src/encoding.rt:83:22
 first-requires : tie.Need-first-requires Inv-loop μ-loop
 first-requires c κs = search needs
 
--- src/encoding.rt:83:13
 mul-out : tie.Need-mul-out Inv-loop μ-loop
 mul-out c = search needs
 
--- src/encoding.rt:83:9
 slice-write-out : tie.Need-slice-write-out Inv-loop μ-loop
 slice-write-out c = search needs
 
--- src/encoding.rt:84:26
 second-requires : tie.Need-second-requires Inv-loop μ-loop
 second-requires c κs = search needs
 
--- src/encoding.rt:84:13
 mul-out-2 : tie.Need-mul-out-2 Inv-loop μ-loop
 mul-out-2 c = search needs
 
--- src/encoding.rt:84:13
 add-out : tie.Need-add-out Inv-loop μ-loop
 add-out c = search needs
 
--- src/encoding.rt:84:9
 slice-write-out-2 : tie.Need-slice-write-out-2 Inv-loop μ-loop
 slice-write-out-2 c = simp length-set (omega arith)
 
--- src/encoding.rt:85:26
 third-requires : tie.Need-third-requires Inv-loop μ-loop
 third-requires c κs = search needs
 
--- src/encoding.rt:85:13
 mul-out-3 : tie.Need-mul-out-3 Inv-loop μ-loop
 mul-out-3 c = search needs
 
--- src/encoding.rt:85:13
 add-out-2 : tie.Need-add-out-2 Inv-loop μ-loop
 add-out-2 c = search needs
 
--- src/encoding.rt:85:9
 slice-write-out-3 : tie.Need-slice-write-out-3 Inv-loop μ-loop
 slice-write-out-3 c = simp length-set (omega arith)
 
--- src/encoding.rt:86:26
 fourth-requires : tie.Need-fourth-requires Inv-loop μ-loop
 fourth-requires c κs = search needs
 
--- src/encoding.rt:86:13
 mul-out-4 : tie.Need-mul-out-4 Inv-loop μ-loop
 mul-out-4 c = search needs
 
--- src/encoding.rt:86:13
 add-out-3 : tie.Need-add-out-3 Inv-loop μ-loop
 add-out-3 c = search needs
 
--- src/encoding.rt:86:9
 slice-write-out-4 : tie.Need-slice-write-out-4 Inv-loop μ-loop
 slice-write-out-4 c = simp length-set (omega arith)
 
--- src/encoding.rt:87:9
 add-i : tie.Need-add-i Inv-loop μ-loop
 add-i c = search needs
 
--- src/encoding.rt:79:5
 loop-less : tie.Need-loop-less Inv-loop μ-loop
 loop-less c = search needs
 
--- src/encoding.rt:79:5
 loop-again : tie.Need-loop-again Inv-loop μ-loop
 loop-again c =
     let i = c .before .before .before .before .before .before .before .before .loop .i in
@@ -151,49 +118,38 @@ loop-again c =
     let bytes = now (c .before .before .before .before .before .before .before .before .before .before .before .args .bytes) in
     (search needs, simp length-set (c .before .before .before .before .before .before .before .before .loop .inv .1), rw (c .before .before .before .first .ensures, c .before .before .second .ensures, c .before .third .ensures, c .fourth .ensures) (turn bytes out out₀ i (omega arith) (omega arith) (c .before .before .before .before .before .before .before .before .loop .inv .2)))
 
--- src/encoding.rt:89:31
 mul-encode-rest : tie.Need-mul-encode-rest Inv-loop μ-loop
 mul-encode-rest c = search needs
 
--- src/encoding.rt:89:24
 sub-encode-rest : tie.Need-sub-encode-rest Inv-loop μ-loop
 sub-encode-rest c = search needs
 
--- src/encoding.rt:89:24
 part-encode-rest-start : tie.Need-part-encode-rest-start Inv-loop μ-loop
 part-encode-rest-start c = search needs
 
--- src/encoding.rt:89:24
 part-encode-rest-end : tie.Need-part-encode-rest-end Inv-loop μ-loop
 part-encode-rest-end c = search needs
 
--- src/encoding.rt:89:50
 mul-encode-rest-2 : tie.Need-mul-encode-rest-2 Inv-loop μ-loop
 mul-encode-rest-2 c = search needs
 
--- src/encoding.rt:89:41
 sub-encode-rest-2 : tie.Need-sub-encode-rest-2 Inv-loop μ-loop
 sub-encode-rest-2 c = search needs
 
--- src/encoding.rt:89:41
 part-encode-rest-start-2 : tie.Need-part-encode-rest-start-2 Inv-loop μ-loop
 part-encode-rest-start-2 c = search needs
 
--- src/encoding.rt:89:41
 part-encode-rest-end-2 : tie.Need-part-encode-rest-end-2 Inv-loop μ-loop
 part-encode-rest-end-2 c = search needs
 
--- src/encoding.rt:89:5
 encode-rest-requires : tie.Need-encode-rest-requires Inv-loop μ-loop
 encode-rest-requires c κs = (c .before .before .before .before .before .before .pre .0, (rw (part-rest (3 * (length (now (c .before .before .before .before .before .before .args .bytes)) / 3)) (now (c .before .before .before .before .before .before .args .bytes))) (simp length-drop (omega arith)), rw (part-rest (3 * (length (now (c .before .before .before .before .before .before .args .bytes)) / 3)) (now (c .before .before .before .before .before .before .args .bytes)), part-rest (4 * (length (now (c .before .before .before .before .before .before .args .bytes)) / 3)) (c .before .before .before .loop .out)) (simp length-drop (omega arith))))
 
--- src/encoding.rt:72:1
 same-length : tie.Need-same-length Inv-loop μ-loop
 same-length c =
     let k = 4 * (length (now (c .before .before .before .before .before .before .before .before .before .args .bytes)) / 3) in
     same-len-mid k (length (c .before .before .before .before .before .before .loop .out) - k) (c .before .before .before .before .before .before .loop .out) (c .before .before .encode-rest .last .1 .1 .0) (c .before .before .encode-rest .kept .1 .1 .0) ∙ c .before .before .before .before .before .before .loop .inv .1
 
--- src/encoding.rt:72:1
 returns : tie.Need-returns Inv-loop μ-loop
 returns c =
     let n : c .before .before .before .before .before .before .loop .i ≡ length (now (c .before .before .before .before .before .before .before .before .before .args .bytes)) / 3 = omega arith in

@@ -1,3 +1,4 @@
+-- By the number of bytes: one makes two characters, two make three, with zero for the byte that is missing.
 use native.Mathlib.Nat.{add-zero}
 use mathlib.Core.List.{[], _∷_}
 use lib.ListN.{length-set}
@@ -8,69 +9,49 @@ use Rattle.base64.proofs.Laws.Code.{encoded-none, encoded-one, encoded-
 use borrow.Author.Needs.{needs}
 use Rattle.base64.proofs.encoding.encode_rest.Statement.{statement}
 use Rattle.base64.proofs.encoding.encode_rest.Tie as tie
-use Rattle.base64.proofs.encoding.encode_rest.Reads as reads
-use Rattle.base64.proofs.encoding.encode_rest.Lts as lts
-use Rattle.base64.proofs.encoding.first.Reads as first-reads
-use Rattle.base64.proofs.encoding.second.Reads as second-reads
-use Rattle.base64.proofs.encoding.third.Reads as third-reads
 
--- src/encoding.rt:101:9
 returns : tie.Need-returns
 returns c = rw (encoded-none (now (c .before .before .before .args .bytes)) (c .if1 .taken))
 
--- src/encoding.rt:103:13
 shared-slice-read-a : tie.Need-shared-slice-read-a
 shared-slice-read-a c = search needs
 
--- src/encoding.rt:104:14
 first-requires : tie.Need-first-requires
 first-requires c κs = search needs
 
--- src/encoding.rt:104:5
 slice-write-out : tie.Need-slice-write-out
 slice-write-out c = search needs
 
--- src/encoding.rt:106:18
 second-requires : tie.Need-second-requires
 second-requires c κs = search needs
 
--- src/encoding.rt:106:9
 slice-write-out-2 : tie.Need-slice-write-out-2
 slice-write-out-2 c = simp length-set (omega arith)
 
--- src/encoding.rt:107:9
 same-length : tie.Need-same-length
 same-length c = search needs
 
--- src/encoding.rt:107:9
 returns-2 : tie.Need-returns-2
 returns-2 c = rw (encoded-one (now (c .before .before .before .before .before .before .before .args .bytes)) (c .before .if2 .taken), ← c .before .before .first .ensures, ← (rw add-zero at (c .second .ensures))) (sets-eq (_ ∷ _ ∷ []) (now (c .before .before .before .before .before .before .before .args .out)) 0 (omega arith))
 
--- src/encoding.rt:109:13
 shared-slice-read-b : tie.Need-shared-slice-read-b
 shared-slice-read-b c = search needs
 
--- src/encoding.rt:110:14
 second-requires-2 : tie.Need-second-requires-2
 second-requires-2 c κs = search needs
 
--- src/encoding.rt:110:5
 slice-write-out-3 : tie.Need-slice-write-out-3
 slice-write-out-3 c = simp length-set (omega arith)
 
--- src/encoding.rt:111:14
 third-requires : tie.Need-third-requires
 third-requires c κs = search needs
 
--- src/encoding.rt:111:5
 slice-write-out-4 : tie.Need-slice-write-out-4
 slice-write-out-4 c = simp length-set (omega arith)
 
--- src/encoding.rt:93:1
 same-length-2 : tie.Need-same-length-2
 same-length-2 c = search needs
 
--- src/encoding.rt:93:1
 returns-3 : tie.Need-returns-3
 returns-3 c = rw (encoded-two (now (c .before .before .before .before .before .before .before .before .before .args .bytes)) (omega arith), ← c .before .before .before .before .first .ensures, ← c .before .second2 .ensures, ← (rw add-zero at (c .third .ensures))) (sets-eq (_ ∷ _ ∷ _ ∷ []) (now (c .before .before .before .before .before .before .before .before .before .args .out)) 0 (omega arith))
 

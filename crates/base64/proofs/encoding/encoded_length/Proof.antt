@@ -1,28 +1,22 @@
+-- The sum is the law of the text's length, and it does not wrap.
 use Rattle.base64.proofs.Laws.Code.{encoded-length}
 use mathlib.Core.Path.{sym}
 use borrow.Author.Needs.{needs}
 use Rattle.base64.proofs.encoding.encoded_length.Statement.{statement}
 use Rattle.base64.proofs.encoding.encoded_length.Tie as tie
-use Rattle.base64.proofs.encoding.encoded_length.Reads as reads
-use Rattle.base64.proofs.encoding.encoded_length.Lts as lts
 
--- src/encoding.rt:19:5
 mul-result : tie.Need-mul-result
 mul-result c = search needs
 
--- src/encoding.rt:19:18
 mul-result-2 : tie.Need-mul-result-2
 mul-result-2 c = search needs
 
--- src/encoding.rt:19:18
 add-result : tie.Need-add-result
 add-result c = search needs
 
--- src/encoding.rt:19:5
 add-result-2 : tie.Need-add-result-2
 add-result-2 c = search needs
 
--- src/encoding.rt:15:1
 returns : tie.Need-returns
 returns c = sym (encoded-length _)
 

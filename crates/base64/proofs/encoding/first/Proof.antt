@@ -1,20 +1,15 @@
-use Prim.Native.Nat.{_+_, _*_, _/_, _%_}
+-- Six bits are below 64, where the table holds the character.
+use Prim.Native.Nat.{_/_}
 use borrow.Author.Needs.{needs}
 use Rattle.base64.proofs.encoding.first.Statement.{statement}
 use Rattle.base64.proofs.encoding.first.Tie as tie
-use Rattle.base64.proofs.encoding.first.Reads as reads
-use Rattle.base64.proofs.encoding.first.Lts as lts
-use Rattle.base64.proofs.encoding.wide.Reads as wide-reads
 
--- src/encoding.rt:47:11
 wide-requires : tie.Need-wide-requires
 wide-requires c κs = search needs
 
--- src/encoding.rt:47:5
 element-copy-out-result : tie.Need-element-copy-out-result
 element-copy-out-result c = search needs
 
--- src/encoding.rt:43:1
 returns : tie.Need-returns
 returns c = rw (c .before .wide .ensures) (c .before .before .pre (c .before .before .args .a / 4) (search needs))
 

@@ -1,8 +1,9 @@
+-- Invariant: the first i lines' bytes stand at the front of `out`, 48 of each, and behind them `out` is as it was.
 use borrow.Author.Needs.{needs}
-use Prim.Native.Nat.{ℕ, _+_, _-_, _*_, _/_, _<_, _≤_}
+use Prim.Native.Nat.{ℕ, _+_, _-_, _*_, _/_, _≤_}
 use mathlib.Core.Path.{_≡_, refl, _∙_}
 use mathlib.Core.List.{List, [], _∷_, _++_}
-use lib.ListN.{length, take, drop, length-take, length-drop}
+use lib.ListN.{length, take, drop}
 use native.Mathlib.Omega.{arith}
 use borrow.Rule.Slice.PartMut.{same-len-mid}
 use denote.Ref.{now}
@@ -11,9 +12,6 @@ use Rattle.base64.specs.Lines.{unwrapped, bodyOf}
 use Rattle.base64.proofs.Laws.Lines.{body-fits, body-fits-last, body-turn, body-end}
 use Rattle.base64.proofs.lines.body_into.Statement.{statement}
 use Rattle.base64.proofs.lines.body_into.Tie as tie
-use Rattle.base64.proofs.lines.body_into.Reads as reads
-use Rattle.base64.proofs.lines.body_into.Lts as lts
-use Rattle.base64.proofs.decoding.decode_into.Reads as decode-into-reads
 
 empty : (l : List ℕ) → length l ≡ 0 → bodyOf l ≡ []
 unfolding unwrapped decoded
@@ -27,67 +25,51 @@ Inv-loop table lines out₀ n full i₀ out i =
 abbrev μ-loop : tie.MeasureT-loop
 μ-loop table lines out₀ n full i₀ out i = full - i
 
--- src/lines.rt:52:9
 returns : tie.Need-returns Inv-loop μ-loop
 returns c = rw (empty (now (c .before .before .before .args .lines)) (c .if1 .taken))
 
--- src/lines.rt:54:17
 sub-full : tie.Need-sub-full Inv-loop μ-loop
 sub-full c = search needs
 
--- src/lines.rt:56:5
 loop-holds : tie.Need-loop-holds Inv-loop μ-loop
 loop-holds c = (search needs, refl, refl)
 
--- src/lines.rt:57:17
 mul-a : tie.Need-mul-a Inv-loop μ-loop
 mul-a c = search needs
 
--- src/lines.rt:58:17
 add-e : tie.Need-add-e Inv-loop μ-loop
 add-e c = search needs
 
--- src/lines.rt:59:17
 mul-b : tie.Need-mul-b Inv-loop μ-loop
 mul-b c = search needs
 
--- src/lines.rt:60:28
 sub-decode-into : tie.Need-sub-decode-into Inv-loop μ-loop
 sub-decode-into c = search needs
 
--- src/lines.rt:60:28
 part-decode-into-start : tie.Need-part-decode-into-start Inv-loop μ-loop
 part-decode-into-start c = search needs
 
--- src/lines.rt:60:28
 part-decode-into-end : tie.Need-part-decode-into-end Inv-loop μ-loop
 part-decode-into-end c = search needs
 
--- src/lines.rt:60:42
 sub-decode-into-2 : tie.Need-sub-decode-into-2 Inv-loop μ-loop
 sub-decode-into-2 c = search needs
 
--- src/lines.rt:60:42
 part-decode-into-start-2 : tie.Need-part-decode-into-start-2 Inv-loop μ-loop
 part-decode-into-start-2 c = search needs
 
--- src/lines.rt:60:42
 part-decode-into-end-2 : tie.Need-part-decode-into-end-2 Inv-loop μ-loop
 part-decode-into-end-2 c = search needs
 
--- src/lines.rt:60:9
 decode-into-requires : tie.Need-decode-into-requires Inv-loop μ-loop
 decode-into-requires c κs = (c .before .before .before .before .before .before .before .pre .0, body-fits (now (c .before .before .before .before .before .before .before .args .lines)) (c .before .before .before .loop .out) (c .before .before .before .loop .i) (omega arith) (omega (arith, c .before .before .before .before .before .before .before .pre .1)))
 
--- src/lines.rt:61:9
 add-i : tie.Need-add-i Inv-loop μ-loop
 add-i c = search needs
 
--- src/lines.rt:56:5
 loop-less : tie.Need-loop-less Inv-loop μ-loop
 loop-less c = omega (arith, c .before .before .before .before .before .loop-test .taken)
 
--- src/lines.rt:56:5
 loop-again : tie.Need-loop-again Inv-loop μ-loop
 loop-again c =
     let l = now (c .before .before .before .before .before .before .before .before .before .before .args .lines) in
@@ -98,53 +80,41 @@ loop-again c =
       body-turn l out (now (c .before .before .before .before .before .before .before .before .before .before .args .out)) (c .before .before .decode-into .last .1 .1 .0) i (omega arith) (c .before .before .before .before .before .before .loop .inv .2) (c .before .before .decode-into .ensures),
     )
 
--- src/lines.rt:63:13
 mul-a-2 : tie.Need-mul-a-2 Inv-loop μ-loop
 mul-a-2 c = search needs
 
--- src/lines.rt:64:13
 sub-e : tie.Need-sub-e Inv-loop μ-loop
 sub-e c = search needs
 
--- src/lines.rt:65:13
 mul-b-2 : tie.Need-mul-b-2 Inv-loop μ-loop
 mul-b-2 c = search needs
 
--- src/lines.rt:66:24
 sub-decode-into-3 : tie.Need-sub-decode-into-3 Inv-loop μ-loop
 sub-decode-into-3 c = search needs
 
--- src/lines.rt:66:24
 part-decode-into-start-3 : tie.Need-part-decode-into-start-3 Inv-loop μ-loop
 part-decode-into-start-3 c = search needs
 
--- src/lines.rt:66:24
 part-decode-into-end-3 : tie.Need-part-decode-into-end-3 Inv-loop μ-loop
 part-decode-into-end-3 c = search needs
 
--- src/lines.rt:66:38
 sub-decode-into-4 : tie.Need-sub-decode-into-4 Inv-loop μ-loop
 sub-decode-into-4 c = search needs
 
--- src/lines.rt:66:38
 part-decode-into-start-4 : tie.Need-part-decode-into-start-4 Inv-loop μ-loop
 part-decode-into-start-4 c = search needs
 
--- src/lines.rt:66:38
 part-decode-into-end-4 : tie.Need-part-decode-into-end-4 Inv-loop μ-loop
 part-decode-into-end-4 c = search needs
 
--- src/lines.rt:66:5
 decode-into-requires-2 : tie.Need-decode-into-requires-2 Inv-loop μ-loop
 decode-into-requires-2 c κs = (c .before .before .before .before .before .before .before .pre .0, body-fits-last (now (c .before .before .before .before .before .before .before .args .lines)) (c .before .before .before .loop .out) ((length (now (c .before .before .before .before .before .before .before .args .lines)) - 1) / 65) (omega arith) (omega arith) (omega (arith, c .before .before .before .before .before .before .before .pre .1)))
 
--- src/lines.rt:45:1
 same-length : tie.Need-same-length Inv-loop μ-loop
 same-length c =
     let k = 48 * ((length (now (c .before .before .before .before .before .before .before .before .before .before .args .lines)) - 1) / 65) in
     same-len-mid k (length (c .before .before .before .before .before .before .loop .out) - k) (c .before .before .before .before .before .before .loop .out) (c .before .before .decode-into2 .last .1 .1 .0) (c .before .before .decode-into2 .kept .1 .1 .0) ∙ c .before .before .before .before .before .before .loop .inv .1
 
--- src/lines.rt:45:1
 returns-2 : tie.Need-returns-2 Inv-loop μ-loop
 returns-2 c =
     let l = now (c .before .before .before .before .before .before .before .before .before .before .args .lines) in

@@ -1,3 +1,4 @@
+-- The lines' length decides between 15 and writing; what is written is what `lines_into` ensures.
 use mathlib.Core.Path.{refl}
 use native.Mathlib.Omega.{arith}
 use borrow.Author.Tests.{lt-ltb, le-ltb}
@@ -6,33 +7,22 @@ use Rattle.base64.proofs.Laws.Lines.{lines-length}
 use borrow.Author.Needs.{needs}
 use Rattle.base64.proofs.lines.encode_lines.Statement.{statement}
 use Rattle.base64.proofs.lines.encode_lines.Tie as tie
-use Rattle.base64.proofs.lines.encode_lines.Reads as reads
-use Rattle.base64.proofs.lines.encode_lines.Lts as lts
-use Rattle.base64.proofs.alphabet.alphabet_characters.Reads as alphabet-characters-reads
-use Rattle.base64.proofs.lines.lines_into.Reads as lines-into-reads
-use Rattle.base64.proofs.lines.lines_length.Reads as lines-length-reads
 
--- src/lines.rt:81:9
 lines-length-requires : tie.Need-lines-length-requires
 lines-length-requires c κs = search needs
 
--- src/lines.rt:83:9
 returns : tie.Need-returns
 returns c = rw (lt-ltb _ _ (rw (c .before .lines-length .ensures) at (c .if1 .taken))) (refl, refl)
 
--- src/lines.rt:85:17
 alphabet-characters-requires : tie.Need-alphabet-characters-requires
 alphabet-characters-requires c κs = search needs
 
--- src/lines.rt:86:5
 lines-into-requires : tie.Need-lines-into-requires
 lines-into-requires c κs = (c .before .before .alphabet-characters .ensures, omega (arith, c .before .before .before .before .lines-length .ensures, lines-length (now (c .before .before .before .before .before .before .before .args .body))))
 
--- src/lines.rt:77:1
 same-length : tie.Need-same-length
 same-length c = search needs
 
--- src/lines.rt:77:1
 returns-2 : tie.Need-returns-2
 returns-2 c = rw (c .before .before .before .before .before .before .before .lines-length .ensures, le-ltb _ _ (rw (c .before .before .before .before .before .before .before .lines-length .ensures) at (c .before .before .before .before .before .before .if1 .left))) (refl, c .before .before .lines-into .ensures)
 

@@ -1,3 +1,4 @@
+-- By length, characters and LF in the definition's order; a line that starts beyond the text is too short.
 use mathlib.Core.Path.{sym, _∙_}
 use lib.ListN.{length, drop, length-drop}
 use lib.Seq.{getD-drop}
@@ -8,38 +9,28 @@ use Rattle.base64.specs.Lines.{isFull}
 use borrow.Author.Needs.{needs}
 use Rattle.base64.proofs.lines.full_line.Statement.{statement}
 use Rattle.base64.proofs.lines.full_line.Tie as tie
-use Rattle.base64.proofs.lines.full_line.Reads as reads
-use Rattle.base64.proofs.lines.full_line.Lts as lts
-use Rattle.base64.proofs.lines.sixty_four.Reads as sixty-four-reads
 
--- src/lines.rt:40:9
 returns : tie.Need-returns
 unfolding isFull
 returns c = rw (le-ltb 64 (length (drop (c .before .before .args .at) (now (c .before .before .args .text)))) (simp length-drop (omega arith)))
 
--- src/lines.rt:43:9
 returns-2 : tie.Need-returns-2
 unfolding isFull
 returns-2 c = rw (le-ltb 64 (length (drop (c .before .before .before .args .at) (now (c .before .before .before .args .text)))) (simp length-drop (omega arith)))
 
--- src/lines.rt:45:9
 sixty-four-requires : tie.Need-sixty-four-requires
 sixty-four-requires c κs = search needs
 
--- src/lines.rt:46:9
 returns-3 : tie.Need-returns-3
 unfolding isFull
 returns-3 c = rw (lt-ltb 64 (length (drop (c .before .before .before .before .before .args .at) (now (c .before .before .before .before .before .args .text)))) (simp length-drop (omega arith)), sym (c .before .sixty-four .ensures) ∙ not-true _ (c .if3 .taken))
 
--- src/lines.rt:48:18
 add-b : tie.Need-add-b
 add-b c = search needs
 
--- src/lines.rt:48:13
 shared-slice-read-b : tie.Need-shared-slice-read-b
 shared-slice-read-b c = search needs
 
--- src/lines.rt:35:1
 returns-4 : tie.Need-returns-4
 unfolding isFull
 returns-4 c = rw (lt-ltb 64 (length (drop (c .before .before .before .before .before .before .args .at) (now (c .before .before .before .before .before .before .args .text)))) (simp length-drop (omega arith)), sym (c .before .before .sixty-four .ensures) ∙ not-false _ (c .before .if3 .left), getD-drop)

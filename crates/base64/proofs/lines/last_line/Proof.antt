@@ -1,3 +1,4 @@
+-- Fewer than 48 bytes make less than a line of characters, so the LF stands behind all of them.
 use native.Mathlib.Omega.{arith}
 use denote.Ref.{now}
 use Rattle.base64.proofs.Laws.Code.{encoded-length}
@@ -5,28 +6,19 @@ use Rattle.base64.proofs.Laws.Lines.{lines-short}
 use borrow.Author.Needs.{needs}
 use Rattle.base64.proofs.lines.last_line.Statement.{statement}
 use Rattle.base64.proofs.lines.last_line.Tie as tie
-use Rattle.base64.proofs.lines.last_line.Reads as reads
-use Rattle.base64.proofs.lines.last_line.Lts as lts
-use Rattle.base64.proofs.encoding.encode_into.Reads as encode-into-reads
-use Rattle.base64.proofs.encoding.encoded_length.Reads as encoded-length-reads
 
--- src/lines.rt:119:9
 encoded-length-requires : tie.Need-encoded-length-requires
 encoded-length-requires c κs = search needs
 
--- src/lines.rt:120:5
 encode-into-requires : tie.Need-encode-into-requires
 encode-into-requires c κs = search needs
 
--- src/lines.rt:121:5
 slice-write-out : tie.Need-slice-write-out
 slice-write-out c = omega (arith, c .before .before .encode-into .kept .1 .1 .0, c .before .before .before .before .encoded-length .ensures, encoded-length (now (c .before .before .before .before .before .before .before .args .body)), c .before .before .before .before .before .before .before .pre .1 .1)
 
--- src/lines.rt:113:1
 same-length : tie.Need-same-length
 same-length c = search needs
 
--- src/lines.rt:113:1
 returns : tie.Need-returns
 returns c =
     let b = now (c .before .before .before .before .before .before .before .args .body) in

@@ -1,7 +1,8 @@
+-- Invariant: the first i lines stand at the front of `out`, 65 bytes each, and behind them `out` is as it was.
 use borrow.Author.Needs.{needs}
-use Prim.Native.Nat.{ℕ, _+_, _-_, _*_, _/_, _<_, _≤_}
+use Prim.Native.Nat.{_+_, _-_, _*_, _/_, _≤_}
 use mathlib.Core.Path.{_≡_, refl, _∙_}
-use mathlib.Core.List.{List, _++_}
+use mathlib.Core.List.{_++_}
 use lib.ListN.{length, take, drop, length-take, length-drop, length-set}
 use native.Mathlib.Omega.{arith}
 use borrow.Rule.Slice.PartMut.{same-len-mid}
@@ -10,10 +11,6 @@ use Rattle.base64.specs.Lines.{linesOf}
 use Rattle.base64.proofs.Laws.Lines.{lines-length, lines-fits-last, lines-turn, lines-end}
 use Rattle.base64.proofs.lines.lines_into.Statement.{statement}
 use Rattle.base64.proofs.lines.lines_into.Tie as tie
-use Rattle.base64.proofs.lines.lines_into.Reads as reads
-use Rattle.base64.proofs.lines.lines_into.Lts as lts
-use Rattle.base64.proofs.encoding.encode_into.Reads as encode-into-reads
-use Rattle.base64.proofs.lines.last_line.Reads as last-line-reads
 
 abbrev Inv-loop : tie.InvT-loop
 Inv-loop table body out₀ full i₀ out i =
@@ -22,55 +19,42 @@ Inv-loop table body out₀ full i₀ out i =
 abbrev μ-loop : tie.MeasureT-loop
 μ-loop table body out₀ full i₀ out i = full - i
 
--- src/lines.rt:99:5
 loop-holds : tie.Need-loop-holds Inv-loop μ-loop
 loop-holds c = (search needs, refl, refl)
 
--- src/lines.rt:100:17
 mul-a : tie.Need-mul-a Inv-loop μ-loop
 mul-a c = search needs
 
--- src/lines.rt:101:17
 add-e : tie.Need-add-e Inv-loop μ-loop
 add-e c = search needs
 
--- src/lines.rt:102:17
 mul-b : tie.Need-mul-b Inv-loop μ-loop
 mul-b c = search needs
 
--- src/lines.rt:103:28
 sub-encode-into : tie.Need-sub-encode-into Inv-loop μ-loop
 sub-encode-into c = search needs
 
--- src/lines.rt:103:28
 part-encode-into-start : tie.Need-part-encode-into-start Inv-loop μ-loop
 part-encode-into-start c = search needs
 
--- src/lines.rt:103:28
 part-encode-into-end : tie.Need-part-encode-into-end Inv-loop μ-loop
 part-encode-into-end c = search needs
 
--- src/lines.rt:103:41
 sub-encode-into-2 : tie.Need-sub-encode-into-2 Inv-loop μ-loop
 sub-encode-into-2 c = search needs
 
--- src/lines.rt:103:41
 part-encode-into-start-2 : tie.Need-part-encode-into-start-2 Inv-loop μ-loop
 part-encode-into-start-2 c = search needs
 
--- src/lines.rt:103:41
 part-encode-into-end-2 : tie.Need-part-encode-into-end-2 Inv-loop μ-loop
 part-encode-into-end-2 c = search needs
 
--- src/lines.rt:103:9
 encode-into-requires : tie.Need-encode-into-requires Inv-loop μ-loop
 encode-into-requires c κs = (c .before .before .before .before .before .before .pre .0, simp (length-take, length-drop) (omega arith))
 
--- src/lines.rt:104:19
 add-end : tie.Need-add-end Inv-loop μ-loop
 add-end c = search needs
 
--- src/lines.rt:105:9
 slice-write-out : tie.Need-slice-write-out Inv-loop μ-loop
 slice-write-out c =
     let i = c .before .before .before .before .before .before .loop .i in
@@ -78,15 +62,12 @@ slice-write-out c =
     let e = same-len-mid (65 * i) (length out - 65 * i) out (c .before .before .encode-into .last .1 .1 .0) (c .before .before .encode-into .kept .1 .1 .0) in
     omega (arith, e, c .before .before .before .before .before .before .loop .inv .1, c .before .before .before .before .before .before .before .before .before .pre .1)
 
--- src/lines.rt:106:9
 add-i : tie.Need-add-i Inv-loop μ-loop
 add-i c = search needs
 
--- src/lines.rt:99:5
 loop-less : tie.Need-loop-less Inv-loop μ-loop
 loop-less c = search needs
 
--- src/lines.rt:99:5
 loop-again : tie.Need-loop-again Inv-loop μ-loop
 loop-again c =
     let b = now (c .before .before .before .before .before .before .before .before .before .args .body) in
@@ -97,49 +78,38 @@ loop-again c =
       lines-turn b out (now (c .before .before .before .before .before .before .before .before .before .args .out)) (c .before .before .encode-into .last .1 .1 .0) i (omega arith) (rw (lines-length b) (c .before .before .before .before .before .before .before .before .before .pre .1)) (c .before .before .before .before .before .before .loop .inv .2) (c .before .before .encode-into .ensures),
     )
 
--- src/lines.rt:108:13
 mul-a-2 : tie.Need-mul-a-2 Inv-loop μ-loop
 mul-a-2 c = search needs
 
--- src/lines.rt:109:13
 mul-b-2 : tie.Need-mul-b-2 Inv-loop μ-loop
 mul-b-2 c = search needs
 
--- src/lines.rt:110:22
 sub-last-line : tie.Need-sub-last-line Inv-loop μ-loop
 sub-last-line c = search needs
 
--- src/lines.rt:110:22
 part-last-line-start : tie.Need-part-last-line-start Inv-loop μ-loop
 part-last-line-start c = search needs
 
--- src/lines.rt:110:22
 part-last-line-end : tie.Need-part-last-line-end Inv-loop μ-loop
 part-last-line-end c = search needs
 
--- src/lines.rt:110:34
 sub-last-line-2 : tie.Need-sub-last-line-2 Inv-loop μ-loop
 sub-last-line-2 c = search needs
 
--- src/lines.rt:110:34
 part-last-line-start-2 : tie.Need-part-last-line-start-2 Inv-loop μ-loop
 part-last-line-start-2 c = search needs
 
--- src/lines.rt:110:34
 part-last-line-end-2 : tie.Need-part-last-line-end-2 Inv-loop μ-loop
 part-last-line-end-2 c = search needs
 
--- src/lines.rt:110:5
 last-line-requires : tie.Need-last-line-requires Inv-loop μ-loop
 last-line-requires c κs = (c .before .before .before .before .before .before .pre .0, (simp (length-take, length-drop) (omega arith), lines-fits-last (now (c .before .before .before .before .before .before .args .body)) (c .before .before .before .loop .out) (length (now (c .before .before .before .before .before .before .args .body)) / 48) (omega arith) (omega arith) (omega (arith, c .before .before .before .before .before .before .pre .1))))
 
--- src/lines.rt:92:1
 same-length : tie.Need-same-length Inv-loop μ-loop
 same-length c =
     let k = 65 * (length (now (c .before .before .before .before .before .before .before .before .before .args .body)) / 48) in
     same-len-mid k (length (c .before .before .before .before .before .before .loop .out) - k) (c .before .before .before .before .before .before .loop .out) (c .before .before .last-line .last .1 .1 .0) (c .before .before .last-line .kept .1 .1 .0) ∙ c .before .before .before .before .before .before .loop .inv .1
 
--- src/lines.rt:92:1
 returns : tie.Need-returns Inv-loop μ-loop
 returns c =
     let b = now (c .before .before .before .before .before .before .before .before .before .args .body) in

@@ -1,3 +1,4 @@
+-- The characters, an LF for every 64 of them and the last LF; the sum does not wrap.
 use mathlib.Core.Path.{sym}
 use native.Mathlib.Omega.{arith}
 use denote.Ref.{now}
@@ -6,23 +7,16 @@ use Rattle.base64.proofs.Laws.Lines.{lines-length}
 use borrow.Author.Needs.{needs}
 use Rattle.base64.proofs.lines.lines_length.Statement.{statement}
 use Rattle.base64.proofs.lines.lines_length.Tie as tie
-use Rattle.base64.proofs.lines.lines_length.Reads as reads
-use Rattle.base64.proofs.lines.lines_length.Lts as lts
-use Rattle.base64.proofs.encoding.encoded_length.Reads as encoded-length-reads
 
--- src/lines.rt:73:9
 encoded-length-requires : tie.Need-encoded-length-requires
 encoded-length-requires c κs = search needs
 
--- src/lines.rt:74:5
 add-result : tie.Need-add-result
 add-result c = omega (arith, c .encoded-length .ensures, encoded-length (now (c .before .before .args .body)))
 
--- src/lines.rt:74:5
 add-result-2 : tie.Need-add-result-2
 add-result-2 c = omega (arith, c .encoded-length .ensures, encoded-length (now (c .before .before .args .body)))
 
--- src/lines.rt:70:1
 returns : tie.Need-returns
 returns c = rw (c .encoded-length .ensures, encoded-length (now (c .before .before .args .body))) (sym (lines-length (now (c .before .before .args .body))))
 

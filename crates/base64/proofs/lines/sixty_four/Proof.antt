@@ -1,6 +1,7 @@
+-- Invariant: `good` says whether the first j bytes from `at` on are all characters.
 use Prim.Native.Nat.{_-_, _≤_}
 use mathlib.Core.Path.{_≡_, refl, _∙_}
-use lib.ListN.{length, take, drop}
+use lib.ListN.{take, drop}
 use native.Mathlib.Omega.{arith}
 use borrow.Author.Needs.{needs}
 use denote.Ref.{now}
@@ -9,9 +10,6 @@ use Rattle.refusal.specs.Run.{all}
 use Rattle.refusal.proofs.Laws.Run.{all-more}
 use Rattle.base64.proofs.lines.sixty_four.Statement.{statement}
 use Rattle.base64.proofs.lines.sixty_four.Tie as tie
-use Rattle.base64.proofs.lines.sixty_four.Reads as reads
-use Rattle.base64.proofs.lines.sixty_four.Lts as lts
-use Rattle.base64.proofs.alphabet.is_character.Reads as is-character-reads
 
 abbrev Inv-loop : tie.InvT-loop
 Inv-loop text at good₀ j₀ good j = (j ≤ 64) × (good ≡ all isCharacter (take j (drop at text)))

@@ -17,37 +17,29 @@ Inv-loop text i₀ i = all isNameByte text ≡ all isNameByte (drop i text)
 abbrev μ-loop : tie.MeasureT-loop
 μ-loop text i₀ i = length text - i
 
--- src/human.rt:48:5
 loop-holds : tie.Need-loop-holds Inv-loop μ-loop
 loop-holds c = refl
 
--- src/human.rt:49:26
 shared-slice-read-is-name-byte : tie.Need-shared-slice-read-is-name-byte Inv-loop μ-loop
 shared-slice-read-is-name-byte c = search needs
 
--- src/human.rt:49:13
 is-name-byte-requires : tie.Need-is-name-byte-requires Inv-loop μ-loop
 is-name-byte-requires c κs = search needs
 
--- src/human.rt:50:13
 returns : tie.Need-returns Inv-loop μ-loop
 returns c =
     sym (c .before .before .before .before .loop .inv ∙ all-one isNameByte (now (c .before .before .before .before .before .before .args .text)) (c .before .before .before .before .loop .i) (c .before .before .before .loop-test .taken) ∙ rw (sym (c .before .is-name-byte .ensures) ∙ not-true _ (c .if1 .taken)))
 
--- src/human.rt:52:9
 add-i : tie.Need-add-i Inv-loop μ-loop
 add-i c = search needs
 
--- src/human.rt:48:5
 loop-less : tie.Need-loop-less Inv-loop μ-loop
 loop-less c = search needs
 
--- src/human.rt:48:5
 loop-again : tie.Need-loop-again Inv-loop μ-loop
 loop-again c =
     c .before .before .before .before .loop .inv ∙ all-one isNameByte (now (c .before .before .before .before .before .before .args .text)) (c .before .before .before .before .loop .i) (c .before .before .before .loop-test .taken) ∙ rw (sym (c .before .is-name-byte .ensures) ∙ not-false _ (c .if1 .left))
 
--- src/human.rt:44:1
 returns-2 : tie.Need-returns-2 Inv-loop μ-loop
 unfolding all
 returns-2 c = sym (c .before .loop .inv ∙ rw (drop-of-length-le (now (c .before .before .before .args .text)) (c .loop-test .left)))

@@ -3,27 +3,21 @@ use borrow.Author.Needs.{needs}
 use Rattle.bech32.proofs.human.human_length.Statement.{statement}
 use Rattle.bech32.proofs.human.human_length.Tie as tie
 
--- src/human.rt:156:28
 enum-told : tie.Need-enum-told
 enum-told c = search needs
 
--- src/human.rt:156:28
 add-result : tie.Need-add-result
 add-result c = search needs
 
--- src/human.rt:157:27
 enum-told-2 : tie.Need-enum-told-2
 enum-told-2 c = search needs
 
--- src/human.rt:157:27
 add-result-2 : tie.Need-add-result-2
 add-result-2 c = search needs
 
--- src/human.rt:151:1
 returns : tie.Need-returns
 returns c = rw (c .enum-told .given .1)
 
--- src/human.rt:151:1
 returns-2 : tie.Need-returns-2
 returns-2 c = rw (c .enum-told2 .given .1)
 

@@ -20,29 +20,23 @@ Inv-loop text word n i₀ i = (i ≤ n) × (same (map lower text) word ≡ same 
 abbrev μ-loop : tie.MeasureT-loop
 μ-loop text word n i₀ i = n - i
 
--- src/human.rt:76:9
 returns : tie.Need-returns Inv-loop μ-loop
 returns c =
     let t = now (c .before .before .before .args .text) in
     sym (same-length (map lower t) (now (c .before .before .before .args .word)) (λ q. omega (arith, q, length-map t lower)))
 
--- src/human.rt:79:5
 loop-holds : tie.Need-loop-holds Inv-loop μ-loop
 loop-holds c = (search needs, refl)
 
--- src/human.rt:80:20
 shared-slice-read-lowered : tie.Need-shared-slice-read-lowered Inv-loop μ-loop
 shared-slice-read-lowered c = search needs
 
--- src/human.rt:80:12
 lowered-requires : tie.Need-lowered-requires Inv-loop μ-loop
 lowered-requires c κs = search needs
 
--- src/human.rt:80:32
 shared-slice-read-if2 : tie.Need-shared-slice-read-if2 Inv-loop μ-loop
 shared-slice-read-if2 c = search needs
 
--- src/human.rt:81:13
 returns-2 : tie.Need-returns-2 Inv-loop μ-loop
 returns-2 c =
     let t = now (c .before .before .before .before .before .before .before .before .before .args .text) in
@@ -50,15 +44,12 @@ returns-2 c =
     let i = c .before .before .before .before .before .loop .i in
     sym (c .before .before .before .before .before .loop .inv .1 ∙ lower-same-one t w i (omega arith) (omega arith) ∙ rw (ne-eqb (lower (getD t i 0)) (getD w i 0) (λ q. omega arith)))
 
--- src/human.rt:83:9
 add-i : tie.Need-add-i Inv-loop μ-loop
 add-i c = search needs
 
--- src/human.rt:79:5
 loop-less : tie.Need-loop-less Inv-loop μ-loop
 loop-less c = search needs
 
--- src/human.rt:79:5
 loop-again : tie.Need-loop-again Inv-loop μ-loop
 loop-again c =
     let t = now (c .before .before .before .before .before .before .before .before .before .args .text) in
@@ -68,7 +59,6 @@ loop-again c =
       c .before .before .before .before .before .loop .inv .1 ∙ lower-same-one t w i (omega arith) (omega arith) ∙ rw (eq-eqb (lower (getD t i 0)) (getD w i 0) (omega arith)),
     )
 
--- src/human.rt:71:1
 returns-3 : tie.Need-returns-3 Inv-loop μ-loop
 unfolding same
 returns-3 c =

@@ -8,21 +8,17 @@ use Rattle.bech32.specs.Text.{isName}
 use Rattle.bech32.proofs.human.is_name.Statement.{statement}
 use Rattle.bech32.proofs.human.is_name.Tie as tie
 
--- src/human.rt:62:9
 returns : tie.Need-returns
 unfolding isName
 returns c = rw (lt-leb 1 (length (now (c .before .before .args .text))) (omega arith))
 
--- src/human.rt:65:9
 returns-2 : tie.Need-returns-2
 unfolding isName
 returns-2 c = rw (le-leb 1 (length (now (c .before .before .before .args .text))) (omega arith), lt-leb (length (now (c .before .before .before .args .text))) 32 (omega arith))
 
--- src/human.rt:67:5
 are-name-bytes-requires : tie.Need-are-name-bytes-requires
 are-name-bytes-requires c κs = search needs
 
--- src/human.rt:58:1
 returns-3 : tie.Need-returns-3
 unfolding isName
 returns-3 c = rw (le-leb 1 (length (now (c .before .before .before .before .args .text))) (omega arith), le-leb (length (now (c .before .before .before .before .args .text))) 32 (omega arith)) (c .are-name-bytes .ensures)

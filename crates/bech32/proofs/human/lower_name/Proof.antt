@@ -20,42 +20,33 @@ Inv-loop text n bytes₀ i₀ bytes i = (i ≤ n) × (length bytes ≡ 32) × (b
 abbrev μ-loop : tie.MeasureT-loop
 μ-loop text n bytes₀ i₀ bytes i = n - i
 
--- src/human.rt:95:9
 nameless-requires : tie.Need-nameless-requires Inv-loop μ-loop
 nameless-requires c κs = search needs
 
--- src/human.rt:95:9
 returns : tie.Need-returns Inv-loop μ-loop
 returns c =
     let t = map lower (now (c .before .before .before .args .text)) in
     let z : shortened t ≡ [] = rw (lt-leb (length t) 32 (omega (arith, length-map (now (c .before .before .before .args .text)) lower))) in
     (c .nameless .ensures .0 ∙ ap padded (sym z), c .nameless .ensures .1 ∙ ap length (sym z))
 
--- src/human.rt:99:5
 loop-holds : tie.Need-loop-holds Inv-loop μ-loop
 loop-holds c = (search needs, refl, refl)
 
--- src/human.rt:100:28
 shared-slice-read-lowered : tie.Need-shared-slice-read-lowered Inv-loop μ-loop
 shared-slice-read-lowered c = search needs
 
--- src/human.rt:100:20
 lowered-requires : tie.Need-lowered-requires Inv-loop μ-loop
 lowered-requires c κs = search needs
 
--- src/human.rt:100:9
 array-write-bytes : tie.Need-array-write-bytes Inv-loop μ-loop
 array-write-bytes c = search needs
 
--- src/human.rt:101:9
 add-i : tie.Need-add-i Inv-loop μ-loop
 add-i c = search needs
 
--- src/human.rt:99:5
 loop-less : tie.Need-loop-less Inv-loop μ-loop
 loop-less c = search needs
 
--- src/human.rt:99:5
 loop-again : tie.Need-loop-again Inv-loop μ-loop
 loop-again c = (
   search needs,
@@ -63,7 +54,6 @@ loop-again c = (
   map-store lower (now (c .before .before .before .before .before .before .args .text)) (c .before .before .before .loop .bytes) _ (c .before .before .before .loop .i) (c .lowered .result) (c .before .before .before .loop .inv .2) (c .before .before .loop-test .taken) (omega arith) (c .lowered .ensures),
 )
 
--- src/human.rt:89:1
 returns-2 : tie.Need-returns-2 Inv-loop μ-loop
 returns-2 c =
     let t = now (c .before .before .before .before .args .text) in

@@ -23,11 +23,9 @@ use Rattle.bech32.proofs.human.name_between.Tie as tie
 
 -- `name_between` meets its contract.
 
--- src/human.rt:118:9
 nameless-requires : tie.Need-nameless-requires
 nameless-requires c κs = search needs
 
--- src/human.rt:118:9
 returns : tie.Need-returns
 returns c =
     let f = now (c .before .before .before .before .before .args .front) in
@@ -36,11 +34,9 @@ returns c =
     let z = name-short f b h (omega arith) in
     (c .nameless .ensures .0 ∙ ap padded (sym z), c .nameless .ensures .1 ∙ ap length (sym z))
 
--- src/human.rt:121:9
 nameless-requires-2 : tie.Need-nameless-requires-2
 nameless-requires-2 c κs = search needs
 
--- src/human.rt:121:9
 returns-2 : tie.Need-returns-2
 returns-2 c =
     let f = now (c .before .before .before .before .before .before .args .front) in
@@ -49,23 +45,18 @@ returns-2 c =
     let z = name-short f b h (omega arith) in
     (c .nameless2 .ensures .0 ∙ ap padded (sym z), c .nameless2 .ensures .1 ∙ ap length (sym z))
 
--- src/human.rt:123:13
 sub-e : tie.Need-sub-e
 sub-e c = search needs
 
--- src/human.rt:124:20
 slice-aggregate-is-lowered : tie.Need-slice-aggregate-is-lowered
 slice-aggregate-is-lowered c = sym (length-take-le (length (now (c .before .before .before .before .before .before .args .front))) (now (c .before .before .before .before .before .before .args .human)) (omega arith))
 
--- src/human.rt:124:9
 is-lowered-requires : tie.Need-is-lowered-requires
 is-lowered-requires c κs = search needs
 
--- src/human.rt:125:9
 nameless-requires-3 : tie.Need-nameless-requires-3
 nameless-requires-3 c κs = search needs
 
--- src/human.rt:125:9
 returns-3 : tie.Need-returns-3
 returns-3 c =
     let f = now (c .before .before .before .before .before .before .before .before .before .args .front) in
@@ -75,27 +66,21 @@ returns-3 c =
     let z : nameBetween f b (map lower h) ≡ [] = name-is f b h (omega arith) ∙ rw t in
     (c .nameless3 .ensures .0 ∙ ap padded (sym z), c .nameless3 .ensures .1 ∙ ap length (sym z))
 
--- src/human.rt:127:20
 sub-is-lowered : tie.Need-sub-is-lowered
 sub-is-lowered c = search needs
 
--- src/human.rt:127:20
 part-is-lowered-start : tie.Need-part-is-lowered-start
 part-is-lowered-start c = search needs
 
--- src/human.rt:127:20
 part-is-lowered-end : tie.Need-part-is-lowered-end
 part-is-lowered-end c = search needs
 
--- src/human.rt:127:9
 is-lowered-requires-2 : tie.Need-is-lowered-requires-2
 is-lowered-requires-2 c κs = search needs
 
--- src/human.rt:128:9
 nameless-requires-4 : tie.Need-nameless-requires-4
 nameless-requires-4 c κs = search needs
 
--- src/human.rt:128:9
 returns-4 : tie.Need-returns-4
 returns-4 c =
     let f = now (c .before .before .before .before .before .before .before .before .before .before .before .before .args .front) in
@@ -106,23 +91,18 @@ returns-4 c =
     let z : nameBetween f b (map lower h) ≡ [] = name-is f b h (omega arith) ∙ rw (t, u) in
     (c .nameless4 .ensures .0 ∙ ap padded (sym z), c .nameless4 .ensures .1 ∙ ap length (sym z))
 
--- src/human.rt:130:27
 sub-lower-name : tie.Need-sub-lower-name
 sub-lower-name c = search needs
 
--- src/human.rt:130:27
 part-lower-name-start : tie.Need-part-lower-name-start
 part-lower-name-start c = search needs
 
--- src/human.rt:130:27
 part-lower-name-end : tie.Need-part-lower-name-end
 part-lower-name-end c = search needs
 
--- src/human.rt:130:9
 lower-name-requires : tie.Need-lower-name-requires
 lower-name-requires c κs = search needs
 
--- src/human.rt:133:17
 array-share-prefix-bytes : tie.Need-array-share-prefix-bytes
 array-share-prefix-bytes c =
     let f = now (c .before .before .before .before .before .before .before .before .before .before .before .before .before .before .args .front) in
@@ -131,7 +111,6 @@ array-share-prefix-bytes c =
     let s = shortened (map lower (take (length h - length b - length f) (drop (length f) h))) in
     padded-fits s _ _ (c .before .lower-name .ensures .0) (c .before .lower-name .ensures .1)
 
--- src/human.rt:133:17
 slice-aggregate-is-name : tie.Need-slice-aggregate-is-name
 slice-aggregate-is-name c =
     let f = now (c .before .before .before .before .before .before .before .before .before .before .before .before .before .before .before .args .front) in
@@ -140,15 +119,12 @@ slice-aggregate-is-name c =
     let s = shortened (map lower (take (length h - length b - length f) (drop (length f) h))) in
     sym (length-take-le _ _ (padded-fits s _ _ (c .before .before .lower-name .ensures .0) (c .before .before .lower-name .ensures .1)))
 
--- src/human.rt:133:9
 is-name-requires : tie.Need-is-name-requires
 is-name-requires c κs = search needs
 
--- src/human.rt:134:9
 nameless-requires-5 : tie.Need-nameless-requires-5
 nameless-requires-5 c κs = search needs
 
--- src/human.rt:134:9
 returns-5 : tie.Need-returns-5
 returns-5 c =
     let f = now (c .before .before .before .before .before .before .before .before .before .before .before .before .before .before .before .before .before .before .args .front) in
@@ -164,7 +140,6 @@ returns-5 c =
     let z : nameBetween f b (map lower h) ≡ [] = name-is f b h (omega arith) ∙ rw (t, u, v) in
     (c .nameless5 .ensures .0 ∙ ap padded (sym z), c .nameless5 .ensures .1 ∙ ap length (sym z))
 
--- src/human.rt:110:1
 returns-6 : tie.Need-returns-6
 returns-6 c =
     let f = now (c .before .before .before .before .before .before .before .before .before .before .before .before .before .before .before .before .before .args .front) in

@@ -12,46 +12,36 @@ use Rattle.bech32.proofs.Laws.Human.{name-form}
 use Rattle.bech32.proofs.human.name_in.Statement.{statement}
 use Rattle.bech32.proofs.human.name_in.Tie as tie
 
--- src/human.rt:145:48
 enum-told : tie.Need-enum-told
 enum-told c = search needs
 
--- src/human.rt:145:48
 slice-aggregate-name-between : tie.Need-slice-aggregate-name-between
 slice-aggregate-name-between c = search needs
 
--- src/human.rt:145:57
 slice-aggregate-name-between-2 : tie.Need-slice-aggregate-name-between-2
 slice-aggregate-name-between-2 c = search needs
 
--- src/human.rt:145:28
 name-between-requires : tie.Need-name-between-requires
 name-between-requires c κs = search needs
 
--- src/human.rt:146:47
 enum-told-2 : tie.Need-enum-told-2
 enum-told-2 c = search needs
 
--- src/human.rt:146:47
 slice-aggregate-name-between-3 : tie.Need-slice-aggregate-name-between-3
 slice-aggregate-name-between-3 c = search needs
 
--- src/human.rt:146:63
 slice-aggregate-name-between-4 : tie.Need-slice-aggregate-name-between-4
 slice-aggregate-name-between-4 c = search needs
 
--- src/human.rt:146:27
 name-between-requires-2 : tie.Need-name-between-requires-2
 name-between-requires-2 c κs = search needs
 
--- src/human.rt:140:1
 returns : tie.Need-returns
 returns c =
     let h = map lower (now (c .before .before .before .before .before .before .args .human)) in
     let e : nameOr (formOf (c .before .before .before .before .before .before .args .kind)) h ≡ nameBetween (recipient .front) (recipient .back) h = rw (c .before .before .before .enum-told .given .1) (name-form recipient h) in
     (c .name-between .ensures .0 ∙ ap padded (sym e), c .name-between .ensures .1 ∙ ap length (sym e))
 
--- src/human.rt:140:1
 returns-2 : tie.Need-returns-2
 returns-2 c =
     let h = map lower (now (c .before .before .before .before .before .before .args .human)) in

@@ -7,7 +7,7 @@ use borrow.Author.Needs.{needs}
 use borrow.Author.Tests.{not-true, not-false}
 use denote.Ref.{now}
 use Rattle.symbols.specs.Charset.{lower}
-use Rattle.bech32.specs.Calls.{padded, givenName}
+use Rattle.bech32.specs.Calls.{padded}
 use Rattle.bech32.specs.Steps.{shortened}
 use Rattle.bech32.specs.Text.{isName}
 use Rattle.bech32.proofs.Laws.Human.{name-shortened}

@@ -18,31 +18,24 @@ Inv-loop kind word out₀ i₀ out i = (i ≤ length word) × (length out ≡ le
 abbrev μ-loop : tie.MeasureT-loop
 μ-loop kind word out₀ i₀ out i = length word - i
 
--- src/human.rt:167:5
 loop-holds : tie.Need-loop-holds Inv-loop μ-loop
 loop-holds c = (search needs, refl, refl)
 
--- src/human.rt:168:30
 shared-slice-read-cased : tie.Need-shared-slice-read-cased Inv-loop μ-loop
 shared-slice-read-cased c = search needs
 
--- src/human.rt:168:18
 cased-requires : tie.Need-cased-requires Inv-loop μ-loop
 cased-requires c κs = search needs
 
--- src/human.rt:168:9
 slice-write-out : tie.Need-slice-write-out Inv-loop μ-loop
 slice-write-out c = search needs
 
--- src/human.rt:169:9
 add-i : tie.Need-add-i Inv-loop μ-loop
 add-i c = search needs
 
--- src/human.rt:167:5
 loop-less : tie.Need-loop-less Inv-loop μ-loop
 loop-less c = search needs
 
--- src/human.rt:167:5
 loop-again : tie.Need-loop-again Inv-loop μ-loop
 loop-again c = (
   search needs,
@@ -50,11 +43,9 @@ loop-again c = (
   map-store (casedByte (formOf (c .before .before .before .before .before .before .args .kind))) (now (c .before .before .before .before .before .before .args .word)) (c .before .before .before .loop .out) (now (c .before .before .before .before .before .before .args .out)) (c .before .before .before .loop .i) (c .cased .result) (c .before .before .before .loop .inv .2) (c .before .before .loop-test .taken) (c .before .before .before .before .before .before .pre) (c .cased .ensures),
 )
 
--- src/human.rt:162:1
 same-length : tie.Need-same-length Inv-loop μ-loop
 same-length c = search needs
 
--- src/human.rt:162:1
 returns : tie.Need-returns Inv-loop μ-loop
 returns c =
     let k = formOf (c .before .before .before .before .args .kind) in

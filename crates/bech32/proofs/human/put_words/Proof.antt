@@ -12,51 +12,39 @@ use Rattle.bech32.proofs.human.put_words.Tie as tie
 
 -- `put_words` meets its contract.
 
--- src/human.rt:179:13
 add-b : tie.Need-add-b
 add-b c = search needs
 
--- src/human.rt:180:5
 put-word-requires : tie.Need-put-word-requires
 put-word-requires c κs = search needs
 
--- src/human.rt:181:26
 sub-put-word : tie.Need-sub-put-word
 sub-put-word c = search needs
 
--- src/human.rt:181:26
 part-put-word-start : tie.Need-part-put-word-start
 part-put-word-start c = search needs
 
--- src/human.rt:181:26
 part-put-word-end : tie.Need-part-put-word-end
 part-put-word-end c = search needs
 
--- src/human.rt:181:5
 put-word-requires-2 : tie.Need-put-word-requires-2
 put-word-requires-2 c κs = search needs
 
--- src/human.rt:182:26
 sub-put-word-2 : tie.Need-sub-put-word-2
 sub-put-word-2 c = search needs
 
--- src/human.rt:182:26
 part-put-word-start-2 : tie.Need-part-put-word-start-2
 part-put-word-start-2 c = search needs
 
--- src/human.rt:182:26
 part-put-word-end-2 : tie.Need-part-put-word-end-2
 part-put-word-end-2 c = search needs
 
--- src/human.rt:182:5
 put-word-requires-3 : tie.Need-put-word-requires-3
 put-word-requires-3 c κs = search needs
 
--- src/human.rt:174:1
 same-length : tie.Need-same-length
 same-length c = search needs
 
--- src/human.rt:174:1
 returns : tie.Need-returns
 returns c =
     let k = formOf (c .before .before .before .before .before .before .before .before .before .before .before .before .before .before .before .before .args .kind) in

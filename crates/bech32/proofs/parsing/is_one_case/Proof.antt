@@ -1,25 +1,18 @@
+-- The disjunction, its left side first.
 use mathlib.Core.Path.{sym, _∙_}
 use borrow.Author.Needs.{needs}
 use Rattle.bech32.proofs.parsing.is_one_case.Statement.{statement}
 use Rattle.bech32.proofs.parsing.is_one_case.Tie as tie
-use Rattle.bech32.proofs.parsing.is_one_case.Reads as reads
-use Rattle.bech32.proofs.parsing.is_one_case.Lts as lts
-use Rattle.bech32.proofs.parsing.no_lower.Reads as no-lower-reads
-use Rattle.bech32.proofs.parsing.no_upper.Reads as no-upper-reads
 
--- src/parsing.rt:58:8
 no-lower-requires : tie.Need-no-lower-requires
 no-lower-requires c κs = search needs
 
--- src/parsing.rt:59:9
 returns : tie.Need-returns
 returns c = rw (sym (c .before .no-lower .ensures) ∙ c .if1 .taken)
 
--- src/parsing.rt:61:5
 no-upper-requires : tie.Need-no-upper-requires
 no-upper-requires c κs = search needs
 
--- src/parsing.rt:55:1
 returns-2 : tie.Need-returns-2
 returns-2 c = rw (sym (c .before .before .no-lower .ensures) ∙ c .before .if1 .left) (c .no-upper .ensures)
 

@@ -1,3 +1,4 @@
+-- Invariant: `good` says whether none of the first i bytes is in lower case.
 use Prim.Native.Nat.{_-_, _≤_}
 use mathlib.Core.Path.{_≡_, refl, ap, _∙_}
 use mathlib.Core.Bool.{not}
@@ -11,9 +12,6 @@ use Rattle.bech32.proofs.Laws.Parsing.{all-one}
 use Rattle.symbols.specs.Charset.{isLower}
 use Rattle.bech32.proofs.parsing.no_lower.Statement.{statement}
 use Rattle.bech32.proofs.parsing.no_lower.Tie as tie
-use Rattle.bech32.proofs.parsing.no_lower.Reads as reads
-use Rattle.bech32.proofs.parsing.no_lower.Lts as lts
-use Rattle.symbols.proofs.is_lower.Reads as is-lower-reads
 
 abbrev Inv-loop : tie.InvT-loop
 Inv-loop text good₀ i₀ good i =
@@ -22,32 +20,25 @@ Inv-loop text good₀ i₀ good i =
 abbrev μ-loop : tie.MeasureT-loop
 μ-loop text good₀ i₀ good i = length text - i
 
--- src/parsing.rt:23:5
 loop-holds : tie.Need-loop-holds Inv-loop μ-loop
 unfolding all
 loop-holds c = (search needs, refl)
 
--- src/parsing.rt:24:33
 shared-slice-read-is-lower : tie.Need-shared-slice-read-is-lower Inv-loop μ-loop
 shared-slice-read-is-lower c = search needs
 
--- src/parsing.rt:24:24
 is-lower-requires : tie.Need-is-lower-requires Inv-loop μ-loop
 is-lower-requires c κs = search needs
 
--- src/parsing.rt:25:9
 add-i : tie.Need-add-i Inv-loop μ-loop
 add-i c = search needs
 
--- src/parsing.rt:23:5
 loop-less : tie.Need-loop-less Inv-loop μ-loop
 loop-less c = search needs
 
--- src/parsing.rt:23:5
 loop-again : tie.Need-loop-again Inv-loop μ-loop
 loop-again c = (search needs, all-one (λ b. not (isLower b)) (now (c .before .before .before .before .before .args .text)) (c .before .before .before .loop .i) (omega arith) (c .before .before .before .loop .inv .1) (ap not (c .is-lower .ensures)))
 
--- src/parsing.rt:18:1
 returns : tie.Need-returns Inv-loop μ-loop
 returns c = c .before .loop .inv .1 ∙ ap (all (λ b. not (isLower b))) (take-all (c .before .loop .i) (now (c .before .before .before .args .text)) (omega arith))
 

@@ -1,3 +1,4 @@
+-- The symbols are put first and then translated in place, which is allowed as all of them are below 32.
 use Prim.Native.Nat.{_+_}
 use mathlib.Core.Path.{_≡_, sym, ap, ap₂, _∙_}
 use mathlib.Core.List.{_++_, map}
@@ -15,40 +16,27 @@ use Rattle.bech32.proofs.Laws.Writing.{are-bytes, with-length, with-sym
 use borrow.Author.Needs.{needs}
 use Rattle.bech32.proofs.writing.put_characters.Statement.{statement}
 use Rattle.bech32.proofs.writing.put_characters.Tie as tie
-use Rattle.bech32.proofs.writing.put_characters.Reads as reads
-use Rattle.bech32.proofs.writing.put_characters.Lts as lts
-use Rattle.bech32.proofs.charset.characters.Reads as characters-reads
-use Rattle.bech32.proofs.writing.symbols_length.Reads as symbols-length-reads
-use Rattle.bech32.proofs.writing.put_symbols.Reads as put-symbols-reads
-use Rattle.bech32.proofs.writing.translate.Reads as translate-reads
 
--- src/writing.rt:27:15
 symbols-length-requires : tie.Need-symbols-length-requires
 symbols-length-requires c κs = search needs
 
--- src/writing.rt:27:15
 add-end : tie.Need-add-end
 add-end c = search needs
 
--- src/writing.rt:28:5
 put-symbols-requires : tie.Need-put-symbols-requires
 put-symbols-requires c κs = search needs
 
--- src/writing.rt:29:17
 characters-requires : tie.Need-characters-requires
 characters-requires c κs = search needs
 
--- src/writing.rt:30:29
 slice-relend-prefix-translate : tie.Need-slice-relend-prefix-translate
 slice-relend-prefix-translate c = search needs
 
--- src/writing.rt:30:29
 slice-aggregate-translate : tie.Need-slice-aggregate-translate
 slice-aggregate-translate c =
     let n = c .before .before .before .before .before .before .before .symbols-length .result in
     sym (length-take-le (n + 6) (c .before .before .before .before .before .put-symbols .last .1 .1 .0) (omega (arith, c .before .before .before .before .before .before .before .symbols-length .ensures, c .before .before .before .before .before .put-symbols .kept .1 .1 .0, c .before .before .before .before .before .before .before .before .before .before .pre .1)))
 
--- src/writing.rt:30:5
 translate-requires : tie.Need-translate-requires
 translate-requires c κs =
     let p = now (c .before .before .before .before .before .before .before .before .before .before .args .payload) in
@@ -59,11 +47,9 @@ translate-requires c κs =
     let e : take (n + 6) (c .before .before .before .before .before .put-symbols .last .1 .1 .0) ≡ w = ap (take (n + 6)) (c .before .before .before .before .before .put-symbols .ensures) ∙ take-at w (drop (symbolsSize (length p) + 6) o₀) (n + 6) k in
     (c .before .before .characters .ensures, ap areSymbols e ∙ with-symbols (c .before .before .before .before .before .before .before .before .before .before .args .from) p (are-bytes p (λ i. omega (arith, c .before .before .before .before .before .before .before .before .before .shared-slice-known .given i))))
 
--- src/writing.rt:22:1
 same-length : tie.Need-same-length
 same-length c = search needs
 
--- src/writing.rt:22:1
 returns : tie.Need-returns
 returns c =
     let p = now (c .before .before .before .before .before .before .before .before .before .before .before .before .before .args .payload) in

@@ -1,3 +1,4 @@
+-- The six writes, from place 0 on, put the list of the checksum's six symbols.
 use lib.ListN.{length-set}
 use native.Mathlib.Omega.{arith}
 use denote.Ref.{now}
@@ -6,67 +7,49 @@ use Rattle.symbols.specs.Checksum.{checksum}
 use borrow.Author.Needs.{needs}
 use Rattle.bech32.proofs.writing.put_checksum.Statement.{statement}
 use Rattle.bech32.proofs.writing.put_checksum.Tie as tie
-use Rattle.bech32.proofs.writing.put_checksum.Reads as reads
-use Rattle.bech32.proofs.writing.put_checksum.Lts as lts
-use Rattle.bech32.proofs.writing.six_zeros.Reads as six-zeros-reads
 
--- src/writing.rt:24:13
 six-zeros-requires : tie.Need-six-zeros-requires
 six-zeros-requires c κs = search needs
 
--- src/writing.rt:25:14
 cast-out : tie.Need-cast-out
 cast-out c = search needs
 
--- src/writing.rt:25:5
 slice-write-out : tie.Need-slice-write-out
 slice-write-out c = search needs
 
--- src/writing.rt:26:14
 cast-out-2 : tie.Need-cast-out-2
 cast-out-2 c = search needs
 
--- src/writing.rt:26:5
 slice-write-out-2 : tie.Need-slice-write-out-2
 slice-write-out-2 c = simp length-set (omega arith)
 
--- src/writing.rt:27:14
 cast-out-3 : tie.Need-cast-out-3
 cast-out-3 c = search needs
 
--- src/writing.rt:27:5
 slice-write-out-3 : tie.Need-slice-write-out-3
 slice-write-out-3 c = simp length-set (omega arith)
 
--- src/writing.rt:28:14
 cast-out-4 : tie.Need-cast-out-4
 cast-out-4 c = search needs
 
--- src/writing.rt:28:5
 slice-write-out-4 : tie.Need-slice-write-out-4
 slice-write-out-4 c = simp length-set (omega arith)
 
--- src/writing.rt:29:14
 cast-out-5 : tie.Need-cast-out-5
 cast-out-5 c = search needs
 
--- src/writing.rt:29:5
 slice-write-out-5 : tie.Need-slice-write-out-5
 slice-write-out-5 c = simp length-set (omega arith)
 
--- src/writing.rt:30:14
 cast-out-6 : tie.Need-cast-out-6
 cast-out-6 c = search needs
 
--- src/writing.rt:30:5
 slice-write-out-6 : tie.Need-slice-write-out-6
 slice-write-out-6 c = simp length-set (omega arith)
 
--- src/writing.rt:20:1
 same-length : tie.Need-same-length
 same-length c = search needs
 
--- src/writing.rt:20:1
 returns : tie.Need-returns
 returns c =
     let o = now (c .before .before .args .out) in

@@ -1,3 +1,4 @@
+-- The payload's symbols, and behind them the checksum of the state folded from just those.
 use Prim.Native.Nat.{_+_}
 use mathlib.Core.Path.{_≡_, refl, sym, ap, ap₂, _∙_}
 use mathlib.Core.List.{_++_}
@@ -14,54 +15,37 @@ use Rattle.bech32.proofs.Laws.Writing.{put-behind}
 use borrow.Author.Needs.{needs}
 use Rattle.bech32.proofs.writing.put_symbols.Statement.{statement}
 use Rattle.bech32.proofs.writing.put_symbols.Tie as tie
-use Rattle.bech32.proofs.writing.put_symbols.Reads as reads
-use Rattle.bech32.proofs.writing.put_symbols.Lts as lts
-use Rattle.symbols.proofs.fold_symbols.Reads as fold-symbols-reads
-use Rattle.symbols.proofs.encode.Reads as encode-reads
-use Rattle.bech32.proofs.writing.symbols_length.Reads as symbols-length-reads
-use Rattle.bech32.proofs.writing.put_checksum.Reads as put-checksum-reads
 
--- src/writing.rt:39:9
 symbols-length-requires : tie.Need-symbols-length-requires
 symbols-length-requires c κs = search needs
 
--- src/writing.rt:40:5
 encode-requires : tie.Need-encode-requires
 encode-requires c κs = search needs
 
--- src/writing.rt:41:30
 slice-reshare-prefix-fold-symbols : tie.Need-slice-reshare-prefix-fold-symbols
 slice-reshare-prefix-fold-symbols c = search needs
 
--- src/writing.rt:41:30
 slice-aggregate-fold-symbols : tie.Need-slice-aggregate-fold-symbols
 slice-aggregate-fold-symbols c = sym (length-take-le (c .before .before .before .before .before .symbols-length .result) (c .before .before .before .encode .last .1 .0) (omega (arith, c .before .before .before .before .before .symbols-length .ensures, c .before .before .before .encode .kept .1 .0, c .before .before .before .before .before .before .before .before .pre .1)))
 
--- src/writing.rt:41:9
 fold-symbols-requires : tie.Need-fold-symbols-requires
 fold-symbols-requires c κs = search needs
 
--- src/writing.rt:42:25
 sub-put-checksum : tie.Need-sub-put-checksum
 sub-put-checksum c = search needs
 
--- src/writing.rt:42:25
 part-put-checksum-start : tie.Need-part-put-checksum-start
 part-put-checksum-start c = search needs
 
--- src/writing.rt:42:25
 part-put-checksum-end : tie.Need-part-put-checksum-end
 part-put-checksum-end c = search needs
 
--- src/writing.rt:42:5
 put-checksum-requires : tie.Need-put-checksum-requires
 put-checksum-requires c κs = search needs
 
--- src/writing.rt:34:1
 same-length : tie.Need-same-length
 same-length c = search needs
 
--- src/writing.rt:34:1
 returns : tie.Need-returns
 returns c =
     let a = c .before .before .before .before .before .before .before .before .encode .last .1 .0 in

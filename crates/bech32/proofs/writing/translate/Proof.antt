@@ -1,3 +1,4 @@
+-- Invariant: the first i symbols are translated, and from i on they stand as they were.
 use Prim.Native.Nat.{_-_, _≤_}
 use mathlib.Core.Path.{_≡_, refl, ap, ap₂, _∙_}
 use mathlib.Core.List.{_++_, map}
@@ -17,9 +18,6 @@ use Rattle.symbols.proofs.Laws.Maps.{map-id}
 use Rattle.symbols.specs.Checksum.{areSymbols}
 use Rattle.bech32.proofs.writing.translate.Statement.{statement}
 use Rattle.bech32.proofs.writing.translate.Tie as tie
-use Rattle.bech32.proofs.writing.translate.Reads as reads
-use Rattle.bech32.proofs.writing.translate.Lts as lts
-use Rattle.bech32.proofs.charset.character.Reads as character-reads
 
 abbrev Inv-loop : tie.InvT-loop
 Inv-loop kind table out₀ i₀ out i =
@@ -28,15 +26,12 @@ Inv-loop kind table out₀ i₀ out i =
 abbrev μ-loop : tie.MeasureT-loop
 μ-loop kind table out₀ i₀ out i = length out₀ - i
 
--- src/writing.rt:52:5
 loop-holds : tie.Need-loop-holds Inv-loop μ-loop
 loop-holds c = (search needs, refl, refl)
 
--- src/writing.rt:53:41
 slice-read-character : tie.Need-slice-read-character Inv-loop μ-loop
 slice-read-character c = search needs
 
--- src/writing.rt:53:18
 character-requires : tie.Need-character-requires Inv-loop μ-loop
 character-requires c κs =
     let out₀ = now (c .before .before .before .before .args .out) in
@@ -44,28 +39,22 @@ character-requires c κs =
     let e = front-next (inCase k (map characterOf out₀)) (c .before .before .loop .out) out₀ (c .before .before .loop .i) (c .before .before .loop .inv .2) (omega (arith, case-length k (map characterOf out₀), length-map out₀ characterOf)) in
     (c .before .before .before .before .pre .0, rw e (symbol-at (λ v. v) out₀ (c .before .before .loop .i) (ap areSymbols (map-id out₀) ∙ c .before .before .before .before .pre .1) (omega arith)))
 
--- src/writing.rt:53:9
 slice-write-out : tie.Need-slice-write-out Inv-loop μ-loop
 slice-write-out c = search needs
 
--- src/writing.rt:54:9
 add-i : tie.Need-add-i Inv-loop μ-loop
 add-i c = search needs
 
--- src/writing.rt:52:5
 loop-less : tie.Need-loop-less Inv-loop μ-loop
 loop-less c = search needs
 
--- src/writing.rt:52:5
 loop-again : tie.Need-loop-again Inv-loop μ-loop
 loop-again c =
     (search needs, simp length-set (c .before .before .before .loop .inv .1), translated (formOf (c .before .before .before .before .before .args .kind)) (c .before .before .before .loop .out) (now (c .before .before .before .before .before .args .out)) (c .before .before .before .loop .i) (c .character .result) (c .before .before .before .loop .inv .2) (omega arith) (c .character .ensures))
 
--- src/writing.rt:46:1
 same-length : tie.Need-same-length Inv-loop μ-loop
 same-length c = c .before .loop .inv .1
 
--- src/writing.rt:46:1
 returns : tie.Need-returns Inv-loop μ-loop
 returns c =
     let out₀ = now (c .before .before .before .args .out) in

@@ -1,3 +1,4 @@
+-- By name, length and buffer: a payload of more than 1,024 bytes makes a text that is too long.
 use Prim.Native.Nat.{_+_}
 use mathlib.Core.Path.{_≡_, sym, ap₂, _∙_}
 use lib.ListN.{length}
@@ -10,18 +11,10 @@ use Rattle.bech32.proofs.Laws.Writing.{name-short, form-short, human-si
 use borrow.Author.Needs.{needs}
 use Rattle.bech32.proofs.writing.write.Statement.{statement}
 use Rattle.bech32.proofs.writing.write.Tie as tie
-use Rattle.bech32.proofs.writing.write.Reads as reads
-use Rattle.bech32.proofs.writing.write.Lts as lts
-use Rattle.bech32.proofs.human.human_length.Reads as human-length-reads
-use Rattle.bech32.proofs.human.is_name.Reads as is-name-reads
-use Rattle.bech32.proofs.writing.symbols_length.Reads as symbols-length-reads
-use Rattle.bech32.proofs.writing.write_into.Reads as write-into-reads
 
--- src/writing.rt:33:9
 is-name-requires : tie.Need-is-name-requires
 is-name-requires c κs = search needs
 
--- src/writing.rt:34:9
 returns : tie.Need-returns
 returns c =
     let k = formOf (c .before .before .before .before .before .args .kind) in
@@ -30,7 +23,6 @@ returns c =
     let o = now (c .before .before .before .before .before .args .out) in
     writes-not k name payload o (nameless k name payload o (sym (c .before .is-name .ensures) ∙ not-true (c .before .is-name .result) (c .if1 .taken)))
 
--- src/writing.rt:37:9
 returns-2 : tie.Need-returns-2
 returns-2 c =
     let k = formOf (c .before .before .before .before .before .before .args .kind) in
@@ -39,15 +31,12 @@ returns-2 c =
     let o = now (c .before .before .before .before .before .before .args .out) in
     writes-not k name payload o (too-long k name payload o (omega (arith, text-length k name payload)))
 
--- src/writing.rt:39:13
 human-length-requires : tie.Need-human-length-requires
 human-length-requires c κs = name-short (now (c .before .before .before .before .before .before .args .name)) (sym (c .before .before .is-name .ensures) ∙ not-false (c .before .before .is-name .result) (c .before .if1 .left))
 
--- src/writing.rt:39:46
 symbols-length-requires : tie.Need-symbols-length-requires
 symbols-length-requires c κs = search needs
 
--- src/writing.rt:39:13
 add-n : tie.Need-add-n
 add-n c =
     let k = formOf (c .before .before .before .before .before .before .before .before .args .kind) in
@@ -57,7 +46,6 @@ add-n c =
     let h = form-short (c .before .before .before .before .before .before .before .before .args .kind) in
     omega (arith, c .symbols-length .ensures, c .before .human-length .ensures, name-short (now (c .before .before .before .before .before .before .before .before .args .name)) (sym (c .before .before .before .before .is-name .ensures) ∙ not-false (c .before .before .before .before .is-name .result) (c .before .before .before .if1 .left)))
 
--- src/writing.rt:39:13
 add-n-2 : tie.Need-add-n-2
 add-n-2 c =
     let k = formOf (c .before .before .before .before .before .before .before .before .args .kind) in
@@ -67,7 +55,6 @@ add-n-2 c =
     let h = form-short (c .before .before .before .before .before .before .before .before .args .kind) in
     omega (arith, c .symbols-length .ensures, c .before .human-length .ensures, name-short (now (c .before .before .before .before .before .before .before .before .args .name)) (sym (c .before .before .before .before .is-name .ensures) ∙ not-false (c .before .before .before .before .is-name .result) (c .before .before .before .if1 .left)))
 
--- src/writing.rt:41:9
 returns-3 : tie.Need-returns-3
 returns-3 c =
     let k = formOf (c .before .before .before .before .before .before .before .before .before .args .kind) in
@@ -79,7 +66,6 @@ returns-3 c =
     text-length k name payload ∙ ap₂ (λ x y. x + y + 7) (human-size k name ∙ sym (c .before .before .human-length .ensures)) (sym (c .before .symbols-length .ensures)) in
     writes-not k name payload o (too-long k name payload o (omega arith))
 
--- src/writing.rt:44:9
 returns-4 : tie.Need-returns-4
 returns-4 c =
     let k = formOf (c .before .before .before .before .before .before .before .before .before .before .args .kind) in
@@ -91,7 +77,6 @@ returns-4 c =
     text-length k name payload ∙ ap₂ (λ x y. x + y + 7) (human-size k name ∙ sym (c .before .before .before .human-length .ensures)) (sym (c .before .before .symbols-length .ensures)) in
     writes-short k name payload o (writable k name payload o (sym (c .before .before .before .before .before .before .is-name .ensures) ∙ not-false (c .before .before .before .before .before .before .is-name .result) (c .before .before .before .before .before .if1 .left)) (omega arith)) (omega arith)
 
--- src/writing.rt:46:5
 write-into-requires : tie.Need-write-into-requires
 write-into-requires c κs =
     let k = formOf (c .before .before .before .before .before .before .before .before .before .before .before .args .kind) in
@@ -103,11 +88,9 @@ write-into-requires c κs =
     text-length k name payload ∙ ap₂ (λ x y. x + y + 7) (human-size k name ∙ sym (c .before .before .before .before .human-length .ensures)) (sym (c .before .before .before .symbols-length .ensures)) in
     ((sym (c .before .before .before .before .before .before .before .is-name .ensures) ∙ not-false (c .before .before .before .before .before .before .before .is-name .result) (c .before .before .before .before .before .before .if1 .left)), (c .before .before .before .before .before .if2 .left, omega (arith, text-length k name payload)))
 
--- src/writing.rt:29:1
 same-length : tie.Need-same-length
 same-length c = search needs
 
--- src/writing.rt:29:1
 returns-5 : tie.Need-returns-5
 returns-5 c =
     let k = formOf (c .before .before .before .before .before .before .before .before .before .before .before .before .before .before .args .kind) in

@@ -1,3 +1,4 @@
+-- The human part, "1" and the characters one behind the other; the state is folded from the human part as it was put.
 use Prim.Native.Nat.{_+_, _-_}
 use mathlib.Core.Path.{_≡_, refl, sym, _∙_}
 use lib.ListN.{length, set, length-set, length-drop}
@@ -13,24 +14,15 @@ use Rattle.bech32.proofs.Laws.Writing.{name-short, human-size, assemble
 use borrow.Author.Needs.{needs}
 use Rattle.bech32.proofs.writing.write_into.Statement.{statement}
 use Rattle.bech32.proofs.writing.write_into.Tie as tie
-use Rattle.bech32.proofs.writing.write_into.Reads as reads
-use Rattle.bech32.proofs.writing.write_into.Lts as lts
-use Rattle.symbols.proofs.fold_human.Reads as fold-human-reads
-use Rattle.bech32.proofs.human.human_length.Reads as human-length-reads
-use Rattle.bech32.proofs.human.put_human.Reads as put-human-reads
-use Rattle.bech32.proofs.writing.put_characters.Reads as put-characters-reads
 
--- src/writing.rt:57:9
 human-length-requires : tie.Need-human-length-requires
 human-length-requires c κs =
     let name = now (c .before .before .before .args .name) in
     name-short name (c .before .before .before .pre .0)
 
--- src/writing.rt:58:5
 put-human-requires : tie.Need-put-human-requires
 put-human-requires c κs = omega (arith, c .before .before .before .before .before .pre .1 .1)
 
--- src/writing.rt:59:5
 slice-write-out : tie.Need-slice-write-out
 slice-write-out c =
     let k = formOf (c .before .before .before .before .before .before .before .before .args .kind) in
@@ -38,7 +30,6 @@ slice-write-out c =
     let n : c .before .before .before .before .human-length .result ≡ length (humanPart k name) = c .before .before .before .before .human-length .ensures ∙ sym (human-size k name) in
     omega (arith, c .before .before .put-human .kept .1 .1 .0, c .before .before .before .before .before .before .before .before .pre .1 .1)
 
--- src/writing.rt:60:28
 slice-reshare-prefix-fold-human : tie.Need-slice-reshare-prefix-fold-human
 slice-reshare-prefix-fold-human c =
     let k = formOf (c .before .before .before .before .before .before .before .before .args .kind) in
@@ -46,7 +37,6 @@ slice-reshare-prefix-fold-human c =
     let n : c .before .before .before .before .human-length .result ≡ length (humanPart k name) = c .before .before .before .before .human-length .ensures ∙ sym (human-size k name) in
     simp length-set (omega (arith, c .before .before .put-human .kept .1 .1 .0, c .before .before .before .before .before .before .before .before .pre .1 .1))
 
--- src/writing.rt:60:28
 slice-aggregate-fold-human : tie.Need-slice-aggregate-fold-human
 slice-aggregate-fold-human c =
     let k = formOf (c .before .before .before .before .before .before .before .before .before .args .kind) in
@@ -54,11 +44,9 @@ slice-aggregate-fold-human c =
     let n : c .before .before .before .before .before .human-length .result ≡ length (humanPart k name) = c .before .before .before .before .before .human-length .ensures ∙ sym (human-size k name) in
     sym (length-take-le (c .before .before .before .before .before .human-length .result) _ (simp length-set (omega (arith, c .before .before .before .put-human .kept .1 .1 .0, c .before .before .before .before .before .before .before .before .before .pre .1 .1))))
 
--- src/writing.rt:60:9
 fold-human-requires : tie.Need-fold-human-requires
 fold-human-requires c κs = search needs
 
--- src/writing.rt:61:16
 add-from : tie.Need-add-from
 add-from c =
     let k = formOf (c .before .before .before .before .before .before .before .before .before .before .args .kind) in
@@ -66,7 +54,6 @@ add-from c =
     let n : c .before .before .before .before .before .before .human-length .result ≡ length (humanPart k name) = c .before .before .before .before .before .before .human-length .ensures ∙ sym (human-size k name) in
     omega (arith, c .before .before .before .before .before .before .before .before .before .before .pre .1 .1)
 
--- src/writing.rt:62:42
 sub-put-characters : tie.Need-sub-put-characters
 sub-put-characters c =
     let k = formOf (c .before .before .before .before .before .before .before .before .before .before .args .kind) in
@@ -74,7 +61,6 @@ sub-put-characters c =
     let n : c .before .before .before .before .before .before .human-length .result ≡ length (humanPart k name) = c .before .before .before .before .before .before .human-length .ensures ∙ sym (human-size k name) in
     simp length-set (omega (arith, c .before .before .before .before .put-human .kept .1 .1 .0, c .before .before .before .before .before .before .before .before .before .before .pre .1 .1))
 
--- src/writing.rt:62:42
 part-put-characters-start : tie.Need-part-put-characters-start
 part-put-characters-start c =
     let k = formOf (c .before .before .before .before .before .before .before .before .before .before .args .kind) in
@@ -82,7 +68,6 @@ part-put-characters-start c =
     let n : c .before .before .before .before .before .before .human-length .result ≡ length (humanPart k name) = c .before .before .before .before .before .before .human-length .ensures ∙ sym (human-size k name) in
     simp length-set (omega (arith, c .before .before .before .before .put-human .kept .1 .1 .0, c .before .before .before .before .before .before .before .before .before .before .pre .1 .1))
 
--- src/writing.rt:62:42
 part-put-characters-end : tie.Need-part-put-characters-end
 part-put-characters-end c =
     let k = formOf (c .before .before .before .before .before .before .before .before .before .before .args .kind) in
@@ -90,7 +75,6 @@ part-put-characters-end c =
     let n : c .before .before .before .before .before .before .human-length .result ≡ length (humanPart k name) = c .before .before .before .before .before .before .human-length .ensures ∙ sym (human-size k name) in
     simp length-set (omega (arith, c .before .before .before .before .put-human .kept .1 .1 .0, c .before .before .before .before .before .before .before .before .before .before .pre .1 .1))
 
--- src/writing.rt:62:5
 put-characters-requires : tie.Need-put-characters-requires
 put-characters-requires c κs =
     let k = formOf (c .before .before .before .before .before .before .before .before .before .before .before .args .kind) in
@@ -99,7 +83,6 @@ put-characters-requires c κs =
     let b = set (c .before .before .before .before .before .put-human .last .1 .1 .0) (c .before .before .before .before .before .before .before .human-length .result) 49 in
     (c .before .before .before .before .before .before .before .before .before .before .before .pre .1 .0, rw (part-rest (c .before .before .before .before .before .before .before .human-length .result + 1) b) (simp (length-drop, length-set) (omega (arith, c .before .before .before .before .before .put-human .kept .1 .1 .0, c .before .before .before .before .before .before .before .before .before .before .before .pre .1 .1))))
 
--- src/writing.rt:51:1
 same-length : tie.Need-same-length
 same-length c =
     let k = formOf (c .before .before .before .before .before .before .before .before .before .before .before .before .before .before .args .kind) in
@@ -109,7 +92,6 @@ same-length c =
     let m = c .before .before .before .before .before .before .before .before .before .before .human-length .result in
     same-len-mid (m + 1) (length (set a m 49) - (m + 1)) (set a m 49) (c .before .before .put-characters .last .1 .1 .1 .0) (c .before .before .put-characters .kept .1 .1 .1 .0) ∙ length-set a m 49 ∙ c .before .before .before .before .before .before .before .before .put-human .kept .1 .1 .0
 
--- src/writing.rt:51:1
 returns : tie.Need-returns
 returns c =
     let k = formOf (c .before .before .before .before .before .before .before .before .before .before .before .before .before .before .args .kind) in

@@ -1,30 +1,23 @@
+-- An accepted command is answered by its word, a refusal by its number, which is never 0.
 use mathlib.Core.Path.{ap}
+use borrow.Author.Needs.{needs}
 use Rattle.refusal.proofs.Laws.Number.{number-not-zero}
 use Rattle.conversation.specs.ReceivingTwo.{took}
-use borrow.Author.Needs.{needs}
 use Rattle.client.proofs.receiving.answer_to.Statement.{statement}
 use Rattle.client.proofs.receiving.answer_to.Tie as tie
-use Rattle.client.proofs.receiving.answer_to.Reads as reads
-use Rattle.client.proofs.receiving.answer_to.Lts as lts
-use Rattle.commands_two.proofs.word_two_of.Reads as word-two-of-reads
 
--- src/receiving.rt:52:46
 enum-told : tie.Need-enum-told
 enum-told c = search needs
 
--- src/receiving.rt:52:46
 word-two-of-requires : tie.Need-word-two-of-requires
 word-two-of-requires c κs = search needs
 
--- src/receiving.rt:53:26
 enum-known-verdict : tie.Need-enum-known-verdict
 enum-known-verdict c = search needs
 
--- src/receiving.rt:48:1
 returns : tie.Need-returns
 returns c = let a = c .before .before .before .args in rw (c .before .enum-told .given .1) (ap (λ w. took w (a .taken) (a .written)) (c .word-two-of .ensures))
 
--- src/receiving.rt:48:1
 returns-2 : tie.Need-returns-2
 returns-2 c = rw (c .before .verdict .given .1, number-not-zero (c .before .verdict .given .0 .0))
 

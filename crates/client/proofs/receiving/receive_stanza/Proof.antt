@@ -1,87 +1,112 @@
-use Prim.Native.Nat.{_≤_}
-use mathlib.Core.Path.{_≡_, ap₂, _∙_}
-use lib.ListN.{length}
+-- Each step of the code is a part of the definition (`received-from`), over the text's own arguments and body.
+use mathlib.Core.Path.{ap, ap₂, _∙_}
+use borrow.Author.Needs.{needs}
 use denote.Ref.{now}
-use Rattle.stanza.specs.Parts.{argumentsIn, bodyIn}
-use Rattle.stanza.proofs.Laws.RoundTrip.{body-limit}
-use Rattle.session.proofs.Laws.Bodies.{body-whole}
-use Rattle.session.specs.declared.phases.Phase.the-variants.{Two}
+use Rattle.refusal.specs.Verdict.{verdictSaid}
+use Rattle.base64.specs.Lines.{bodyOf}
+use Rattle.session.specs.Opening.{nameOf}
+use Rattle.session.specs.Tables.{tablesIn}
+use Rattle.session.specs.Session.{sessionOf}
 use Rattle.conversation.specs.PhaseTwo.{buffersOf}
 use Rattle.conversation.specs.ReceivingTwo.{receivedStanza}
-use Rattle.client.specs.Session.{sessionIn}
-use borrow.Author.Needs.{needs}
+use Rattle.conversation.proofs.Laws.ReceivingTwo.{received-from}
+use Rattle.phase_two.specs.AtOnce.{atOnceSaid}
+use Rattle.phase_two_commands.specs.Commands.{commandSaid, commandOf}
+use Rattle.client.specs.Receiving.{takingSaid}
 use Rattle.client.proofs.receiving.receive_stanza.Statement.{statement}
 use Rattle.client.proofs.receiving.receive_stanza.Tie as tie
-use Rattle.client.proofs.receiving.receive_stanza.Reads as reads
-use Rattle.client.proofs.receiving.receive_stanza.Lts as lts
-use Rattle.client.proofs.receiving.receive_command.Reads as receive-command-reads
-use Rattle.session.proofs.decode.Reads as decode-reads
-use Rattle.session.proofs.name_text.Reads as name-text-reads
-use Rattle.stanza.proofs.arguments_of.Reads as arguments-of-reads
 
--- src/receiving.rt:138:9
 arguments-of-requires : tie.Need-arguments-of-requires
 arguments-of-requires c κs = search needs
 
--- src/receiving.rt:140:38
-slice-aggregate-decode : tie.Need-slice-aggregate-decode
-slice-aggregate-decode c = search needs
+lines-of-requires : tie.Need-lines-of-requires
+lines-of-requires c κs = search needs
 
--- src/receiving.rt:140:9
-decode-requires : tie.Need-decode-requires
-decode-requires c κs = search needs
+body-size-requires : tie.Need-body-size-requires
+body-size-requires c κs = search needs
 
--- src/receiving.rt:146:28
-slice-aggregate-name-text : tie.Need-slice-aggregate-name-text
-slice-aggregate-name-text c = search needs
+parse-two-requires : tie.Need-parse-two-requires
+parse-two-requires c κs = search needs
 
--- src/receiving.rt:146:9
-name-text-requires : tie.Need-name-text-requires
-name-text-requires c κs = search needs
+rule-two-requires : tie.Need-rule-two-requires
+rule-two-requires c κs = search needs
 
--- src/receiving.rt:141:5
-receive-command-requires : tie.Need-receive-command-requires
-receive-command-requires c κs = search needs
+answer-at-once-requires : tie.Need-answer-at-once-requires
+answer-at-once-requires c κs = search needs
 
--- src/receiving.rt:124:1
+at-once-size-requires : tie.Need-at-once-size-requires
+at-once-size-requires c κs = search needs
+
+check-output-requires : tie.Need-check-output-requires
+check-output-requires c κs = search needs
+
+step-two-requires : tie.Need-step-two-requires
+step-two-requires c κs = search needs
+
+write-answer-requires : tie.Need-write-answer-requires
+write-answer-requires c κs = search needs
+
+answer-to-requires : tie.Need-answer-to-requires
+answer-to-requires c κs = search needs
+
+phase-received-two-requires : tie.Need-phase-received-two-requires
+phase-received-two-requires c κs = search needs
+
+moved-requires : tie.Need-moved-requires
+moved-requires c κs = search needs
+
 same-length : tie.Need-same-length
 same-length c = search needs
 
--- src/receiving.rt:124:1
 same-length-2 : tie.Need-same-length-2
 same-length-2 c = search needs
 
--- src/receiving.rt:124:1
 same-length-3 : tie.Need-same-length-3
 same-length-3 c = search needs
 
--- src/receiving.rt:124:1
 same-length-4 : tie.Need-same-length-4
 same-length-4 c = search needs
 
--- src/receiving.rt:124:1
+same-length-5 : tie.Need-same-length-5
+same-length-5 c = search needs
+
 returns : tie.Need-returns
 returns c =
-    let a = c .before .before .before .before .before .before .before .before .before .before .before .before .before .before .before .before .before .before .before .before .before .before .before .before .args in
-    let text = now (a .text) in
-    let long : length (bodyIn text (a .s)) ≤ 6144 = body-limit text (a .s .line) (a .s .body) (a .s .taken) (c .before .before .before .before .before .before .before .before .before .before .before .before .before .before .before .before .before .before .before .before .before .before .before .before .pre) in
-    let body : now (c .before .before .before .before .before .before .before .before .before .before .before .before .before .name-text .result) ≡ bodyIn text (a .s) = c .before .before .before .before .before .before .before .before .before .before .before .before .before .name-text .ensures ∙ c .before .before .before .before .before .before .before .before .before .before .before .before .before .before .before .before .decode .ensures .1 ∙ body-whole text (a .s) 6144 long in
-    λ name.
-    c .before .before .before .before .before .before .before .before .receive-command .ensures name
-    ∙ ap₂ (λ l y. receivedStanza (sessionIn (a .machine) name (a .screen) Two (a .tables)) (buffersOf (now (a .errors)) (now (a .stanzas)) (now (a .returned))) (now (a .out)) l y (a .s .taken)) (c .before .before .before .before .before .before .before .before .before .before .before .before .before .before .before .before .before .before .arguments-of .ensures) body
+    let a = c .before .before .before .before .before .before .before .before .before .before .before .before .before .before .before .before .before .before .before .before .before .before .before .before .before .before .before .before .before .before .before .before .before .before .before .args in
+    let s = a .session in
+    let hs = now (a .header-slots) in
+    let t = tablesIn (s .tables) (now (a .slots)) hs in
+    let b = buffersOf (now (a .errors)) (now (a .stanzas)) (now (a .returned)) in
+    let l = now (c .before .before .before .before .before .before .before .before .before .before .before .before .before .before .before .before .before .before .before .before .before .before .before .before .before .before .before .before .arguments-of .result) in
+    let y = bodyOf (now (c .before .before .before .before .before .before .before .before .before .before .before .before .before .before .before .before .before .before .before .before .before .before .before .before .before .before .before .lines-of .result)) in
+    let e = c .before .before .before .before .before .before .before .before .before .before .before .before .before .before .before .step-two .ensures in
+    rw (c .moved .ensures)
+    (received-from (s .machine) (nameOf (s .name)) (s .screen) (s .phase) t b (now (a .out)) l y (a .s .taken)
+    (commandSaid (c .before .before .before .before .before .before .before .before .before .before .before .before .before .before .before .before .before .before .before .before .before .before .before .before .before .parse-two .result)) (verdictSaid (c .before .before .before .before .before .before .before .before .before .before .before .before .before .before .before .before .before .before .before .before .before .before .before .rule-two .result)) (atOnceSaid (c .before .before .before .before .before .before .before .before .before .before .before .before .before .before .before .before .before .before .before .before .before .before .answer-at-once .result)) (c .before .before .before .before .before .before .before .before .before .before .before .before .before .before .before .before .before .before .before .before .before .at-once-size .result) (verdictSaid (c .before .before .before .before .before .before .before .before .before .before .before .before .before .before .before .before .before .before .before .before .check-output .result)) (verdictSaid (c .before .before .before .before .before .before .before .before .before .before .before .before .before .before .before .step-two .result .verdict)) (takingSaid (c .before .before .answer-to .result)) (c .before .phase-received-two .result) _ _ _
+    (c .before .before .before .before .before .before .before .before .before .before .before .before .before .before .before .before .before .before .before .before .before .before .before .before .before .parse-two .ensures ∙ ap (commandOf (s .machine) l) (c .before .before .before .before .before .before .before .before .before .before .before .before .before .before .before .before .before .before .before .before .before .before .before .before .before .before .body-size .ensures .0)) (c .before .before .before .before .before .before .before .before .before .before .before .before .before .before .before .before .before .before .before .before .before .before .before .rule-two .ensures) (c .before .before .before .before .before .before .before .before .before .before .before .before .before .before .before .before .before .before .before .before .before .before .answer-at-once .ensures) (c .before .before .before .before .before .before .before .before .before .before .before .before .before .before .before .before .before .before .before .before .before .at-once-size .ensures) (c .before .before .before .before .before .before .before .before .before .before .before .before .before .before .before .before .before .before .before .before .check-output .ensures)
+    (e .0 hs) (c .before .before .answer-to .ensures) (c .before .phase-received-two .ensures) (rw (e .0 hs) (e .1 .0 hs)) (rw (e .0 hs) (e .1 .1 hs)) (c .before .before .before .before .before .write-answer .ensures)
+    ∙ ap₂ (λ l y. receivedStanza (sessionOf s (now (a .slots)) hs) b (now (a .out)) l y (a .s .taken)) (c .before .before .before .before .before .before .before .before .before .before .before .before .before .before .before .before .before .before .before .before .before .before .before .before .before .before .before .before .arguments-of .ensures) (ap bodyOf (c .before .before .before .before .before .before .before .before .before .before .before .before .before .before .before .before .before .before .before .before .before .before .before .before .before .before .before .lines-of .ensures)))
 
 pub receive-stanza-spec : {M : Type 1} → statement M
 receive-stanza-spec =
     tie.close
     (tie.spec
     arguments-of-requires
-    slice-aggregate-decode
-    decode-requires
-    slice-aggregate-name-text
-    name-text-requires
-    receive-command-requires
+    lines-of-requires
+    body-size-requires
+    parse-two-requires
+    rule-two-requires
+    answer-at-once-requires
+    at-once-size-requires
+    check-output-requires
+    step-two-requires
+    write-answer-requires
+    answer-to-requires
+    phase-received-two-requires
+    moved-requires
     same-length
     same-length-2
     same-length-3
     same-length-4
+    same-length-5
     returns)

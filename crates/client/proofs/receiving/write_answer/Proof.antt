@@ -1,31 +1,24 @@
-use Rattle.refusal.proofs.Laws.Number.{number-not-zero}
+-- An accepted command has its answer written; a refusal, whose number is never 0, writes nothing.
 use borrow.Author.Needs.{needs}
+use Rattle.refusal.proofs.Laws.Number.{number-not-zero}
 use Rattle.client.proofs.receiving.write_answer.Statement.{statement}
 use Rattle.client.proofs.receiving.write_answer.Tie as tie
-use Rattle.client.proofs.receiving.write_answer.Reads as reads
-use Rattle.client.proofs.receiving.write_answer.Lts as lts
-use Rattle.phase_two.proofs.write_at_once.Reads as write-at-once-reads
 
--- src/receiving.rt:73:46
 enum-told : tie.Need-enum-told
 enum-told c = search needs
 
--- src/receiving.rt:73:13
 write-at-once-requires : tie.Need-write-at-once-requires
 write-at-once-requires c κs = search needs
 
 enum-told-2 : tie.Need-enum-told-2
 enum-told-2 c = search needs
 
--- src/receiving.rt:68:1
 same-length : tie.Need-same-length
 same-length c = search needs
 
--- src/receiving.rt:68:1
 returns : tie.Need-returns
 returns c = rw (c .before .before .before .before .enum-told .given .1) (c .before .before .write-at-once .ensures .1)
 
--- src/receiving.rt:68:1
 returns-2 : tie.Need-returns-2
 returns-2 c = rw (c .enum-told2 .given .1, number-not-zero (c .enum-told2 .given .0 .0))
 

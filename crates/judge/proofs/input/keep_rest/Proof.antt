@@ -5,7 +5,6 @@ use lib.ListN.{length, take, drop, length-set}
 use denote.Ref.{now}
 use native.Mathlib.Omega.{arith}
 use Rattle.judge.proofs.Laws.{move-front, move-back, moved}
-use borrow.Author.Needs.{needs}
 use Rattle.judge.proofs.input.keep_rest.Statement.{statement}
 use Rattle.judge.proofs.input.keep_rest.Tie as tie
 

@@ -1,66 +1,50 @@
+-- By the command; for one that asks the user the screen decides.
 use borrow.Author.Needs.{needs}
 use Rattle.phase_two.proofs.at_once.answer_at_once.Statement.{statement}
 use Rattle.phase_two.proofs.at_once.answer_at_once.Tie as tie
-use Rattle.phase_two.proofs.at_once.answer_at_once.Reads as reads
-use Rattle.phase_two.proofs.at_once.answer_at_once.Lts as lts
 
--- src/at_once.rt:24:16
 enum-told : tie.Need-enum-told
 enum-told c = search needs
 
--- src/at_once.rt:25:17
 returns : tie.Need-returns
 returns c = search needs
 
--- src/at_once.rt:29:49
 enum-told-2 : tie.Need-enum-told-2
 enum-told-2 c = search needs
 
--- src/at_once.rt:30:46
 enum-told-3 : tie.Need-enum-told-3
 enum-told-3 c = search needs
 
--- src/at_once.rt:31:48
 enum-told-4 : tie.Need-enum-told-4
 enum-told-4 c = search needs
 
--- src/at_once.rt:32:29
 enum-told-5 : tie.Need-enum-told-5
 enum-told-5 c = search needs
 
--- src/at_once.rt:33:45
 enum-told-6 : tie.Need-enum-told-6
 enum-told-6 c = search needs
 
--- src/at_once.rt:34:35
 enum-told-7 : tie.Need-enum-told-7
 enum-told-7 c = search needs
 
--- src/at_once.rt:19:1
 returns-2 : tie.Need-returns-2
 returns-2 c = rw (c .before .enum-told .given .1, c .if1 .left)
 
--- src/at_once.rt:19:1
 returns-3 : tie.Need-returns-3
 returns-3 c = rw (c .enum-told2 .given .1)
 
--- src/at_once.rt:19:1
 returns-4 : tie.Need-returns-4
 returns-4 c = rw (c .enum-told3 .given .1)
 
--- src/at_once.rt:19:1
 returns-5 : tie.Need-returns-5
 returns-5 c = rw (c .enum-told4 .given .1)
 
--- src/at_once.rt:19:1
 returns-6 : tie.Need-returns-6
 returns-6 c = search needs
 
--- src/at_once.rt:19:1
 returns-7 : tie.Need-returns-7
 returns-7 c = rw (c .enum-told6 .given .1)
 
--- src/at_once.rt:19:1
 returns-8 : tie.Need-returns-8
 returns-8 c = search needs
 

@@ -1,46 +1,35 @@
+-- By the answer: silence has no bytes, and no response that is written at once is refused.
 use mathlib.Core.Path.{sym, ap, _∙_}
 use Rattle.refusal.specs.Output.{said}
 use Rattle.phase_two.proofs.Laws.AtOnce.{size-is, never-refused}
 use borrow.Author.Needs.{needs}
 use Rattle.phase_two.proofs.at_once.at_once_size.Statement.{statement}
 use Rattle.phase_two.proofs.at_once.at_once_size.Tie as tie
-use Rattle.phase_two.proofs.at_once.at_once_size.Reads as reads
-use Rattle.phase_two.proofs.at_once.at_once_size.Lts as lts
-use Rattle.responses.proofs.size.Reads as size-reads
 
--- src/at_once.rt:43:24
 enum-known-answer : tie.Need-enum-known-answer
 enum-known-answer c = search needs
 
--- src/at_once.rt:44:50
 slice-aggregate-size : tie.Need-slice-aggregate-size
 slice-aggregate-size c = search needs
 
--- src/at_once.rt:44:17
 size-requires : tie.Need-size-requires
 size-requires c κs = search needs
 
--- src/at_once.rt:46:32
 enum-known-size : tie.Need-enum-known-size
 enum-known-size c = search needs
 
--- src/at_once.rt:47:40
 enum-told : tie.Need-enum-told
 enum-told c = search needs
 
--- src/at_once.rt:50:27
 enum-told-2 : tie.Need-enum-told-2
 enum-told-2 c = search needs
 
--- src/at_once.rt:39:1
 returns : tie.Need-returns
 returns c = rw (c .before .before .before .before .before .before .answer .given .1) (size-is (c .before .before .before .before .before .before .answer .given .0 .0) _ (ap said (sym (c .before .size2 .given .1)) ∙ c .before .before .before .size .ensures))
 
--- src/at_once.rt:39:1
 returns-2 : tie.Need-returns-2
 returns-2 c = absurd (never-refused (c .before .before .before .before .before .answer .given .0 .0) _ (ap said (sym (c .enum-told .given .1)) ∙ c .before .before .size .ensures))
 
--- src/at_once.rt:39:1
 returns-3 : tie.Need-returns-3
 returns-3 c = search needs
 

@@ -1,3 +1,4 @@
+-- By the answer: a response is written with no body, and silence is the empty text, which fits any buffer.
 use mathlib.Core.Path.{sym, ap, _∙_}
 use denote.Ref.{now}
 use Rattle.refusal.specs.Output.{answered, filled}
@@ -7,31 +8,22 @@ use Rattle.phase_two.proofs.Laws.AtOnce.{written-is, after-is, silent-i
 use borrow.Author.Needs.{needs}
 use Rattle.phase_two.proofs.at_once.write_at_once.Statement.{statement}
 use Rattle.phase_two.proofs.at_once.write_at_once.Tie as tie
-use Rattle.phase_two.proofs.at_once.write_at_once.Reads as reads
-use Rattle.phase_two.proofs.at_once.write_at_once.Lts as lts
-use Rattle.responses.proofs.write.Reads as write-reads
 
--- src/at_once.rt:60:24
 enum-known-answer : tie.Need-enum-known-answer
 enum-known-answer c = search needs
 
--- src/at_once.rt:60:64
 slice-aggregate-write : tie.Need-slice-aggregate-write
 slice-aggregate-write c = search needs
 
--- src/at_once.rt:60:37
 write-requires : tie.Need-write-requires
 write-requires c κs = search needs
 
--- src/at_once.rt:61:27
 enum-told : tie.Need-enum-told
 enum-told c = search needs
 
--- src/at_once.rt:55:1
 same-length : tie.Need-same-length
 same-length c = search needs
 
--- src/at_once.rt:55:1
 returns : tie.Need-returns
 returns c =
     let o = now (c .before .before .before .before .before .before .before .before .before .args .out) in
@@ -40,7 +32,6 @@ returns c =
     let w = c .before .before .write .ensures in
     (w .0 ∙ written-is r o ∙ ap (λ a. answered (textOf (atOnceSaid a)) o) e, w .1 ∙ after-is r o ∙ ap (λ a. filled (textOf (atOnceSaid a)) o) e)
 
--- src/at_once.rt:55:1
 returns-2 : tie.Need-returns-2
 returns-2 c =
     let o = now (c .before .before .before .args .out) in

@@ -1,85 +1,34 @@
+-- An accepted command leads on, a refusal may close.
+use Rattle.refusal.proofs.Laws.Number.{number-not-zero}
 use borrow.Author.Needs.{needs}
 use Rattle.phase_two.proofs.turns.phase_received_two.Statement.{statement}
 use Rattle.phase_two.proofs.turns.phase_received_two.Tie as tie
-use Rattle.phase_two.proofs.turns.phase_received_two.Reads as reads
-use Rattle.phase_two.proofs.turns.phase_received_two.Lts as lts
 
--- src/turns.rt:67:25
-enum-known-command : tie.Need-enum-known-command
-enum-known-command c = search needs
-
--- src/turns.rt:69:17
-returns : tie.Need-returns
-returns c = rw (c .before .before .command .given .1, c .if1 .taken)
-
--- src/turns.rt:73:34
 enum-told : tie.Need-enum-told
 enum-told c = search needs
 
--- src/turns.rt:74:31
-enum-told-2 : tie.Need-enum-told-2
-enum-told-2 c = search needs
+phase-taken-requires : tie.Need-phase-taken-requires
+phase-taken-requires c κs = search needs
 
--- src/turns.rt:75:33
-enum-told-3 : tie.Need-enum-told-3
-enum-told-3 c = search needs
+enum-known-verdict : tie.Need-enum-known-verdict
+enum-known-verdict c = search needs
 
--- src/turns.rt:76:29
-enum-told-4 : tie.Need-enum-told-4
-enum-told-4 c = search needs
+phase-refused-requires : tie.Need-phase-refused-requires
+phase-refused-requires c κs = search needs
 
--- src/turns.rt:77:30
-enum-told-5 : tie.Need-enum-told-5
-enum-told-5 c = search needs
+returns : tie.Need-returns
+returns c = rw (c .before .enum-told .given .1) (c .phase-taken .ensures)
 
--- src/turns.rt:78:35
-enum-told-6 : tie.Need-enum-told-6
-enum-told-6 c = search needs
-
--- src/turns.rt:63:1
 returns-2 : tie.Need-returns-2
-returns-2 c = search needs
-
--- src/turns.rt:63:1
-returns-3 : tie.Need-returns-3
-returns-3 c = search needs
-
--- src/turns.rt:63:1
-returns-4 : tie.Need-returns-4
-returns-4 c = search needs
-
--- src/turns.rt:63:1
-returns-5 : tie.Need-returns-5
-returns-5 c = search needs
-
--- src/turns.rt:63:1
-returns-6 : tie.Need-returns-6
-returns-6 c = search needs
-
--- src/turns.rt:63:1
-returns-7 : tie.Need-returns-7
-returns-7 c = search needs
-
--- src/turns.rt:63:1
-returns-8 : tie.Need-returns-8
-returns-8 c = search needs
+returns-2 c = rw (c .before .before .verdict .given .1, number-not-zero (c .before .before .verdict .given .0 .0)) (c .phase-refused .ensures)
 
 pub phase-received-two-spec : {M : Type 1} → statement M
 phase-received-two-spec =
     tie.close
     (tie.spec
-    enum-known-command
-    returns
     enum-told
-    enum-told-2
-    enum-told-3
-    enum-told-4
-    enum-told-5
-    enum-told-6
-    returns-2
-    returns-3
-    returns-4
-    returns-5
-    returns-6
-    returns-7
-    returns-8)
+    phase-taken-requires
+    enum-known-verdict
+    phase-refused-requires
+    returns
+    returns-2)

@@ -1,80 +1,24 @@
+-- An accepted command leads on, a refusal leaves the phase.
+use Rattle.refusal.proofs.Laws.Number.{number-not-zero}
 use borrow.Author.Needs.{needs}
 use Rattle.phase_two.proofs.turns.phase_sent_two.Statement.{statement}
 use Rattle.phase_two.proofs.turns.phase_sent_two.Tie as tie
-use Rattle.phase_two.proofs.turns.phase_sent_two.Reads as reads
-use Rattle.phase_two.proofs.turns.phase_sent_two.Lts as lts
 
--- src/turns.rt:87:25
-enum-known-command : tie.Need-enum-known-command
-enum-known-command c = search needs
-
--- src/turns.rt:88:50
 enum-told : tie.Need-enum-told
 enum-told c = search needs
 
--- src/turns.rt:89:47
+phase-spoken-requires : tie.Need-phase-spoken-requires
+phase-spoken-requires c κs = search needs
+
 enum-told-2 : tie.Need-enum-told-2
 enum-told-2 c = search needs
 
--- src/turns.rt:90:49
-enum-told-3 : tie.Need-enum-told-3
-enum-told-3 c = search needs
-
--- src/turns.rt:91:29
-enum-told-4 : tie.Need-enum-told-4
-enum-told-4 c = search needs
-
--- src/turns.rt:92:46
-enum-told-5 : tie.Need-enum-told-5
-enum-told-5 c = search needs
-
--- src/turns.rt:93:35
-enum-told-6 : tie.Need-enum-told-6
-enum-told-6 c = search needs
-
--- src/turns.rt:83:1
 returns : tie.Need-returns
-returns c = rw (c .before .command .given .1)
+returns c = rw (c .before .enum-told .given .1) (c .phase-spoken .ensures)
 
--- src/turns.rt:83:1
 returns-2 : tie.Need-returns-2
-returns-2 c = rw (c .enum-told .given .1)
-
--- src/turns.rt:83:1
-returns-3 : tie.Need-returns-3
-returns-3 c = rw (c .enum-told2 .given .1)
-
--- src/turns.rt:83:1
-returns-4 : tie.Need-returns-4
-returns-4 c = rw (c .enum-told3 .given .1)
-
--- src/turns.rt:83:1
-returns-5 : tie.Need-returns-5
-returns-5 c = search needs
-
--- src/turns.rt:83:1
-returns-6 : tie.Need-returns-6
-returns-6 c = rw (c .enum-told5 .given .1)
-
--- src/turns.rt:83:1
-returns-7 : tie.Need-returns-7
-returns-7 c = search needs
+returns-2 c = rw (c .enum-told2 .given .1, number-not-zero (c .enum-told2 .given .0 .0))
 
 pub phase-sent-two-spec : {M : Type 1} → statement M
 phase-sent-two-spec =
-    tie.close
-    (tie.spec
-    enum-known-command
-    enum-told
-    enum-told-2
-    enum-told-3
-    enum-told-4
-    enum-told-5
-    enum-told-6
-    returns
-    returns-2
-    returns-3
-    returns-4
-    returns-5
-    returns-6
-    returns-7)
+    tie.close (tie.spec enum-told phase-spoken-requires enum-told-2 returns returns-2)

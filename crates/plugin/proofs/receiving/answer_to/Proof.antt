@@ -1,32 +1,25 @@
-use mathlib.Core.Path.{ap}
-use Rattle.refusal.proofs.Laws.Number.{number-not-zero}
-use Rattle.conversation.specs.Receiving.{took}
+-- By the verdict: the word of an accepted command, else the number.
 use borrow.Author.Needs.{needs}
 use Rattle.plugin.proofs.receiving.answer_to.Statement.{statement}
 use Rattle.plugin.proofs.receiving.answer_to.Tie as tie
-use Rattle.plugin.proofs.receiving.answer_to.Reads as reads
-use Rattle.plugin.proofs.receiving.answer_to.Lts as lts
-use Rattle.session.proofs.word_of.Reads as word-of-reads
+use mathlib.Core.Path.{ap}
+use Rattle.refusal.proofs.Laws.Number.{number-not-zero}
+use Rattle.conversation.specs.Receiving.{took}
 
--- src/receiving.rt:48:45
 enum-told : tie.Need-enum-told
 enum-told c = search needs
 
--- src/receiving.rt:48:45
 word-of-requires : tie.Need-word-of-requires
 word-of-requires c κs = search needs
 
--- src/receiving.rt:49:26
 enum-known-verdict : tie.Need-enum-known-verdict
 enum-known-verdict c = search needs
 
--- src/receiving.rt:44:1
 returns : tie.Need-returns
-returns c = rw (c .before .enum-told .given .1) (ap (λ w. took w (c .before .before .before .args .taken)) (c .word-of .ensures))
+returns c = λ plugin line n. rw (c .before .enum-told .given .1) (ap (λ w. took w (c .before .before .before .args .taken)) (c .word-of .ensures plugin line n))
 
--- src/receiving.rt:44:1
 returns-2 : tie.Need-returns-2
-returns-2 c = rw (c .before .verdict .given .1, number-not-zero (c .before .verdict .given .0 .0))
+returns-2 c = λ plugin line n. rw (c .before .verdict .given .1, number-not-zero (c .before .verdict .given .0 .0))
 
 pub answer-to-spec : {M : Type 1} → statement M
 answer-to-spec =

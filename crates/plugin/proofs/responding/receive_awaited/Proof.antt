@@ -1,53 +1,50 @@
+-- By what the text reads as: 1 to 3, or a stanza.
+use borrow.Author.Needs.{needs}
+use Rattle.plugin.proofs.responding.receive_awaited.Statement.{statement}
+use Rattle.plugin.proofs.responding.receive_awaited.Tie as tie
 use mathlib.Core.Path.{sym, ap, _∙_}
-use mathlib.Core.Bool.{false}
 use denote.Ref.{now}
 use Rattle.refusal.specs.Number.{numberOf}
 use Rattle.stanza.specs.Reading.{readSaid}
 use Rattle.session.specs.Opening.{nameOf}
-use Rattle.session.specs.PhaseOne.{tablesOf}
+use Rattle.session.specs.Tables.{tablesIn}
+use Rattle.session.specs.Session.{sessionOf}
+use Rattle.conversation.specs.Responding.{respondedText}
 use Rattle.conversation.proofs.Laws.Responding.{response-refused}
-use borrow.Author.Needs.{needs}
-use Rattle.plugin.proofs.responding.receive_awaited.Statement.{statement}
-use Rattle.plugin.proofs.responding.receive_awaited.Tie as tie
-use Rattle.plugin.proofs.responding.receive_awaited.Reads as reads
-use Rattle.plugin.proofs.responding.receive_awaited.Lts as lts
-use Rattle.session.proofs.phase_refused.Reads as phase-refused-reads
-use Rattle.plugin.proofs.responding.receive_answer.Reads as receive-answer-reads
-use Rattle.stanza.proofs.read.Reads as read-reads
 
--- src/responding.rt:89:9
 read-requires : tie.Need-read-requires
 read-requires c κs = search needs
 
--- src/responding.rt:91:23
 enum-known-first : tie.Need-enum-known-first
 enum-known-first c = search needs
 
--- src/responding.rt:91:29
-receive-answer-requires : tie.Need-receive-answer-requires
-receive-answer-requires c κs = sym (c .before .before .before .before .read .ensures) ∙ ap readSaid (c .before .before .first .given .1)
-
--- src/responding.rt:92:24
-enum-known-first-2 : tie.Need-enum-known-first-2
-enum-known-first-2 c = search needs
-
--- src/responding.rt:94:20
 phase-refused-requires : tie.Need-phase-refused-requires
 phase-refused-requires c κs = search needs
 
--- src/responding.rt:86:1
+moved-requires : tie.Need-moved-requires
+moved-requires c κs = search needs
+
+enum-known-first-2 : tie.Need-enum-known-first-2
+enum-known-first-2 c = search needs
+
+receive-stanza-requires : tie.Need-receive-stanza-requires
+receive-stanza-requires c κs = sym (c .before .before .before .before .read .ensures) ∙ ap readSaid (c .before .before .first2 .given .1)
+
+returns : tie.Need-returns
+returns c =
+    λ xs hs.
+    let a = c .before .before .before .before .before .before .before .before .args in
+    rw (c .moved .ensures, c .before .phase-refused .ensures, sym (c .before .before .before .before .before .read .ensures), c .before .before .before .first .given .1) (response-refused (a .session .machine) (nameOf (a .session .name)) (a .session .screen) (a .session .phase) (tablesIn (a .session .tables) xs hs) (a .word) (numberOf (c .before .before .before .first .given .0 .0)) (now (a .out)))
+
 same-length : tie.Need-same-length
 same-length c = search needs
 
--- src/responding.rt:86:1
-returns : tie.Need-returns
-returns c = λ machine name tables. rw (sym (c .before .before .before .before .before .before .before .read .ensures), c .before .before .before .before .before .first .given .1) (c .before .before .receive-answer .ensures machine name tables)
-
--- src/responding.rt:86:1
 returns-2 : tie.Need-returns-2
 returns-2 c =
-    let a = c .before .before .before .before .before .before .before .args in
-    λ machine name tables. rw (sym (c .before .before .before .before .read .ensures), c .before .before .first2 .given .1, c .phase-refused .ensures) (response-refused machine (nameOf name) false (tablesOf tables) (a .word) (numberOf (c .before .before .first2 .given .0 .0)) (now (a .out)))
+    λ xs hs.
+    let a = c .before .before .before .before .before .before .before .before .before .before .args in
+    c .before .before .receive-stanza .ensures xs hs
+    ∙ ap (λ r. respondedText r (a .word) (sessionOf (a .session) xs hs) (now (a .text)) (now (a .out))) (sym (ap readSaid (c .before .before .before .before .before .first2 .given .1)) ∙ c .before .before .before .before .before .before .before .read .ensures)
 
 pub receive-awaited-spec : {M : Type 1} → statement M
 receive-awaited-spec =
@@ -55,9 +52,10 @@ receive-awaited-spec =
     (tie.spec
     read-requires
     enum-known-first
-    receive-answer-requires
-    enum-known-first-2
     phase-refused-requires
-    same-length
+    moved-requires
+    enum-known-first-2
+    receive-stanza-requires
     returns
+    same-length
     returns-2)

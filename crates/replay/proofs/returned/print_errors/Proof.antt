@@ -1,14 +1,14 @@
--- `print_errors` is safe and ends: n is at most the number of errors.
-use Prim.Native.Nat.{_-_, _≤_}
-use borrow.Author.Needs.{needs}
+-- `print_errors` is safe and ends. The invariant: n is at most the count.
 use Rattle.replay.proofs.returned.print_errors.Statement.{statement}
 use Rattle.replay.proofs.returned.print_errors.Tie as tie
+use Prim.Native.Nat.{_-_, _≤_}
+use borrow.Author.Needs.{needs}
 
 abbrev Inv-loop : tie.InvT-loop
-Inv-loop tables errors out₀ at count next₀ n₀ out next n = n ≤ count
+Inv-loop tables slots header errors out₀ at count next₀ n₀ out next n = n ≤ count
 
 abbrev μ-loop : tie.MeasureT-loop
-μ-loop tables errors out₀ at count next₀ n₀ out next n = count - n
+μ-loop tables slots header errors out₀ at count next₀ n₀ out next n = count - n
 
 count-errors-requires : tie.Need-count-errors-requires Inv-loop μ-loop
 count-errors-requires c κs = search needs

@@ -1,14 +1,14 @@
--- `print_file` is safe and ends: k is at most the number of stanzas.
-use Prim.Native.Nat.{_-_, _≤_}
-use borrow.Author.Needs.{needs}
+-- `print_file` is safe and ends. The invariant: k is at most the count.
 use Rattle.replay.proofs.returned.print_file.Statement.{statement}
 use Rattle.replay.proofs.returned.print_file.Tie as tie
+use Prim.Native.Nat.{_-_, _≤_}
+use borrow.Author.Needs.{needs}
 
 abbrev Inv-loop : tie.InvT-loop
-Inv-loop tables file stanzas out₀ at count next₀ k₀ out next k = k ≤ count
+Inv-loop tables file slots stanzas out₀ at count next₀ k₀ out next k = k ≤ count
 
 abbrev μ-loop : tie.MeasureT-loop
-μ-loop tables file stanzas out₀ at count next₀ k₀ out next k = count - k
+μ-loop tables file slots stanzas out₀ at count next₀ k₀ out next k = count - k
 
 count-stanzas-requires : tie.Need-count-stanzas-requires Inv-loop μ-loop
 count-stanzas-requires c κs = search needs

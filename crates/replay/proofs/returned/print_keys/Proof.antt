@@ -1,14 +1,14 @@
--- `print_keys` is safe and ends: n is at most the number of slots.
-use Prim.Native.Nat.{_-_, _≤_}
-use borrow.Author.Needs.{needs}
+-- `print_keys` is safe and ends. The invariant: n is at most the 256 header stanzas that there may be.
 use Rattle.replay.proofs.returned.print_keys.Statement.{statement}
 use Rattle.replay.proofs.returned.print_keys.Tie as tie
+use Prim.Native.Nat.{_-_, _≤_}
+use borrow.Author.Needs.{needs}
 
 abbrev Inv-loop : tie.InvT-loop
-Inv-loop tables returned out₀ at next₀ last₀ n₀ out next last n = n ≤ 256
+Inv-loop tables slots header returned out₀ at next₀ last₀ n₀ out next last n = n ≤ 256
 
 abbrev μ-loop : tie.MeasureT-loop
-μ-loop tables returned out₀ at next₀ last₀ n₀ out next last n = 256 - n
+μ-loop tables slots header returned out₀ at next₀ last₀ n₀ out next last n = 256 - n
 
 loop-holds : tie.Need-loop-holds Inv-loop μ-loop
 loop-holds c = search needs

@@ -1,14 +1,14 @@
--- `print_stanzas` is safe and ends: the file is at most the number of file keys.
-use Prim.Native.Nat.{_-_, _≤_}
-use borrow.Author.Needs.{needs}
+-- `print_stanzas` is safe and ends. The invariant: `file` is at most the count.
 use Rattle.replay.proofs.returned.print_stanzas.Statement.{statement}
 use Rattle.replay.proofs.returned.print_stanzas.Tie as tie
+use Prim.Native.Nat.{_-_, _≤_}
+use borrow.Author.Needs.{needs}
 
 abbrev Inv-loop : tie.InvT-loop
-Inv-loop tables stanzas out₀ at count next₀ file₀ out next file = file ≤ count
+Inv-loop tables slots stanzas out₀ at count next₀ file₀ out next file = file ≤ count
 
 abbrev μ-loop : tie.MeasureT-loop
-μ-loop tables stanzas out₀ at count next₀ file₀ out next file = count - file
+μ-loop tables slots stanzas out₀ at count next₀ file₀ out next file = count - file
 
 loop-holds : tie.Need-loop-holds Inv-loop μ-loop
 loop-holds c = search needs
@@ -31,12 +31,4 @@ returns c = search needs
 pub print-stanzas-spec : {M : Type 1} → statement M
 print-stanzas-spec =
     tie.close
-    (tie.spec
-    Inv-loop
-    μ-loop
-    loop-holds
-    print-file-requires
-    add-file
-    loop-less
-    loop-again
-    returns)
+    (tie.spec Inv-loop μ-loop loop-holds print-file-requires add-file loop-less loop-again returns)

@@ -1,14 +1,14 @@
--- `print_table` is safe and ends: n is at most the number of slots.
-use Prim.Native.Nat.{_-_, _≤_}
-use borrow.Author.Needs.{needs}
+-- `print_table` is safe and ends. The invariant: n is at most 256.
 use Rattle.replay.proofs.show.print_table.Statement.{statement}
 use Rattle.replay.proofs.show.print_table.Tie as tie
+use Prim.Native.Nat.{_-_, _≤_}
+use borrow.Author.Needs.{needs}
 
 abbrev Inv-loop : tie.InvT-loop
-Inv-loop kind table buffer out₀ at next₀ n₀ out next n = n ≤ 64
+Inv-loop number kind tables slots header buffer out₀ at next₀ n₀ out next n = n ≤ 256
 
 abbrev μ-loop : tie.MeasureT-loop
-μ-loop kind table buffer out₀ at next₀ n₀ out next n = 64 - n
+μ-loop number kind tables slots header buffer out₀ at next₀ n₀ out next n = 256 - n
 
 loop-holds : tie.Need-loop-holds Inv-loop μ-loop
 loop-holds c = search needs

@@ -1,7 +1,7 @@
 -- `find_word` meets its contract. Invariant: the word is none of the first k, so its number is k and its number among the rest.
 use Prim.Native.Nat.{_+_, _-_, _≤_}
 use mathlib.Core.Path.{_≡_}
-use lib.ListN.{length, drop}
+use lib.ListN.{drop}
 use native.Mathlib.Omega.{arith}
 use borrow.Author.Needs.{needs}
 use denote.Ref.{now}

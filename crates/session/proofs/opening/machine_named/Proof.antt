@@ -1,36 +1,27 @@
+-- The comparisons in the definition's order: the first name that is the same is the machine's.
 use mathlib.Core.Path.{sym, _∙_}
 use borrow.Author.Needs.{needs}
 use Rattle.session.proofs.opening.machine_named.Statement.{statement}
 use Rattle.session.proofs.opening.machine_named.Tie as tie
-use Rattle.session.proofs.opening.machine_named.Reads as reads
-use Rattle.session.proofs.opening.machine_named.Lts as lts
-use Rattle.stanza.proofs.is_same.Reads as is-same-reads
 
--- src/opening.rt:18:30
 slice-aggregate-is-same : tie.Need-slice-aggregate-is-same
 slice-aggregate-is-same c = search needs
 
--- src/opening.rt:18:8
 is-same-requires : tie.Need-is-same-requires
 is-same-requires c κs = search needs
 
--- src/opening.rt:19:9
 returns : tie.Need-returns
 returns c = rw (sym (c .before .is-same .ensures) ∙ c .if1 .taken)
 
--- src/opening.rt:21:30
 slice-aggregate-is-same-2 : tie.Need-slice-aggregate-is-same-2
 slice-aggregate-is-same-2 c = search needs
 
--- src/opening.rt:21:8
 is-same-requires-2 : tie.Need-is-same-requires-2
 is-same-requires-2 c κs = search needs
 
--- src/opening.rt:22:9
 returns-2 : tie.Need-returns-2
 returns-2 c = rw (sym (c .before .before .before .before .is-same .ensures) ∙ c .before .before .before .if1 .left, sym (c .before .is-same2 .ensures) ∙ c .if2 .taken)
 
--- src/opening.rt:15:1
 returns-3 : tie.Need-returns-3
 returns-3 c = rw (sym (c .before .before .before .before .is-same .ensures) ∙ c .before .before .before .if1 .left, sym (c .before .is-same2 .ensures) ∙ c .if2 .left)
 

@@ -1,14 +1,11 @@
+-- The test is the definition's.
 use borrow.Author.Tests.{lt-ltb, le-ltb}
 use Rattle.session.proofs.output.check_output.Statement.{statement}
 use Rattle.session.proofs.output.check_output.Tie as tie
-use Rattle.session.proofs.output.check_output.Reads as reads
-use Rattle.session.proofs.output.check_output.Lts as lts
 
--- src/sending.rt:41:9
 returns : tie.Need-returns
 returns c = rw (lt-ltb _ _ (c .if1 .taken))
 
--- src/sending.rt:37:1
 returns-2 : tie.Need-returns-2
 returns-2 c = rw (le-ltb _ _ (c .if1 .left))
 

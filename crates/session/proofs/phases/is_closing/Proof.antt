@@ -1,3 +1,4 @@
+-- The two tests of the definition: a number of at most 12, and not 2.
 use mathlib.Core.Path.{ap}
 use mathlib.Core.Bool.{not}
 use lib.Dec.{eqb}
@@ -7,19 +8,13 @@ use Rattle.refusal.specs.Number.{numberOf}
 use borrow.Author.Needs.{needs}
 use Rattle.session.proofs.phases.is_closing.Statement.{statement}
 use Rattle.session.proofs.phases.is_closing.Tie as tie
-use Rattle.session.proofs.phases.is_closing.Reads as reads
-use Rattle.session.proofs.phases.is_closing.Lts as lts
-use Rattle.refusal.proofs.number.Reads as number-reads
 
--- src/phases.rt:33:9
 number-requires : tie.Need-number-requires
 number-requires c κs = search needs
 
--- src/phases.rt:35:9
 returns : tie.Need-returns
 returns c = rw (lt-leb (numberOf (c .before .before .args .refusal)) 12 (omega (arith, c .before .number .ensures)))
 
--- src/phases.rt:30:1
 returns-2 : tie.Need-returns-2
 returns-2 c = rw (le-leb (numberOf (c .before .before .args .refusal)) 12 (omega (arith, c .before .number .ensures))) (ap (λ n. not (eqb n 2)) (c .before .number .ensures))
 

@@ -1,4 +1,5 @@
-use Prim.Native.Nat.{ℕ, _-_, _≤_, min}
+-- Cut to the text, the part from 3 up to the line's end is what the definition leaves; it is empty where the end comes first.
+use Prim.Native.Nat.{ℕ, _-_, min}
 use mathlib.Core.Path.{_≡_, sym}
 use mathlib.Core.List.{List}
 use lib.ListN.{length, take, drop}
@@ -10,9 +11,6 @@ use Rattle.refusal.proofs.Laws.Lists.{part-of, part-none}
 use borrow.Author.Needs.{needs}
 use Rattle.stanza.proofs.parts.arguments_of.Statement.{statement}
 use Rattle.stanza.proofs.parts.arguments_of.Tie as tie
-use Rattle.stanza.proofs.parts.arguments_of.Reads as reads
-use Rattle.stanza.proofs.parts.arguments_of.Lts as lts
-use Rattle.stanza.proofs.parts.least.Reads as least-reads
 
 -- the part behind "-> ", if there is so much
 args-part : (t : List ℕ) (l m f : ℕ) → m ≡ min l (length t) → f ≡ min 3 m → take (m - f) (drop f t) ≡ drop 3 (take l t)
@@ -22,27 +20,21 @@ args-part t l m f p q =
       | no h ↦ (let e : f ≡ m = omega arith in rw (e, sub-self) (sym (part-none 3 l m t p (omega arith))))
     ]
 
--- src/parts.rt:16:9
 least-requires : tie.Need-least-requires
 least-requires c κs = search needs
 
--- src/parts.rt:17:9
 least-requires-2 : tie.Need-least-requires-2
 least-requires-2 c κs = search needs
 
--- src/parts.rt:18:5
 sub-result : tie.Need-sub-result
 sub-result c = search needs
 
--- src/parts.rt:18:5
 part-result-start : tie.Need-part-result-start
 part-result-start c = search needs
 
--- src/parts.rt:18:5
 part-result-end : tie.Need-part-result-end
 part-result-end c = search needs
 
--- src/parts.rt:12:1
 returns : tie.Need-returns
 returns c = args-part (now (c .before .before .before .before .args .text)) (c .before .before .before .before .args .s .line) (c .before .before .least .result) (c .before .least2 .result) (c .before .before .least .ensures) (c .before .least2 .ensures)
 

@@ -1,3 +1,4 @@
+-- Where the part ends no later than the first line does, nothing is left; else it is the definition's, cut to the text.
 use Prim.Native.Nat.{_+_}
 use mathlib.Core.Path.{sym}
 use native.Mathlib.Nat.{sub-self}
@@ -7,47 +8,34 @@ use Rattle.refusal.proofs.Laws.Lists.{part-of, part-none}
 use borrow.Author.Needs.{needs}
 use Rattle.stanza.proofs.parts.lines.Statement.{statement}
 use Rattle.stanza.proofs.parts.lines.Tie as tie
-use Rattle.stanza.proofs.parts.lines.Reads as reads
-use Rattle.stanza.proofs.parts.lines.Lts as lts
-use Rattle.stanza.proofs.parts.least.Reads as least-reads
 
--- src/parts.rt:33:9
 least-requires : tie.Need-least-requires
 least-requires c κs = search needs
 
--- src/parts.rt:35:20
 add-from : tie.Need-add-from
 add-from c = search needs
 
--- src/parts.rt:36:16
 sub-result : tie.Need-sub-result
 sub-result c = search needs
 
--- src/parts.rt:36:16
 part-result-start : tie.Need-part-result-start
 part-result-start c = search needs
 
--- src/parts.rt:36:16
 part-result-end : tie.Need-part-result-end
 part-result-end c = search needs
 
--- src/parts.rt:36:9
 returns : tie.Need-returns
 returns c = part-of (c .before .before .before .before .args .line + 1) (c .before .before .before .before .args .taken) (c .before .before .least .result) (now (c .before .before .before .before .args .text)) (c .before .before .least .ensures)
 
--- src/parts.rt:38:5
 sub-result-2 : tie.Need-sub-result-2
 sub-result-2 c = search needs
 
--- src/parts.rt:38:5
 part-result-start-2 : tie.Need-part-result-start-2
 part-result-start-2 c = search needs
 
--- src/parts.rt:38:5
 part-result-end-2 : tie.Need-part-result-end-2
 part-result-end-2 c = search needs
 
--- src/parts.rt:30:1
 returns-2 : tie.Need-returns-2
 returns-2 c = rw sub-self (sym (part-none (c .before .before .before .before .args .line + 1) (c .before .before .before .before .args .taken) (c .before .before .least .result) (now (c .before .before .before .before .args .text)) (c .before .before .least .ensures) (omega arith)))
 

@@ -1,3 +1,4 @@
+-- Invariant: the automaton comes to the same from `from` and from i; a full line brings it back to where it was.
 use Prim.Native.Nat.{_-_, _≤_}
 use mathlib.Core.Path.{_≡_, refl, sym, _∙_}
 use lib.ListN.{length, drop}
@@ -8,10 +9,6 @@ use Rattle.stanza.proofs.Laws.Automaton.{line-full}
 use borrow.Author.Needs.{needs}
 use Rattle.stanza.proofs.reading.body_end.Statement.{statement}
 use Rattle.stanza.proofs.reading.body_end.Tie as tie
-use Rattle.stanza.proofs.reading.body_end.Reads as reads
-use Rattle.stanza.proofs.reading.body_end.Lts as lts
-use Rattle.base64.proofs.full_line.Reads as full-line-reads
-use Rattle.stanza.proofs.reading.last_line.Reads as last-line-reads
 
 abbrev Inv-loop : tie.InvT-loop
 Inv-loop text from i₀ i =
@@ -20,31 +17,24 @@ Inv-loop text from i₀ i =
 abbrev μ-loop : tie.MeasureT-loop
 μ-loop text from i₀ i = length text - i
 
--- src/reading.rt:148:5
 loop-holds : tie.Need-loop-holds Inv-loop μ-loop
 loop-holds c = (c .before .pre, refl)
 
--- src/reading.rt:148:11
 full-line-requires : tie.Need-full-line-requires Inv-loop μ-loop
 full-line-requires c κs = search needs
 
--- src/reading.rt:149:9
 add-i : tie.Need-add-i Inv-loop μ-loop
 add-i c = omega (arith, (line-full (now (c .before .before .before .before .args .text)) (c .before .before .loop .i) (sym (c .before .full-line .ensures) ∙ c .if1 .taken)) .0)
 
--- src/reading.rt:148:5
 loop-less : tie.Need-loop-less Inv-loop μ-loop
 loop-less c = omega (arith, (line-full (now (c .before .before .before .before .args .text)) (c .before .before .loop .i) (sym (c .before .full-line .ensures) ∙ c .if1 .taken)) .0)
 
--- src/reading.rt:148:5
 loop-again : tie.Need-loop-again Inv-loop μ-loop
 loop-again c = ((line-full (now (c .before .before .before .before .args .text)) (c .before .before .loop .i) (sym (c .before .full-line .ensures) ∙ c .if1 .taken)) .0, c .before .before .loop .inv .1 ∙ (line-full (now (c .before .before .before .before .args .text)) (c .before .before .loop .i) (sym (c .before .full-line .ensures) ∙ c .if1 .taken)) .1)
 
--- src/reading.rt:151:5
 last-line-requires : tie.Need-last-line-requires Inv-loop μ-loop
 last-line-requires c κs = (c .before .before .loop .inv .0, sym (c .before .full-line .ensures) ∙ c .if1 .left)
 
--- src/reading.rt:143:1
 returns : tie.Need-returns Inv-loop μ-loop
 returns c = c .before .before .before .loop .inv .1 ∙ c .last-line .ensures
 

@@ -1,3 +1,4 @@
+-- By where the automaton ends behind the first line; the body's size follows from how many bytes its lines take.
 use Prim.Native.Nat.{_+_}
 use mathlib.Core.Path.{sym, ap, _∙_}
 use lib.Dec.{ltb}
@@ -12,59 +13,42 @@ use Rattle.stanza.proofs.Laws.Reading.{found-whole, pick-refused}
 use borrow.Author.Needs.{needs}
 use Rattle.stanza.proofs.reading.read_body.Statement.{statement}
 use Rattle.stanza.proofs.reading.read_body.Tie as tie
-use Rattle.stanza.proofs.reading.read_body.Reads as reads
-use Rattle.stanza.proofs.reading.read_body.Lts as lts
-use Rattle.base64.proofs.body_length.Reads as body-length-reads
-use Rattle.stanza.proofs.reading.body_end.Reads as body-end-reads
-use Rattle.stanza.proofs.reading.unfinished.Reads as unfinished-reads
 
--- src/reading.rt:64:25
 add-body-end : tie.Need-add-body-end
 add-body-end c = search needs
 
--- src/reading.rt:64:9
 body-end-requires : tie.Need-body-end-requires
 body-end-requires c κs = search needs
 
--- src/reading.rt:66:37
 enum-told : tie.Need-enum-told
 enum-told c = search needs
 
--- src/reading.rt:67:50
 enum-told-2 : tie.Need-enum-told-2
 enum-told-2 c = search needs
 
--- src/reading.rt:67:39
 unfinished-requires : tie.Need-unfinished-requires
 unfinished-requires c κs = search needs
 
--- src/reading.rt:68:20
 enum-known-b : tie.Need-enum-known-b
 enum-known-b c = search needs
 
--- src/reading.rt:69:44
 sub-body-length : tie.Need-sub-body-length
 sub-body-length c = omega (arith, (scan-whole (drop (c .before .before .before .before .before .args .e + 1) (now (c .before .before .before .before .before .args .w))) (line 0 0) (c .before .before .before .before .before .args .e + 1) (c .before .b .given .0 .0) (c .before .before .before .body-end .ensures ∙ ap bodySaid (c .before .b .given .1))) .0)
 
--- src/reading.rt:69:44
 sub-body-length-2 : tie.Need-sub-body-length-2
 sub-body-length-2 c = omega (arith, (scan-whole (drop (c .before .before .before .before .before .args .e + 1) (now (c .before .before .before .before .before .args .w))) (line 0 0) (c .before .before .before .before .before .args .e + 1) (c .before .b .given .0 .0) (c .before .before .before .body-end .ensures ∙ ap bodySaid (c .before .b .given .1))) .0)
 
--- src/reading.rt:69:17
 body-length-requires : tie.Need-body-length-requires
 body-length-requires c κs = search needs
 
--- src/reading.rt:59:1
 returns : tie.Need-returns
 unfolding found
 returns c = rw (c .before .before .body-end .ensures, c .enum-told .given .1)
 
--- src/reading.rt:59:1
 returns-2 : tie.Need-returns-2
 unfolding found
 returns-2 c = rw (c .before .before .before .body-end .ensures, c .before .enum-told2 .given .1, c .unfinished .ensures) (pick-refused (ltb (length (now (c .before .before .before .before .before .args .w))) 8192))
 
--- src/reading.rt:59:1
 returns-3 : tie.Need-returns-3
 returns-3 c =
     let b = (scan-whole (drop (c .before .before .before .before .before .before .args .e + 1) (now (c .before .before .before .before .before .before .args .w))) (line 0 0) (c .before .before .before .before .before .before .args .e + 1) (c .before .before .b .given .0 .0) (c .before .before .before .before .body-end .ensures ∙ ap bodySaid (c .before .before .b .given .1))) in

@@ -1,6 +1,7 @@
+-- Invariant: the automaton comes to the same from `from` and from i, and so does the search for the line's end.
 use Prim.Native.Nat.{_+_, _-_, _<_, _≤_}
-use mathlib.Core.Path.{_≡_, refl, sym, _∙_}
-use lib.ListN.{length, drop, getD}
+use mathlib.Core.Path.{_≡_, refl, _∙_}
+use lib.ListN.{length, drop}
 use native.Mathlib.Omega.{arith}
 use denote.Ref.{now}
 use Rattle.refusal.proofs.Laws.Run.{run-in, run-out, end-le, run-first, run-stop}
@@ -11,9 +12,6 @@ use Rattle.stanza.proofs.Laws.Automaton.{scan-end, gap-bad, gap-word, w
 use borrow.Author.Needs.{needs}
 use Rattle.stanza.proofs.reading.words.Statement.{statement}
 use Rattle.stanza.proofs.reading.words.Tie as tie
-use Rattle.stanza.proofs.reading.words.Reads as reads
-use Rattle.stanza.proofs.reading.words.Lts as lts
-use Rattle.stanza.proofs.arguments.graphic_end.Reads as graphic-end-reads
 
 abbrev Inv-loop : tie.InvT-loop
 Inv-loop text from i₀ i =
@@ -22,31 +20,25 @@ Inv-loop text from i₀ i =
 abbrev μ-loop : tie.MeasureT-loop
 μ-loop text from i₀ i = length text - i
 
--- src/reading.rt:122:5
 loop-holds : tie.Need-loop-holds Inv-loop μ-loop
 loop-holds c = (search needs, c .before .pre, refl, refl)
 
--- src/reading.rt:123:13
 graphic-end-requires : tie.Need-graphic-end-requires Inv-loop μ-loop
 graphic-end-requires c κs = search needs
 
--- src/reading.rt:125:13
 returns : tie.Need-returns Inv-loop μ-loop
 returns c =
     let t = (now (c .before .before .before .before .before .args .text)) in
     let i = c .before .before .before .loop .i in
     (c .before .before .before .loop .inv .2 ∙ gap-bad t i (c .before .before .loop-test .taken) (rw (c .if1 .taken) at (run-stop isGraphic t i (c .before .graphic-end .result) (c .before .graphic-end .ensures) (omega arith))), tt)
 
--- src/reading.rt:128:13
 returns-2 : tie.Need-returns-2 Inv-loop μ-loop
 returns-2 c =
     (c .before .before .before .before .loop .inv .2 ∙ gap-word (now (c .before .before .before .before .before .before .args .text)) (c .before .before .before .before .loop .i) (c .before .before .before .loop-test .taken) (run-first isGraphic (now (c .before .before .before .before .before .before .args .text)) (c .before .before .before .before .loop .i) (c .before .before .graphic-end .result) (c .before .before .graphic-end .ensures) (c .before .if1 .left)) ∙ word-run (now (c .before .before .before .before .before .before .args .text)) (c .before .before .before .before .loop .i) (c .before .before .graphic-end .result) (c .before .before .graphic-end .ensures) ∙ scan-end word (now (c .before .before .before .before .before .before .args .text)) (c .before .before .graphic-end .result) (omega arith), tt)
 
--- src/reading.rt:130:17
 shared-slice-read-b : tie.Need-shared-slice-read-b Inv-loop μ-loop
 shared-slice-read-b c = omega (arith, c .before .before .before .graphic-end .ensures, end-le isGraphic (now (c .before .before .before .before .before .before .before .args .text)) (c .before .before .before .before .before .loop .i) (omega arith), c .before .if2 .left)
 
--- src/reading.rt:132:13
 returns-3 : tie.Need-returns-3 Inv-loop μ-loop
 returns-3 c =
     let l : c .before .before .before .before .graphic-end .result < length (now (c .before .before .before .before .before .before .before .before .args .text)) = omega (arith, c .before .before .before .before .graphic-end .ensures, end-le isGraphic (now (c .before .before .before .before .before .before .before .before .args .text)) (c .before .before .before .before .before .before .loop .i) (omega arith), c .before .before .if2 .left) in (
@@ -54,25 +46,21 @@ returns-3 c =
       (c .before .before .before .before .before .before .loop .inv .3 ∙ graphic-line-end (now (c .before .before .before .before .before .before .before .before .args .text)) (c .before .before .before .before .before .before .loop .i) (c .before .before .before .before .graphic-end .result) (omega arith) (c .before .before .before .before .graphic-end .ensures) ∙ run-out isNotLf (now (c .before .before .before .before .before .before .before .before .args .text)) (c .before .before .before .before .graphic-end .result) l (rw (c .if3 .taken)), l),
     )
 
--- src/reading.rt:135:13
 returns-4 : tie.Need-returns-4 Inv-loop μ-loop
 returns-4 c =
     let l : c .before .before .before .before .before .graphic-end .result < length (now (c .before .before .before .before .before .before .before .before .before .args .text)) = omega (arith, c .before .before .before .before .before .graphic-end .ensures, end-le isGraphic (now (c .before .before .before .before .before .before .before .before .before .args .text)) (c .before .before .before .before .before .before .before .loop .i) (omega arith), c .before .before .before .if2 .left) in
     (c .before .before .before .before .before .before .before .loop .inv .2 ∙ gap-word (now (c .before .before .before .before .before .before .before .before .before .args .text)) (c .before .before .before .before .before .before .before .loop .i) (c .before .before .before .before .before .before .loop-test .taken) (run-first isGraphic (now (c .before .before .before .before .before .before .before .before .before .args .text)) (c .before .before .before .before .before .before .before .loop .i) (c .before .before .before .before .before .graphic-end .result) (c .before .before .before .before .before .graphic-end .ensures) (c .before .before .before .before .if1 .left)) ∙ word-run (now (c .before .before .before .before .before .before .before .before .before .args .text)) (c .before .before .before .before .before .before .before .loop .i) (c .before .before .before .before .before .graphic-end .result) (c .before .before .before .before .before .graphic-end .ensures) ∙ word-bad (now (c .before .before .before .before .before .before .before .before .before .args .text)) (c .before .before .before .before .before .graphic-end .result) l (run-stop isGraphic (now (c .before .before .before .before .before .before .before .before .before .args .text)) (c .before .before .before .before .before .before .before .loop .i) (c .before .before .before .before .before .graphic-end .result) (c .before .before .before .before .before .graphic-end .ensures) l) (c .if4 .taken) (c .before .if3 .left), tt)
 
--- src/reading.rt:137:13
 add-i : tie.Need-add-i Inv-loop μ-loop
 add-i c =
     let l : c .before .before .before .before .before .graphic-end .result < length (now (c .before .before .before .before .before .before .before .before .before .args .text)) = omega (arith, c .before .before .before .before .before .graphic-end .ensures, end-le isGraphic (now (c .before .before .before .before .before .before .before .before .before .args .text)) (c .before .before .before .before .before .before .before .loop .i) (omega arith), c .before .before .before .if2 .left) in
     omega arith
 
--- src/reading.rt:122:5
 loop-less : tie.Need-loop-less Inv-loop μ-loop
 loop-less c =
     let l : c .before .before .before .before .before .graphic-end .result < length (now (c .before .before .before .before .before .before .before .before .before .args .text)) = omega (arith, c .before .before .before .before .before .graphic-end .ensures, end-le isGraphic (now (c .before .before .before .before .before .before .before .before .before .args .text)) (c .before .before .before .before .before .before .before .loop .i) (omega arith), c .before .before .before .if2 .left) in
     omega (arith, c .before .before .before .before .before .graphic-end .ensures)
 
--- src/reading.rt:122:5
 loop-again : tie.Need-loop-again Inv-loop μ-loop
 loop-again c =
     let l : c .before .before .before .before .before .graphic-end .result < length (now (c .before .before .before .before .before .before .before .before .before .args .text)) = omega (arith, c .before .before .before .before .before .graphic-end .ensures, end-le isGraphic (now (c .before .before .before .before .before .before .before .before .before .args .text)) (c .before .before .before .before .before .before .before .loop .i) (omega arith), c .before .before .before .if2 .left) in (
@@ -82,7 +70,6 @@ loop-again c =
       c .before .before .before .before .before .before .before .loop .inv .3 ∙ graphic-line-end (now (c .before .before .before .before .before .before .before .before .before .args .text)) (c .before .before .before .before .before .before .before .loop .i) (c .before .before .before .before .before .graphic-end .result) (omega arith) (c .before .before .before .before .before .graphic-end .ensures) ∙ run-in isNotLf (now (c .before .before .before .before .before .before .before .before .before .args .text)) (c .before .before .before .before .before .graphic-end .result) l (rw (c .if4 .left)),
     )
 
--- src/reading.rt:116:1
 returns-5 : tie.Need-returns-5 Inv-loop μ-loop
 returns-5 c = (c .before .loop .inv .2 ∙ scan-end gap (now (c .before .before .before .args .text)) (c .before .loop .i) (c .loop-test .left), tt)
 

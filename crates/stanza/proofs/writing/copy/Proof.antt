@@ -1,3 +1,4 @@
+-- Invariant: the first i bytes of `src` stand at the front of `out`, and behind them `out` is as it was.
 use Prim.Native.Nat.{_-_, _≤_}
 use mathlib.Core.Path.{_≡_, refl}
 use mathlib.Core.List.{_++_}
@@ -8,8 +9,6 @@ use Rattle.refusal.proofs.Laws.Lists.{front-store, front-whole}
 use borrow.Author.Needs.{needs}
 use Rattle.stanza.proofs.writing.copy.Statement.{statement}
 use Rattle.stanza.proofs.writing.copy.Tie as tie
-use Rattle.stanza.proofs.writing.copy.Reads as reads
-use Rattle.stanza.proofs.writing.copy.Lts as lts
 
 abbrev Inv-loop : tie.InvT-loop
 Inv-loop src out₀ n i₀ out i = (i ≤ n) × (length out ≡ length out₀) × (out ≡ take i src ++ drop i out₀)
@@ -17,35 +16,27 @@ Inv-loop src out₀ n i₀ out i = (i ≤ n) × (length out ≡ length out₀) �
 abbrev μ-loop : tie.MeasureT-loop
 μ-loop src out₀ n i₀ out i = n - i
 
--- src/writing.rt:70:5
 loop-holds : tie.Need-loop-holds Inv-loop μ-loop
 loop-holds c = (search needs, refl, refl)
 
--- src/writing.rt:71:18
 shared-slice-read-out : tie.Need-shared-slice-read-out Inv-loop μ-loop
 shared-slice-read-out c = search needs
 
--- src/writing.rt:71:9
 slice-write-out : tie.Need-slice-write-out Inv-loop μ-loop
 slice-write-out c = search needs
 
--- src/writing.rt:72:9
 add-i : tie.Need-add-i Inv-loop μ-loop
 add-i c = search needs
 
--- src/writing.rt:70:5
 loop-less : tie.Need-loop-less Inv-loop μ-loop
 loop-less c = search needs
 
--- src/writing.rt:70:5
 loop-again : tie.Need-loop-again Inv-loop μ-loop
 loop-again c = (search needs, simp length-set (c .before .before .loop .inv .1), front-store (now (c .before .before .before .args .src)) (c .before .before .loop .out) (now (c .before .before .before .args .out)) (c .before .before .loop .i) 0 (c .before .before .loop .inv .2) (c .before .loop-test .taken) (c .before .before .before .pre))
 
--- src/writing.rt:64:1
 same-length : tie.Need-same-length Inv-loop μ-loop
 same-length c = search needs
 
--- src/writing.rt:64:1
 returns : tie.Need-returns Inv-loop μ-loop
 returns c = front-whole (now (c .before .before .args .src)) (c .before .loop .out) (now (c .before .before .args .out)) (c .before .loop .i) (c .before .loop .inv .2) (omega arith)
 

@@ -1,3 +1,4 @@
+-- Command, space and arguments, one behind the other, are the text.
 use Prim.Native.Nat.{_+_, _-_}
 use mathlib.Core.Path.{_∙_}
 use denote.Ref.{now}
@@ -8,49 +9,37 @@ use Rattle.refusal.proofs.Laws.Lists.{part-rest, parts-joined}
 use borrow.Author.Needs.{needs}
 use Rattle.stanza.proofs.writing.join_into.Statement.{statement}
 use Rattle.stanza.proofs.writing.join_into.Tie as tie
-use Rattle.stanza.proofs.writing.join_into.Reads as reads
-use Rattle.stanza.proofs.writing.join_into.Lts as lts
-use Rattle.stanza.proofs.writing.copy.Reads as copy-reads
 
--- src/writing.rt:40:5
 copy-requires : tie.Need-copy-requires
 copy-requires c κs = search needs
 
--- src/writing.rt:41:5
 slice-write-out : tie.Need-slice-write-out
 slice-write-out c = search needs
 
--- src/writing.rt:42:16
 add-from : tie.Need-add-from
 add-from c = search needs
 
--- src/writing.rt:43:18
 sub-copy : tie.Need-sub-copy
 sub-copy c = simp length-set (omega (arith, c .before .before .copy .kept .1 .0, c .before .before .before .before .before .before .before .pre))
 
--- src/writing.rt:43:18
 part-copy-start : tie.Need-part-copy-start
 part-copy-start c = simp length-set (omega (arith, c .before .before .copy .kept .1 .0, c .before .before .before .before .before .before .before .pre))
 
--- src/writing.rt:43:18
 part-copy-end : tie.Need-part-copy-end
 part-copy-end c = search needs
 
--- src/writing.rt:43:5
 copy-requires-2 : tie.Need-copy-requires-2
 copy-requires-2 c κs =
     let n = length (now (c .before .before .before .before .before .before .before .before .args .command)) in
     let b = set (c .before .before .before .copy .last .1 .0) n 32 in
     rw (part-rest (n + 1) b) (simp (length-drop, length-set) (omega (arith, c .before .before .before .copy .kept .1 .0, c .before .before .before .before .before .before .before .before .pre)))
 
--- src/writing.rt:35:1
 same-length : tie.Need-same-length
 same-length c =
     let n = length (now (c .before .before .before .before .before .before .before .before .before .before .before .args .command)) in
     let a = c .before .before .before .before .before .before .copy .last .1 .0 in
     same-len-mid (n + 1) (length (set a n 32) - (n + 1)) (set a n 32) (c .before .before .copy2 .last .1 .0) (c .before .before .copy2 .kept .1 .0) ∙ length-set a n 32 ∙ c .before .before .before .before .before .before .copy .kept .1 .0
 
--- src/writing.rt:35:1
 returns : tie.Need-returns
 returns c =
     parts-joined (now (c .before .before .before .before .before .before .before .before .before .before .before .args .command)) (now (c .before .before .before .before .before .before .before .before .before .before .before .args .arguments)) (c .before .before .before .before .before .before .copy .last .1 .0) (now (c .before .before .before .before .before .before .before .before .before .before .before .args .out)) (c .before .before .copy2 .last .1 .0) 32 (c .before .before .before .before .before .before .copy .ensures) (omega (arith, c .before .before .before .before .before .before .before .before .before .before .before .pre)) (c .before .before .copy2 .ensures)

@@ -1,7 +1,7 @@
+-- By arguments and length: a line or body of more than 8,192 bytes makes too long a stanza, and any other no sum that wraps.
 use Prim.Native.Nat.{_+_}
-use mathlib.Core.Path.{_≡_, refl, sym, ap, _∙_}
-use mathlib.Core.List.{_++_}
-use lib.ListN.{length, drop}
+use mathlib.Core.Path.{_≡_, sym, _∙_}
+use lib.ListN.{length}
 use native.Mathlib.Omega.{arith}
 use borrow.Author.Tests.{lt-leb, le-leb, not-true, not-false}
 use denote.Ref.{now}
@@ -11,44 +11,31 @@ use Rattle.stanza.proofs.Laws.Writing.{text-length}
 use borrow.Author.Needs.{needs}
 use Rattle.stanza.proofs.writing.size.Statement.{statement}
 use Rattle.stanza.proofs.writing.size.Tie as tie
-use Rattle.stanza.proofs.writing.size.Reads as reads
-use Rattle.stanza.proofs.writing.size.Lts as lts
-use Rattle.base64.proofs.lines_length.Reads as lines-length-reads
-use Rattle.stanza.proofs.arguments.is_line.Reads as is-line-reads
 
--- src/writing.rt:19:9
 is-line-requires : tie.Need-is-line-requires
 is-line-requires c κs = search needs
 
--- src/writing.rt:20:9
 returns : tie.Need-returns
 returns c = rw (sym (c .before .is-line .ensures) ∙ not-true _ (c .if1 .taken))
 
--- src/writing.rt:24:9
 returns-2 : tie.Need-returns-2
 returns-2 c = rw ((sym (c .before .before .is-line .ensures) ∙ not-false _ (c .before .if1 .left)), lt-leb (length (stanzaText (now (c .before .before .before .before .before .args .line)) (now (c .before .before .before .before .before .args .body)))) 8192 (omega (arith, text-length (now (c .before .before .before .before .before .args .line)) (now (c .before .before .before .before .before .args .body)))))
 
--- src/writing.rt:27:9
 returns-3 : tie.Need-returns-3
 returns-3 c = rw ((sym (c .before .before .before .is-line .ensures) ∙ not-false _ (c .before .before .if1 .left)), lt-leb (length (stanzaText (now (c .before .before .before .before .before .before .args .line)) (now (c .before .before .before .before .before .before .args .body)))) 8192 (omega (arith, text-length (now (c .before .before .before .before .before .before .args .line)) (now (c .before .before .before .before .before .before .args .body)), lines-length (now (c .before .before .before .before .before .before .args .body)))))
 
--- src/writing.rt:29:13
 add-n : tie.Need-add-n
 add-n c = search needs
 
--- src/writing.rt:29:30
 lines-length-requires : tie.Need-lines-length-requires
 lines-length-requires c κs = search needs
 
--- src/writing.rt:29:13
 add-n-2 : tie.Need-add-n-2
 add-n-2 c = omega (arith, c .lines-length .ensures, lines-length (now (c .before .before .before .before .before .before .before .args .body)))
 
--- src/writing.rt:31:9
 returns-4 : tie.Need-returns-4
 returns-4 c = rw ((sym (c .before .before .before .before .before .is-line .ensures) ∙ not-false _ (c .before .before .before .before .if1 .left)), lt-leb (length (stanzaText (now (c .before .before .before .before .before .before .before .before .args .line)) (now (c .before .before .before .before .before .before .before .before .args .body)))) 8192 (omega (arith, text-length (now (c .before .before .before .before .before .before .before .before .args .line)) (now (c .before .before .before .before .before .before .before .before .args .body)), c .before .lines-length .ensures)))
 
--- src/writing.rt:34:9
 returns-5 : tie.Need-returns-5
 returns-5 c =
     let l = now (c .before .before .before .before .before .before .before .before .args .line) in

@@ -1,3 +1,4 @@
+-- By the size: refused with it, 15 where the buffer is shorter, else what `write_into` ensures.
 use mathlib.Core.Path.{sym, ap, _∙_}
 use denote.Ref.{now}
 use native.Mathlib.Omega.{arith}
@@ -7,42 +8,30 @@ use Rattle.stanza.proofs.Laws.Writing.{size-refused, size-bytes, size-s
 use borrow.Author.Needs.{needs}
 use Rattle.stanza.proofs.writing.write.Statement.{statement}
 use Rattle.stanza.proofs.writing.write.Tie as tie
-use Rattle.stanza.proofs.writing.write.Reads as reads
-use Rattle.stanza.proofs.writing.write.Lts as lts
-use Rattle.stanza.proofs.writing.size.Reads as size-reads
-use Rattle.stanza.proofs.writing.write_into.Reads as write-into-reads
 
--- src/writing.rt:40:9
 size-requires : tie.Need-size-requires
 size-requires c κs = search needs
 
--- src/writing.rt:42:32
 enum-told : tie.Need-enum-told
 enum-told c = search needs
 
--- src/writing.rt:43:24
 enum-known-size : tie.Need-enum-known-size
 enum-known-size c = search needs
 
--- src/writing.rt:45:17
 returns : tie.Need-returns
 returns c = size-short (now (c .before .before .before .before .before .before .before .before .args .line)) (now (c .before .before .before .before .before .before .before .before .args .body)) (now (c .before .before .before .before .before .before .before .before .args .out)) (c .before .before .size2 .given .0 .0) (sym (ap said (c .before .before .size2 .given .1)) ∙ c .before .before .before .before .size .ensures) (c .if1 .taken)
 
--- src/writing.rt:47:13
 write-into-requires : tie.Need-write-into-requires
 write-into-requires c κs = omega (arith, size-bytes (now (c .before .before .before .before .before .before .before .before .before .args .line)) (now (c .before .before .before .before .before .before .before .before .before .args .body)) (now (c .before .before .before .before .before .before .before .before .before .args .out)) (c .before .before .before .size2 .given .0 .0) (sym (ap said (c .before .before .before .size2 .given .1)) ∙ c .before .before .before .before .before .size .ensures) .1, c .before .if1 .left)
 
--- src/writing.rt:36:1
 returns-2 : tie.Need-returns-2
 returns-2 c =
     let w = size-refused (now (c .before .before .before .before .before .before .args .line)) (now (c .before .before .before .before .before .before .args .body)) (now (c .before .before .before .before .before .before .args .out)) (numberOf (c .enum-told .given .0 .0)) (sym (ap said (c .enum-told .given .1)) ∙ c .before .before .size .ensures) in
     (ap said (c .enum-told .given .1) ∙ w .0, w .1)
 
--- src/writing.rt:36:1
 same-length : tie.Need-same-length
 same-length c = search needs
 
--- src/writing.rt:36:1
 returns-3 : tie.Need-returns-3
 returns-3 c = size-fits (now (c .before .before .before .before .before .before .before .before .before .before .before .before .args .line)) (now (c .before .before .before .before .before .before .before .before .before .before .before .before .args .body)) (now (c .before .before .before .before .before .before .before .before .before .before .before .before .args .out)) (c .before .before .before .before .before .before .size2 .given .0 .0) _ (sym (ap said (c .before .before .before .before .before .before .size2 .given .1)) ∙ c .before .before .before .before .before .before .before .before .size .ensures) (c .before .before .before .before .if1 .left) (c .before .before .write-into .ensures)
 

@@ -1,43 +1,32 @@
+-- The first line and the body's lines, one behind the other, are the stanza, and there is space for both.
 use native.Mathlib.Omega.{arith}
 use denote.Ref.{now}
 use Rattle.stanza.proofs.Laws.Writing.{text-length, text-done}
 use borrow.Author.Needs.{needs}
 use Rattle.stanza.proofs.writing.write_into.Statement.{statement}
 use Rattle.stanza.proofs.writing.write_into.Tie as tie
-use Rattle.stanza.proofs.writing.write_into.Reads as reads
-use Rattle.stanza.proofs.writing.write_into.Lts as lts
-use Rattle.base64.proofs.encode_lines.Reads as encode-lines-reads
-use Rattle.stanza.proofs.writing.write_line.Reads as write-line-reads
 
--- src/writing.rt:45:5
 write-line-requires : tie.Need-write-line-requires
 write-line-requires c κs = omega (arith, text-length (now (c .before .before .before .before .args .line)) (now (c .before .before .before .before .args .body)), c .before .before .before .before .pre)
 
--- src/writing.rt:46:14
 add-at : tie.Need-add-at
 add-at c = search needs
 
--- src/writing.rt:47:32
 sub-encode-lines : tie.Need-sub-encode-lines
 sub-encode-lines c = omega (arith, text-length (now (c .before .before .before .before .before .before .before .args .line)) (now (c .before .before .before .before .before .before .before .args .body)), c .before .before .before .before .before .before .before .pre, c .before .before .write-line .kept .1 .0)
 
--- src/writing.rt:47:32
 part-encode-lines-start : tie.Need-part-encode-lines-start
 part-encode-lines-start c = omega (arith, text-length (now (c .before .before .before .before .before .before .before .args .line)) (now (c .before .before .before .before .before .before .before .args .body)), c .before .before .before .before .before .before .before .pre, c .before .before .write-line .kept .1 .0)
 
--- src/writing.rt:47:32
 part-encode-lines-end : tie.Need-part-encode-lines-end
 part-encode-lines-end c = search needs
 
--- src/writing.rt:47:5
 encode-lines-requires : tie.Need-encode-lines-requires
 encode-lines-requires c κs = search needs
 
--- src/writing.rt:41:1
 same-length : tie.Need-same-length
 same-length c = search needs
 
--- src/writing.rt:41:1
 returns : tie.Need-returns
 returns c = text-done (now (c .before .before .before .before .before .before .before .before .before .before .before .args .line)) (now (c .before .before .before .before .before .before .before .before .before .before .before .args .body)) (c .before .before .before .before .before .before .write-line .last .1 .0) (now (c .before .before .before .before .before .before .before .before .before .before .before .args .out)) (c .before .before .encode-lines .last .1 .0) (c .before .before .before .before .before .before .before .before .before .before .before .pre) (c .before .before .before .before .before .before .write-line .ensures) (c .before .before .encode-lines .ensures .1)
 

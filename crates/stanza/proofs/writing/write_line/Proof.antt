@@ -1,3 +1,4 @@
+-- The three bytes, the arguments and the LF, one behind the other, are the first line.
 use Prim.Native.Nat.{_+_, _-_}
 use mathlib.Core.Path.{_≡_, _∙_}
 use mathlib.Core.List.{_++_}
@@ -10,56 +11,42 @@ use Rattle.stanza.proofs.Laws.Writing.{line-done}
 use borrow.Author.Needs.{needs}
 use Rattle.stanza.proofs.writing.write_line.Statement.{statement}
 use Rattle.stanza.proofs.writing.write_line.Tie as tie
-use Rattle.stanza.proofs.writing.write_line.Reads as reads
-use Rattle.stanza.proofs.writing.write_line.Lts as lts
-use Rattle.stanza.proofs.writing.copy.Reads as copy-reads
 
--- src/writing.rt:55:5
 slice-write-out : tie.Need-slice-write-out
 slice-write-out c = search needs
 
--- src/writing.rt:56:5
 slice-write-out-2 : tie.Need-slice-write-out-2
 slice-write-out-2 c = simp length-set (omega arith)
 
--- src/writing.rt:57:5
 slice-write-out-3 : tie.Need-slice-write-out-3
 slice-write-out-3 c = simp length-set (omega arith)
 
--- src/writing.rt:58:16
 sub-copy : tie.Need-sub-copy
 sub-copy c = simp length-set (omega arith)
 
--- src/writing.rt:58:16
 part-copy-start : tie.Need-part-copy-start
 part-copy-start c = simp length-set (omega arith)
 
--- src/writing.rt:58:16
 part-copy-end : tie.Need-part-copy-end
 part-copy-end c = search needs
 
--- src/writing.rt:58:5
 copy-requires : tie.Need-copy-requires
 copy-requires c κs = rw (part-rest 3 (set (set (set (now (c .before .before .before .args .out)) 0 45) 1 62) 2 32), length-drop 3 (set (set (set (now (c .before .before .before .args .out)) 0 45) 1 62) 2 32)) (simp length-set (omega arith))
 
--- src/writing.rt:59:14
 add-at : tie.Need-add-at
 add-at c = search needs
 
--- src/writing.rt:60:5
 slice-write-out-4 : tie.Need-slice-write-out-4
 slice-write-out-4 c =
     let n : length (set (set (set (now (c .before .before .before .before .before .before .args .out)) 0 45) 1 62) 2 32) ≡ length (now (c .before .before .before .before .before .before .args .out)) = simp length-set in
     let e = same-len-mid 3 (length (set (set (set (now (c .before .before .before .before .before .before .args .out)) 0 45) 1 62) 2 32) - 3) (set (set (set (now (c .before .before .before .before .before .before .args .out)) 0 45) 1 62) 2 32) (c .before .before .copy .last .1 .0) (c .before .before .copy .kept .1 .0) in
     omega (arith, e, n, c .before .before .before .before .before .before .pre)
 
--- src/writing.rt:51:1
 same-length : tie.Need-same-length
 same-length c =
     let n : length (set (set (set (now (c .before .before .before .before .before .before .args .out)) 0 45) 1 62) 2 32) ≡ length (now (c .before .before .before .before .before .before .args .out)) = simp length-set in
     length-set (take 3 (set (set (set (now (c .before .before .before .before .before .before .args .out)) 0 45) 1 62) 2 32) ++ ((c .before .before .copy .last .1 .0) ++ drop (length (set (set (set (now (c .before .before .before .before .before .before .args .out)) 0 45) 1 62) 2 32) - 3) (drop 3 (set (set (set (now (c .before .before .before .before .before .before .args .out)) 0 45) 1 62) 2 32)))) (length (now (c .before .before .before .before .before .before .args .line)) + 3) 10 ∙ same-len-mid 3 (length (set (set (set (now (c .before .before .before .before .before .before .args .out)) 0 45) 1 62) 2 32) - 3) (set (set (set (now (c .before .before .before .before .before .before .args .out)) 0 45) 1 62) 2 32) (c .before .before .copy .last .1 .0) (c .before .before .copy .kept .1 .0) ∙ n
 
--- src/writing.rt:51:1
 returns : tie.Need-returns
 returns c = line-done (now (c .before .before .before .before .before .before .args .line)) (now (c .before .before .before .before .before .before .args .out)) (c .before .before .copy .last .1 .0) (c .before .before .before .before .before .before .pre) (c .before .before .copy .ensures)
 

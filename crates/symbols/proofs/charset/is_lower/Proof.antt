@@ -1,11 +1,9 @@
+-- The test is the definition.
 use mathlib.Core.Path.{refl}
 use Rattle.symbols.specs.Charset.{isLower}
 use Rattle.symbols.proofs.charset.is_lower.Statement.{statement}
 use Rattle.symbols.proofs.charset.is_lower.Tie as tie
-use Rattle.symbols.proofs.charset.is_lower.Reads as reads
-use Rattle.symbols.proofs.charset.is_lower.Lts as lts
 
--- src/charset.rt:323:1
 returns : tie.Need-returns
 unfolding isLower
 returns c = refl

@@ -1,11 +1,9 @@
+-- The test is the definition.
 use mathlib.Core.Path.{refl}
 use Rattle.symbols.specs.Charset.{isUpper}
 use Rattle.symbols.proofs.charset.is_upper.Statement.{statement}
 use Rattle.symbols.proofs.charset.is_upper.Tie as tie
-use Rattle.symbols.proofs.charset.is_upper.Reads as reads
-use Rattle.symbols.proofs.charset.is_upper.Lts as lts
 
--- src/charset.rt:317:1
 returns : tie.Need-returns
 unfolding isUpper
 returns c = refl

@@ -1,12 +1,10 @@
+-- The table is the definition tabulated at the 256 bytes.
 use Rattle.refusal.proofs.Laws.Below.{tabulated-at}
 use Rattle.symbols.specs.Charset.{placeOf, lower, isUpper}
 use Rattle.symbols.specs.Calls.{valueAt}
 use Rattle.symbols.proofs.charset.values.Statement.{statement}
 use Rattle.symbols.proofs.charset.values.Tie as tie
-use Rattle.symbols.proofs.charset.values.Reads as reads
-use Rattle.symbols.proofs.charset.values.Lts as lts
 
--- src/charset.rt:279:1
 returns : tie.Need-returns
 unfolding placeOf lower isUpper
 returns c = tabulated-at valueAt 256

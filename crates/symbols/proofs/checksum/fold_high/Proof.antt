@@ -1,3 +1,4 @@
+-- Invariant: the fold over all high bits is the fold over those from i on, from the state reached.
 use Prim.Native.Nat.{_-_, _/_, _≤_}
 use mathlib.Core.Path.{_≡_, refl, sym, ap, _∙_}
 use mathlib.Core.List.{map}
@@ -11,11 +12,6 @@ use Rattle.symbols.proofs.Laws.Folds.{polymod-at, polymod-end}
 use Rattle.symbols.proofs.Laws.Maps.{map-map}
 use Rattle.symbols.proofs.checksum.fold_high.Statement.{statement}
 use Rattle.symbols.proofs.checksum.fold_high.Tie as tie
-use Rattle.symbols.proofs.checksum.fold_high.Reads as reads
-use Rattle.symbols.proofs.checksum.fold_high.Lts as lts
-use Rattle.symbols.proofs.charset.lowered.Reads as lowered-reads
-use Rattle.symbols.proofs.checksum.step.Reads as step-reads
-use Rattle.symbols.proofs.checksum.wide.Reads as wide-reads
 
 abbrev Inv-loop : tie.InvT-loop
 Inv-loop human state₀ i₀ state i =
@@ -24,39 +20,30 @@ Inv-loop human state₀ i₀ state i =
 abbrev μ-loop : tie.MeasureT-loop
 μ-loop human state₀ i₀ state i = length human - i
 
--- src/checksum.rt:53:5
 loop-holds : tie.Need-loop-holds Inv-loop μ-loop
 loop-holds c = (search needs, refl)
 
--- src/checksum.rt:54:25
 shared-slice-read-lowered : tie.Need-shared-slice-read-lowered Inv-loop μ-loop
 shared-slice-read-lowered c = search needs
 
--- src/checksum.rt:54:13
 lowered-requires : tie.Need-lowered-requires Inv-loop μ-loop
 lowered-requires c κs = search needs
 
--- src/checksum.rt:55:29
 wide-requires : tie.Need-wide-requires Inv-loop μ-loop
 wide-requires c κs = search needs
 
--- src/checksum.rt:55:9
 step-requires : tie.Need-step-requires Inv-loop μ-loop
 step-requires c κs = search needs
 
--- src/checksum.rt:56:9
 add-i : tie.Need-add-i Inv-loop μ-loop
 add-i c = search needs
 
--- src/checksum.rt:53:5
 loop-less : tie.Need-loop-less Inv-loop μ-loop
 loop-less c = search needs
 
--- src/checksum.rt:53:5
 loop-again : tie.Need-loop-again Inv-loop μ-loop
 loop-again c = (search needs, rw (c .step .ensures, c .before .wide .ensures, c .before .before .lowered .ensures) (c .before .before .before .before .before .loop .inv .1 ∙ polymod-at (λ b. lower b / 32) (now (c .before .before .before .before .before .before .before .args .human)) (c .before .before .before .before .before .loop .i) (c .before .before .before .before .before .loop .state) (omega arith)))
 
--- src/checksum.rt:48:1
 returns : tie.Need-returns Inv-loop μ-loop
 returns c = sym (ap (polymod 1) (map-map (λ b. b / 32) lower (now (c .before .before .before .args .human))) ∙ c .before .loop .inv .1 ∙ polymod-end (λ b. lower b / 32) (now (c .before .before .before .args .human)) (c .before .loop .i) (c .before .loop .state) (omega arith))
 

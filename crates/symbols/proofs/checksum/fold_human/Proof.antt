@@ -1,3 +1,4 @@
+-- The fold over high bits, a zero and low bits is the three folds one behind the other.
 use Prim.Native.Nat.{_/_, _%_}
 use mathlib.Core.Path.{sym}
 use mathlib.Core.List.{_∷_, map}
@@ -8,25 +9,16 @@ use Rattle.symbols.proofs.Laws.Checksum.{polymod-append}
 use borrow.Author.Needs.{needs}
 use Rattle.symbols.proofs.checksum.fold_human.Statement.{statement}
 use Rattle.symbols.proofs.checksum.fold_human.Tie as tie
-use Rattle.symbols.proofs.checksum.fold_human.Reads as reads
-use Rattle.symbols.proofs.checksum.fold_human.Lts as lts
-use Rattle.symbols.proofs.checksum.fold_high.Reads as fold-high-reads
-use Rattle.symbols.proofs.checksum.fold_low.Reads as fold-low-reads
-use Rattle.symbols.proofs.checksum.step.Reads as step-reads
 
--- src/checksum.rt:78:9
 fold-high-requires : tie.Need-fold-high-requires
 fold-high-requires c κs = search needs
 
--- src/checksum.rt:79:21
 step-requires : tie.Need-step-requires
 step-requires c κs = search needs
 
--- src/checksum.rt:79:5
 fold-low-requires : tie.Need-fold-low-requires
 fold-low-requires c κs = search needs
 
--- src/checksum.rt:75:1
 returns : tie.Need-returns
 unfolding polymod
 returns c =

@@ -1,3 +1,4 @@
+-- Invariant: the fold over all low bits is the fold over those from i on, from the state reached; case does not change them.
 use Prim.Native.Nat.{_-_, _%_, _≤_}
 use mathlib.Core.Path.{_≡_, refl, sym, ap, _∙_}
 use mathlib.Core.List.{map}
@@ -11,10 +12,6 @@ use Rattle.symbols.proofs.Laws.Folds.{polymod-at, polymod-end, lower-lo
 use Rattle.symbols.proofs.Laws.Maps.{map-map}
 use Rattle.symbols.proofs.checksum.fold_low.Statement.{statement}
 use Rattle.symbols.proofs.checksum.fold_low.Tie as tie
-use Rattle.symbols.proofs.checksum.fold_low.Reads as reads
-use Rattle.symbols.proofs.checksum.fold_low.Lts as lts
-use Rattle.symbols.proofs.checksum.step.Reads as step-reads
-use Rattle.symbols.proofs.checksum.wide.Reads as wide-reads
 
 abbrev Inv-loop : tie.InvT-loop
 Inv-loop human from state₀ i₀ state i =
@@ -23,35 +20,27 @@ Inv-loop human from state₀ i₀ state i =
 abbrev μ-loop : tie.MeasureT-loop
 μ-loop human from state₀ i₀ state i = length human - i
 
--- src/checksum.rt:67:5
 loop-holds : tie.Need-loop-holds Inv-loop μ-loop
 loop-holds c = (search needs, refl)
 
--- src/checksum.rt:68:34
 shared-slice-read-wide : tie.Need-shared-slice-read-wide Inv-loop μ-loop
 shared-slice-read-wide c = search needs
 
--- src/checksum.rt:68:29
 wide-requires : tie.Need-wide-requires Inv-loop μ-loop
 wide-requires c κs = search needs
 
--- src/checksum.rt:68:9
 step-requires : tie.Need-step-requires Inv-loop μ-loop
 step-requires c κs = search needs
 
--- src/checksum.rt:69:9
 add-i : tie.Need-add-i Inv-loop μ-loop
 add-i c = search needs
 
--- src/checksum.rt:67:5
 loop-less : tie.Need-loop-less Inv-loop μ-loop
 loop-less c = search needs
 
--- src/checksum.rt:67:5
 loop-again : tie.Need-loop-again Inv-loop μ-loop
 loop-again c = (search needs, rw (c .step .ensures, c .before .wide .ensures, ← lower-low (getD (now (c .before .before .before .before .before .before .args .human)) (c .before .before .before .before .loop .i) 0)) (c .before .before .before .before .loop .inv .1 ∙ polymod-at (λ b. lower b % 32) (now (c .before .before .before .before .before .before .args .human)) (c .before .before .before .before .loop .i) (c .before .before .before .before .loop .state) (omega arith)))
 
--- src/checksum.rt:62:1
 returns : tie.Need-returns Inv-loop μ-loop
 returns c = sym (ap (polymod (c .before .before .before .args .from)) (map-map (λ b. b % 32) lower (now (c .before .before .before .args .human))) ∙ c .before .loop .inv .1 ∙ polymod-end (λ b. lower b % 32) (now (c .before .before .before .args .human)) (c .before .loop .i) (c .before .loop .state) (omega arith))
 

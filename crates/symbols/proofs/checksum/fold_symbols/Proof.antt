@@ -1,3 +1,4 @@
+-- Invariant: the fold over all symbols is the fold over those from i on, from the state reached.
 use Prim.Native.Nat.{_-_, _≤_}
 use mathlib.Core.Path.{_≡_, refl, sym, ap, _∙_}
 use mathlib.Core.List.{map}
@@ -10,10 +11,6 @@ use Rattle.symbols.proofs.Laws.Folds.{polymod-at, polymod-end}
 use Rattle.symbols.proofs.Laws.Maps.{map-id}
 use Rattle.symbols.proofs.checksum.fold_symbols.Statement.{statement}
 use Rattle.symbols.proofs.checksum.fold_symbols.Tie as tie
-use Rattle.symbols.proofs.checksum.fold_symbols.Reads as reads
-use Rattle.symbols.proofs.checksum.fold_symbols.Lts as lts
-use Rattle.symbols.proofs.checksum.step.Reads as step-reads
-use Rattle.symbols.proofs.checksum.wide.Reads as wide-reads
 
 abbrev Inv-loop : tie.InvT-loop
 Inv-loop symbols from state₀ i₀ state i =
@@ -22,35 +19,27 @@ Inv-loop symbols from state₀ i₀ state i =
 abbrev μ-loop : tie.MeasureT-loop
 μ-loop symbols from state₀ i₀ state i = length symbols - i
 
--- src/checksum.rt:88:5
 loop-holds : tie.Need-loop-holds Inv-loop μ-loop
 loop-holds c = (search needs, refl)
 
--- src/checksum.rt:89:34
 shared-slice-read-wide : tie.Need-shared-slice-read-wide Inv-loop μ-loop
 shared-slice-read-wide c = search needs
 
--- src/checksum.rt:89:29
 wide-requires : tie.Need-wide-requires Inv-loop μ-loop
 wide-requires c κs = search needs
 
--- src/checksum.rt:89:9
 step-requires : tie.Need-step-requires Inv-loop μ-loop
 step-requires c κs = search needs
 
--- src/checksum.rt:90:9
 add-i : tie.Need-add-i Inv-loop μ-loop
 add-i c = search needs
 
--- src/checksum.rt:88:5
 loop-less : tie.Need-loop-less Inv-loop μ-loop
 loop-less c = search needs
 
--- src/checksum.rt:88:5
 loop-again : tie.Need-loop-again Inv-loop μ-loop
 loop-again c = (search needs, rw (c .step .ensures, c .before .wide .ensures) (c .before .before .before .before .loop .inv .1 ∙ polymod-at (λ b. b) (now (c .before .before .before .before .before .before .args .symbols)) (c .before .before .before .before .loop .i) (c .before .before .before .before .loop .state) (omega arith)))
 
--- src/checksum.rt:83:1
 returns : tie.Need-returns Inv-loop μ-loop
 returns c = sym (ap (polymod (c .before .before .before .args .from)) (sym (map-id (now (c .before .before .before .args .symbols)))) ∙ c .before .loop .inv .1 ∙ polymod-end (λ b. b) (now (c .before .before .before .args .symbols)) (c .before .loop .i) (c .before .loop .state) (omega arith))
 

@@ -1,3 +1,4 @@
+-- The loop's invariant: the rest of the text closes from the state reached as the whole does from the first.
 use Prim.Native.Nat.{_-_, _≤_}
 use mathlib.Core.Path.{_≡_, refl, sym, _∙_}
 use mathlib.Core.List.{map}
@@ -8,71 +9,52 @@ use denote.Ref.{now}
 use mathlib.Core.Bool.{true, false}
 use lib.Dec.{ltb}
 use borrow.Author.Tests.{le-ltb, lt-ltb}
-use Rattle.symbols.specs.Calls.{valueAt, closes}
+use Rattle.symbols.specs.Calls.{closes}
+use Rattle.symbols.specs.Steps.{valueIn}
 use Rattle.symbols.proofs.Laws.Folds.{closes-at, closes-end}
 use Rattle.symbols.proofs.checksum.is_closed.Statement.{statement}
 use Rattle.symbols.proofs.checksum.is_closed.Tie as tie
-use Rattle.symbols.proofs.checksum.is_closed.Reads as reads
-use Rattle.symbols.proofs.checksum.is_closed.Lts as lts
-use Rattle.symbols.proofs.charset.look_up.Reads as look-up-reads
-use Rattle.symbols.proofs.charset.values.Reads as values-reads
-use Rattle.symbols.proofs.checksum.step.Reads as step-reads
-use Rattle.symbols.proofs.checksum.wide.Reads as wide-reads
 
 abbrev Inv-loop : tie.InvT-loop
-Inv-loop text from table state₀ i₀ state i =
-    (i ≤ length text) × (closes from (map valueAt text) ≡ closes state (map valueAt (drop i text)))
+Inv-loop table text from state₀ i₀ state i =
+    (i ≤ length text) × (closes from (map (valueIn table) text) ≡ closes state (map (valueIn table) (drop i text)))
 
 abbrev μ-loop : tie.MeasureT-loop
-μ-loop text from table state₀ i₀ state i = length text - i
+μ-loop table text from state₀ i₀ state i = length text - i
 
--- src/checksum.rt:100:17
-values-requires : tie.Need-values-requires Inv-loop μ-loop
-values-requires c κs = search needs
-
--- src/checksum.rt:102:5
 loop-holds : tie.Need-loop-holds Inv-loop μ-loop
 loop-holds c = (search needs, refl)
 
--- src/checksum.rt:103:32
 shared-slice-read-look-up : tie.Need-shared-slice-read-look-up Inv-loop μ-loop
 shared-slice-read-look-up c = search needs
 
--- src/checksum.rt:103:13
 look-up-requires : tie.Need-look-up-requires Inv-loop μ-loop
-look-up-requires c κs = c .before .before .before .before .values .ensures
+look-up-requires c κs = search needs
 
--- src/checksum.rt:105:13
 returns : tie.Need-returns Inv-loop μ-loop
 returns c =
-    let e : ltb (valueAt (getD (now (c .before .before .before .before .before .before .before .before .args .text)) (c .before .before .before .before .before .loop .i) 0)) 32 ≡ false = le-ltb (valueAt (getD (now (c .before .before .before .before .before .before .before .before .args .text)) (c .before .before .before .before .before .loop .i) 0)) 32 (omega (arith, c .before .look-up .ensures)) in
-    sym (c .before .before .before .before .before .loop .inv .1 ∙ closes-at valueAt (now (c .before .before .before .before .before .before .before .before .args .text)) (c .before .before .before .before .before .loop .i) (c .before .before .before .before .before .loop .state) (omega arith) ∙ rw e)
+    let e : ltb (valueIn (now (c .before .before .before .before .before .before .args .table)) (getD (now (c .before .before .before .before .before .before .args .text)) (c .before .before .before .before .loop .i) 0)) 32 ≡ false = le-ltb (valueIn (now (c .before .before .before .before .before .before .args .table)) (getD (now (c .before .before .before .before .before .before .args .text)) (c .before .before .before .before .loop .i) 0)) 32 (omega (arith, c .before .look-up .ensures)) in
+    sym (c .before .before .before .before .loop .inv .1 ∙ closes-at (valueIn (now (c .before .before .before .before .before .before .args .table))) (now (c .before .before .before .before .before .before .args .text)) (c .before .before .before .before .loop .i) (c .before .before .before .before .loop .state) (omega arith) ∙ rw e)
 
--- src/checksum.rt:107:29
 wide-requires : tie.Need-wide-requires Inv-loop μ-loop
 wide-requires c κs = search needs
 
--- src/checksum.rt:107:9
 step-requires : tie.Need-step-requires Inv-loop μ-loop
 step-requires c κs = search needs
 
--- src/checksum.rt:108:9
 add-i : tie.Need-add-i Inv-loop μ-loop
 add-i c = search needs
 
--- src/checksum.rt:102:5
 loop-less : tie.Need-loop-less Inv-loop μ-loop
 loop-less c = search needs
 
--- src/checksum.rt:102:5
 loop-again : tie.Need-loop-again Inv-loop μ-loop
 loop-again c =
-    let e : ltb (valueAt (getD (now (c .before .before .before .before .before .before .before .before .before .before .args .text)) (c .before .before .before .before .before .before .before .loop .i) 0)) 32 ≡ true = lt-ltb (valueAt (getD (now (c .before .before .before .before .before .before .before .before .before .before .args .text)) (c .before .before .before .before .before .before .before .loop .i) 0)) 32 (omega (arith, c .before .before .before .look-up .ensures)) in
-    (search needs, rw (c .step .ensures, c .before .wide .ensures, c .before .before .before .look-up .ensures) (c .before .before .before .before .before .before .before .loop .inv .1 ∙ closes-at valueAt (now (c .before .before .before .before .before .before .before .before .before .before .args .text)) (c .before .before .before .before .before .before .before .loop .i) (c .before .before .before .before .before .before .before .loop .state) (omega arith) ∙ rw e))
+    let e : ltb (valueIn (now (c .before .before .before .before .before .before .before .before .args .table)) (getD (now (c .before .before .before .before .before .before .before .before .args .text)) (c .before .before .before .before .before .before .loop .i) 0)) 32 ≡ true = lt-ltb (valueIn (now (c .before .before .before .before .before .before .before .before .args .table)) (getD (now (c .before .before .before .before .before .before .before .before .args .text)) (c .before .before .before .before .before .before .loop .i) 0)) 32 (omega (arith, c .before .before .before .look-up .ensures)) in
+    (search needs, rw (c .step .ensures, c .before .wide .ensures, c .before .before .before .look-up .ensures) (c .before .before .before .before .before .before .loop .inv .1 ∙ closes-at (valueIn (now (c .before .before .before .before .before .before .before .before .args .table))) (now (c .before .before .before .before .before .before .before .before .args .text)) (c .before .before .before .before .before .before .loop .i) (c .before .before .before .before .before .before .loop .state) (omega arith) ∙ rw e))
 
--- src/checksum.rt:96:1
 returns-2 : tie.Need-returns-2 Inv-loop μ-loop
-returns-2 c = sym (c .before .loop .inv .1 ∙ closes-end valueAt (now (c .before .before .before .before .args .text)) (c .before .loop .i) (c .before .loop .state) (omega arith))
+returns-2 c = sym (c .before .loop .inv .1 ∙ closes-end (valueIn (now (c .before .before .before .args .table))) (now (c .before .before .before .args .text)) (c .before .loop .i) (c .before .loop .state) (omega arith))
 
 pub is-closed-spec : {M : Type 1} → statement M
 is-closed-spec =
@@ -80,7 +62,6 @@ is-closed-spec =
     (tie.spec
     Inv-loop
     μ-loop
-    values-requires
     loop-holds
     shared-slice-read-look-up
     look-up-requires

@@ -1,3 +1,4 @@
+-- Invariant: the state after the symbol is r with the constants from i on folded in, by the bits that are left.
 use Prim.Native.Nat.{_+_, _-_, _/_, _≤_}
 use mathlib.Core.Path.{_≡_, refl, sym, ap, _∙_}
 use lib.Bits.{bitXor}
@@ -8,9 +9,6 @@ use Rattle.symbols.proofs.Laws.Checksum.{folded-at, folded-end}
 use borrow.Author.Needs.{needs}
 use Rattle.symbols.proofs.checksum.step.Statement.{statement}
 use Rattle.symbols.proofs.checksum.step.Tie as tie
-use Rattle.symbols.proofs.checksum.step.Reads as reads
-use Rattle.symbols.proofs.checksum.step.Lts as lts
-use Rattle.symbols.proofs.checksum.take_if.Reads as take-if-reads
 
 abbrev Inv-loop : tie.InvT-loop
 Inv-loop state symbol constants bits₀ r₀ i₀ bits r i =
@@ -19,40 +17,31 @@ Inv-loop state symbol constants bits₀ r₀ i₀ bits r i =
 abbrev μ-loop : tie.MeasureT-loop
 μ-loop state symbol constants bits₀ r₀ i₀ bits r i = 5 - i
 
--- src/checksum.rt:25:18
 mul-r : tie.Need-mul-r Inv-loop μ-loop
 mul-r c = search needs
 
--- src/checksum.rt:27:5
 loop-holds : tie.Need-loop-holds Inv-loop μ-loop
 unfolding stepped
 loop-holds c = (search needs, refl)
 
--- src/checksum.rt:28:35
 mul-take-if : tie.Need-mul-take-if Inv-loop μ-loop
 mul-take-if c = search needs
 
--- src/checksum.rt:28:35
 array-read-take-if : tie.Need-array-read-take-if Inv-loop μ-loop
 array-read-take-if c = search needs
 
--- src/checksum.rt:28:17
 take-if-requires : tie.Need-take-if-requires Inv-loop μ-loop
 take-if-requires c κs = search needs
 
--- src/checksum.rt:30:9
 add-i : tie.Need-add-i Inv-loop μ-loop
 add-i c = search needs
 
--- src/checksum.rt:27:5
 loop-less : tie.Need-loop-less Inv-loop μ-loop
 loop-less c = search needs
 
--- src/checksum.rt:27:5
 loop-again : tie.Need-loop-again Inv-loop μ-loop
 loop-again c = (search needs, c .before .before .loop .inv .1 ∙ folded-at generators (c .before .before .loop .i) (c .before .before .loop .r) (c .before .before .loop .bits) (omega arith) ∙ ap (λ x. folded (bitXor (c .before .before .loop .r) x) (drop (c .before .before .loop .i + 1) generators) (c .before .before .loop .bits / 2)) (sym (c .take-if .ensures)))
 
--- src/checksum.rt:20:1
 returns : tie.Need-returns Inv-loop μ-loop
 returns c = sym (c .before .loop .inv .1 ∙ folded-end generators (c .before .loop .i) (c .before .loop .r) (c .before .loop .bits) (omega arith))
 

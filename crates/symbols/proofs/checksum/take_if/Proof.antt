@@ -1,16 +1,13 @@
+-- The test is the definition's.
 use borrow.Author.Tests.{eq-eqb, ne-eqb}
 use Rattle.symbols.specs.Checksum.{taken}
 use Rattle.symbols.proofs.checksum.take_if.Statement.{statement}
 use Rattle.symbols.proofs.checksum.take_if.Tie as tie
-use Rattle.symbols.proofs.checksum.take_if.Reads as reads
-use Rattle.symbols.proofs.checksum.take_if.Lts as lts
 
--- src/checksum.rt:14:9
 returns : tie.Need-returns
 unfolding taken
 returns c = rw (eq-eqb _ _ (c .if1 .taken))
 
--- src/checksum.rt:10:1
 returns-2 : tie.Need-returns-2
 unfolding taken
 returns-2 c = rw (ne-eqb _ _ (c .if1 .left))

@@ -1,101 +1,74 @@
+-- Eight characters make five bytes, one store each.
 use native.Mathlib.Omega.{arith}
 use lib.ListN.{length-set}
 use lib.Seq.{sets-eq}
 use denote.Ref.{now}
 use mathlib.Core.List.{[], _∷_}
-use Rattle.symbols.specs.Calls.{symbolAt}
+use Rattle.symbols.specs.Steps.{symbolIn}
 use Rattle.symbols.proofs.Laws.Groups.{bytes-eight}
 use borrow.Author.Needs.{needs}
 use Rattle.symbols.proofs.regroup.decode_group.Statement.{statement}
 use Rattle.symbols.proofs.regroup.decode_group.Tie as tie
-use Rattle.symbols.proofs.regroup.decode_group.Reads as reads
-use Rattle.symbols.proofs.regroup.decode_group.Lts as lts
-use Rattle.symbols.proofs.regroup.fifth.Reads as fifth-reads
-use Rattle.symbols.proofs.regroup.first.Reads as first-reads
-use Rattle.symbols.proofs.regroup.fourth.Reads as fourth-reads
-use Rattle.symbols.proofs.regroup.second.Reads as second-reads
-use Rattle.symbols.proofs.regroup.symbol.Reads as symbol-reads
-use Rattle.symbols.proofs.regroup.third.Reads as third-reads
 
--- src/regroup.rt:140:9
 symbol-requires : tie.Need-symbol-requires
 symbol-requires c κs = search needs
 
--- src/regroup.rt:141:9
 symbol-requires-2 : tie.Need-symbol-requires-2
 symbol-requires-2 c κs = search needs
 
--- src/regroup.rt:142:9
 symbol-requires-3 : tie.Need-symbol-requires-3
 symbol-requires-3 c κs = search needs
 
--- src/regroup.rt:143:9
 symbol-requires-4 : tie.Need-symbol-requires-4
 symbol-requires-4 c κs = search needs
 
--- src/regroup.rt:144:9
 symbol-requires-5 : tie.Need-symbol-requires-5
 symbol-requires-5 c κs = search needs
 
--- src/regroup.rt:145:9
 symbol-requires-6 : tie.Need-symbol-requires-6
 symbol-requires-6 c κs = search needs
 
--- src/regroup.rt:146:9
 symbol-requires-7 : tie.Need-symbol-requires-7
 symbol-requires-7 c κs = search needs
 
--- src/regroup.rt:147:9
 symbol-requires-8 : tie.Need-symbol-requires-8
 symbol-requires-8 c κs = search needs
 
--- src/regroup.rt:148:14
 first-requires : tie.Need-first-requires
 first-requires c κs = search needs
 
--- src/regroup.rt:148:5
 slice-write-out : tie.Need-slice-write-out
 slice-write-out c = search needs
 
--- src/regroup.rt:149:14
 second-requires : tie.Need-second-requires
 second-requires c κs = search needs
 
--- src/regroup.rt:149:5
 slice-write-out-2 : tie.Need-slice-write-out-2
 slice-write-out-2 c = simp length-set (omega arith)
 
--- src/regroup.rt:150:14
 third-requires : tie.Need-third-requires
 third-requires c κs = search needs
 
--- src/regroup.rt:150:5
 slice-write-out-3 : tie.Need-slice-write-out-3
-slice-write-out-3 c = simp length-set (omega (arith, c .before .before .before .before .before .before .before .before .before .before .before .before .before .pre .1 .1))
+slice-write-out-3 c = simp length-set (omega (arith, c .before .before .before .before .before .before .before .before .before .before .before .before .before .pre .1))
 
--- src/regroup.rt:151:14
 fourth-requires : tie.Need-fourth-requires
 fourth-requires c κs = search needs
 
--- src/regroup.rt:151:5
 slice-write-out-4 : tie.Need-slice-write-out-4
-slice-write-out-4 c = simp length-set (omega (arith, c .before .before .before .before .before .before .before .before .before .before .before .before .before .before .pre .1 .1))
+slice-write-out-4 c = simp length-set (omega (arith, c .before .before .before .before .before .before .before .before .before .before .before .before .before .before .pre .1))
 
--- src/regroup.rt:152:14
 fifth-requires : tie.Need-fifth-requires
 fifth-requires c κs = search needs
 
--- src/regroup.rt:152:5
 slice-write-out-5 : tie.Need-slice-write-out-5
-slice-write-out-5 c = simp length-set (omega (arith, c .before .before .before .before .before .before .before .before .before .before .before .before .before .before .before .pre .1 .1))
+slice-write-out-5 c = simp length-set (omega (arith, c .before .before .before .before .before .before .before .before .before .before .before .before .before .before .before .pre .1))
 
--- src/regroup.rt:133:1
 same-length : tie.Need-same-length
 same-length c = search needs
 
--- src/regroup.rt:133:1
 returns : tie.Need-returns
-returns c = rw (bytes-eight symbolAt (now (c .before .before .before .before .before .before .before .before .before .before .before .before .before .before .before .args .text)) (c .before .before .before .before .before .before .before .before .before .before .before .before .before .before .before .pre .1 .0), ← c .before .before .before .before .before .before .before .before .before .before .before .before .symbol .ensures .0, ← c .before .before .before .before .before .before .before .before .before .before .before .symbol2 .ensures .0, ← c .before .before .before .before .before .before .before .before .before .before .symbol3 .ensures .0, ← c .before .before .before .before .before .before .before .before .before .symbol4 .ensures .0, ← c .before .before .before .before .before .before .before .before .symbol5 .ensures .0, ← c .before .before .before .before .before .before .before .symbol6 .ensures .0, ← c .before .before .before .before .before .before .symbol7 .ensures .0, ← c .before .before .before .before .before .symbol8 .ensures .0, ← c .before .before .before .before .first .ensures, ← c .before .before .before .second .ensures, ← c .before .before .third .ensures, ← c .before .fourth .ensures, ← c .fifth .ensures) (sets-eq (_ ∷ _ ∷ _ ∷ _ ∷ _ ∷ []) (now (c .before .before .before .before .before .before .before .before .before .before .before .before .before .before .before .args .out)) 0 (c .before .before .before .before .before .before .before .before .before .before .before .before .before .before .before .pre .1 .1))
+returns c = rw (bytes-eight (symbolIn (now (c .before .before .before .before .before .before .before .before .before .before .before .before .before .before .before .args .table))) (now (c .before .before .before .before .before .before .before .before .before .before .before .before .before .before .before .args .text)) (c .before .before .before .before .before .before .before .before .before .before .before .before .before .before .before .pre .0), ← c .before .before .before .before .before .before .before .before .before .before .before .before .symbol .ensures .0, ← c .before .before .before .before .before .before .before .before .before .before .before .symbol2 .ensures .0, ← c .before .before .before .before .before .before .before .before .before .before .symbol3 .ensures .0, ← c .before .before .before .before .before .before .before .before .before .symbol4 .ensures .0, ← c .before .before .before .before .before .before .before .before .symbol5 .ensures .0, ← c .before .before .before .before .before .before .before .symbol6 .ensures .0, ← c .before .before .before .before .before .before .symbol7 .ensures .0, ← c .before .before .before .before .before .symbol8 .ensures .0, ← c .before .before .before .before .first .ensures, ← c .before .before .before .second .ensures, ← c .before .before .third .ensures, ← c .before .fourth .ensures, ← c .fifth .ensures) (sets-eq (_ ∷ _ ∷ _ ∷ _ ∷ _ ∷ []) (now (c .before .before .before .before .before .before .before .before .before .before .before .before .before .before .before .args .out)) 0 (c .before .before .before .before .before .before .before .before .before .before .before .before .before .before .before .pre .1))
 
 pub decode-group-spec : {M : Type 1} → statement M
 decode-group-spec =

@@ -1,3 +1,4 @@
+-- The loop's invariant: the bytes of the groups passed stand at the front, and the buffer is as it was behind them.
 use Prim.Native.Nat.{_+_, _-_, _*_, _/_, _≤_}
 use mathlib.Core.Path.{_≡_, refl, _∙_}
 use mathlib.Core.List.{_++_, map}
@@ -7,79 +8,61 @@ use borrow.Author.Needs.{needs}
 use borrow.Rule.Slice.PartMut.{same-len-mid}
 use denote.Ref.{now}
 use Rattle.symbols.specs.Regroup.{bytes}
-use Rattle.symbols.specs.Calls.{symbolAt}
+use Rattle.symbols.specs.Steps.{symbolIn}
 use Rattle.symbols.proofs.Laws.Groups.{bytes-turn, bytes-ended}
 use Rattle.symbols.proofs.regroup.decode_into.Statement.{statement}
 use Rattle.symbols.proofs.regroup.decode_into.Tie as tie
-use Rattle.symbols.proofs.regroup.decode_into.Reads as reads
-use Rattle.symbols.proofs.regroup.decode_into.Lts as lts
-use Rattle.symbols.proofs.regroup.decode_group.Reads as decode-group-reads
-use Rattle.symbols.proofs.regroup.decode_rest.Reads as decode-rest-reads
 
 abbrev Inv-loop : tie.InvT-loop
 Inv-loop table text out₀ n i₀ out i =
-    (i ≤ n) × (length out ≡ length out₀) × (out ≡ bytes (map symbolAt (take (8 * i) text)) ++ drop (5 * i) out₀)
+    (i ≤ n) × (length out ≡ length out₀) × (out ≡ bytes (map (symbolIn table) (take (8 * i) text)) ++ drop (5 * i) out₀)
 
 abbrev μ-loop : tie.MeasureT-loop
 μ-loop table text out₀ n i₀ out i = n - i
 
--- src/regroup.rt:120:5
 loop-holds : tie.Need-loop-holds Inv-loop μ-loop
 unfolding bytes
 loop-holds c = (search needs, refl, refl)
 
--- src/regroup.rt:121:17
 mul-a : tie.Need-mul-a Inv-loop μ-loop
 mul-a c = search needs
 
--- src/regroup.rt:122:17
 add-e : tie.Need-add-e Inv-loop μ-loop
 add-e c = search needs
 
--- src/regroup.rt:123:17
 mul-b : tie.Need-mul-b Inv-loop μ-loop
 mul-b c = search needs
 
--- src/regroup.rt:124:29
 sub-decode-group : tie.Need-sub-decode-group Inv-loop μ-loop
 sub-decode-group c = search needs
 
--- src/regroup.rt:124:29
 part-decode-group-start : tie.Need-part-decode-group-start Inv-loop μ-loop
 part-decode-group-start c = search needs
 
--- src/regroup.rt:124:29
 part-decode-group-end : tie.Need-part-decode-group-end Inv-loop μ-loop
 part-decode-group-end c = search needs
 
--- src/regroup.rt:124:42
 sub-decode-group-2 : tie.Need-sub-decode-group-2 Inv-loop μ-loop
 sub-decode-group-2 c = search needs
 
--- src/regroup.rt:124:42
 part-decode-group-start-2 : tie.Need-part-decode-group-start-2 Inv-loop μ-loop
 part-decode-group-start-2 c = search needs
 
--- src/regroup.rt:124:42
 part-decode-group-end-2 : tie.Need-part-decode-group-end-2 Inv-loop μ-loop
 part-decode-group-end-2 c = search needs
 
--- src/regroup.rt:124:9
 decode-group-requires : tie.Need-decode-group-requires Inv-loop μ-loop
 decode-group-requires c κs =
     let t = now (c .before .before .before .before .before .before .args .text) in
     let i = c .before .before .before .loop .i in
-    (c .before .before .before .before .before .before .pre .0, (simp (length-take, length-drop) (omega arith), simp (length-take, length-drop) (omega arith)))
+    (simp (length-take, length-drop) (omega arith), simp (length-take, length-drop) (omega arith))
 
--- src/regroup.rt:125:9
 add-i : tie.Need-add-i Inv-loop μ-loop
 add-i c = search needs
 
--- src/regroup.rt:120:5
 loop-less : tie.Need-loop-less Inv-loop μ-loop
 loop-less c = search needs
 
--- src/regroup.rt:120:5
 loop-again : tie.Need-loop-again Inv-loop μ-loop
 loop-again c =
     let t = now (c .before .before .before .before .before .before .before .before .before .args .text) in
@@ -87,61 +70,50 @@ loop-again c =
     let i = c .before .before .before .before .before .before .loop .i in (
       search needs,
       same-len-mid (5 * i) (length out - 5 * i) out (c .before .before .decode-group .last .1 .1 .0) (c .before .before .decode-group .kept .1 .1 .0) ∙ c .before .before .before .before .before .before .loop .inv .1,
-      bytes-turn symbolAt t out (now (c .before .before .before .before .before .before .before .before .before .args .out)) (c .before .before .decode-group .last .1 .1 .0) i (omega arith) (c .before .before .before .before .before .before .loop .inv .2) (c .before .before .decode-group .ensures),
+      bytes-turn (symbolIn (now (c .before .before .before .before .before .before .before .before .before .args .table))) t out (now (c .before .before .before .before .before .before .before .before .before .args .out)) (c .before .before .decode-group .last .1 .1 .0) i (omega arith) (c .before .before .before .before .before .before .loop .inv .2) (c .before .before .decode-group .ensures),
     )
 
--- src/regroup.rt:127:13
 mul-a-2 : tie.Need-mul-a-2 Inv-loop μ-loop
 mul-a-2 c = search needs
 
--- src/regroup.rt:128:13
 mul-b-2 : tie.Need-mul-b-2 Inv-loop μ-loop
 mul-b-2 c = search needs
 
--- src/regroup.rt:129:24
 sub-decode-rest : tie.Need-sub-decode-rest Inv-loop μ-loop
 sub-decode-rest c = search needs
 
--- src/regroup.rt:129:24
 part-decode-rest-start : tie.Need-part-decode-rest-start Inv-loop μ-loop
 part-decode-rest-start c = search needs
 
--- src/regroup.rt:129:24
 part-decode-rest-end : tie.Need-part-decode-rest-end Inv-loop μ-loop
 part-decode-rest-end c = search needs
 
--- src/regroup.rt:129:36
 sub-decode-rest-2 : tie.Need-sub-decode-rest-2 Inv-loop μ-loop
 sub-decode-rest-2 c = search needs
 
--- src/regroup.rt:129:36
 part-decode-rest-start-2 : tie.Need-part-decode-rest-start-2 Inv-loop μ-loop
 part-decode-rest-start-2 c = search needs
 
--- src/regroup.rt:129:36
 part-decode-rest-end-2 : tie.Need-part-decode-rest-end-2 Inv-loop μ-loop
 part-decode-rest-end-2 c = search needs
 
--- src/regroup.rt:129:5
 decode-rest-requires : tie.Need-decode-rest-requires Inv-loop μ-loop
 decode-rest-requires c κs =
     let t = now (c .before .before .before .before .before .before .args .text) in
     let k = 8 * (length t / 8) in
-    (c .before .before .before .before .before .before .pre .0, (simp (length-take, length-drop) (omega arith), simp (length-take, length-drop) (omega arith)))
+    (simp (length-take, length-drop) (omega arith), simp (length-take, length-drop) (omega arith))
 
--- src/regroup.rt:112:1
 same-length : tie.Need-same-length Inv-loop μ-loop
 same-length c =
     let k = 5 * (length (now (c .before .before .before .before .before .before .before .before .before .args .text)) / 8) in
     let out = c .before .before .before .before .before .before .loop .out in
     same-len-mid k (length out - k) out (c .before .before .decode-rest .last .1 .1 .0) (c .before .before .decode-rest .kept .1 .1 .0) ∙ c .before .before .before .before .before .before .loop .inv .1
 
--- src/regroup.rt:112:1
 returns : tie.Need-returns Inv-loop μ-loop
 returns c =
     let t = now (c .before .before .before .before .before .before .before .before .before .args .text) in
     let n : c .before .before .before .before .before .before .loop .i ≡ length t / 8 = omega arith in
-    bytes-ended symbolAt t (c .before .before .before .before .before .before .loop .out) (now (c .before .before .before .before .before .before .before .before .before .args .out)) (c .before .before .decode-rest .last .1 .1 .0) (length t / 8) (omega arith) (rw n at (c .before .before .before .before .before .before .loop .inv .2)) (c .before .before .decode-rest .ensures)
+    bytes-ended (symbolIn (now (c .before .before .before .before .before .before .before .before .before .args .table))) t (c .before .before .before .before .before .before .loop .out) (now (c .before .before .before .before .before .before .before .before .before .args .out)) (c .before .before .decode-rest .last .1 .1 .0) (length t / 8) (omega arith) (rw n at (c .before .before .before .before .before .before .loop .inv .2)) (c .before .before .decode-rest .ensures)
 
 pub decode-into-spec : {M : Type 1} → statement M
 decode-into-spec =

@@ -1,116 +1,86 @@
+-- As many bytes as the characters make, one store each.
 use native.Mathlib.Omega.{arith}
 use lib.ListN.{length-set}
 use lib.Seq.{sets-eq}
 use denote.Ref.{now}
 use mathlib.Core.List.{[], _∷_}
-use Rattle.symbols.specs.Calls.{symbolAt}
+use Rattle.symbols.specs.Steps.{symbolIn}
 use Rattle.symbols.proofs.Laws.Groups.{bytes-none, bytes-two, bytes-four, bytes-five, bytes-seven}
 use borrow.Author.Needs.{needs}
 use Rattle.symbols.proofs.regroup.decode_rest.Statement.{statement}
 use Rattle.symbols.proofs.regroup.decode_rest.Tie as tie
-use Rattle.symbols.proofs.regroup.decode_rest.Reads as reads
-use Rattle.symbols.proofs.regroup.decode_rest.Lts as lts
-use Rattle.symbols.proofs.regroup.first.Reads as first-reads
-use Rattle.symbols.proofs.regroup.fourth.Reads as fourth-reads
-use Rattle.symbols.proofs.regroup.second.Reads as second-reads
-use Rattle.symbols.proofs.regroup.symbol.Reads as symbol-reads
-use Rattle.symbols.proofs.regroup.third.Reads as third-reads
 
--- src/regroup.rt:165:9
 returns : tie.Need-returns
-returns c = rw (bytes-none symbolAt (now (c .before .before .before .args .text)) (c .if1 .taken))
+returns c = rw (bytes-none (symbolIn (now (c .before .before .before .args .table))) (now (c .before .before .before .args .text)) (c .if1 .taken))
 
--- src/regroup.rt:167:9
 symbol-requires : tie.Need-symbol-requires
 symbol-requires c κs = search needs
 
--- src/regroup.rt:168:9
 symbol-requires-2 : tie.Need-symbol-requires-2
 symbol-requires-2 c κs = search needs
 
--- src/regroup.rt:169:14
 first-requires : tie.Need-first-requires
 first-requires c κs = search needs
 
--- src/regroup.rt:169:5
 slice-write-out : tie.Need-slice-write-out
 slice-write-out c = search needs
 
--- src/regroup.rt:171:9
 same-length : tie.Need-same-length
 same-length c = search needs
 
--- src/regroup.rt:171:9
 returns-2 : tie.Need-returns-2
-returns-2 c = rw (bytes-two symbolAt (now (c .before .before .before .before .before .before .before .args .text)) (omega arith) (omega arith), ← c .before .before .before .symbol .ensures .0, ← c .before .before .symbol2 .ensures .0, ← c .before .first .ensures) (sets-eq (_ ∷ []) (now (c .before .before .before .before .before .before .before .args .out)) 0 (omega arith))
+returns-2 c = rw (bytes-two (symbolIn (now (c .before .before .before .before .before .before .before .args .table))) (now (c .before .before .before .before .before .before .before .args .text)) (omega arith) (omega arith), ← c .before .before .before .symbol .ensures .0, ← c .before .before .symbol2 .ensures .0, ← c .before .first .ensures) (sets-eq (_ ∷ []) (now (c .before .before .before .before .before .before .before .args .out)) 0 (omega arith))
 
--- src/regroup.rt:173:9
 symbol-requires-3 : tie.Need-symbol-requires-3
-symbol-requires-3 c κs = (c .before .before .before .before .before .before .before .pre .0, omega arith)
+symbol-requires-3 c κs = omega arith
 
--- src/regroup.rt:174:9
 symbol-requires-4 : tie.Need-symbol-requires-4
 symbol-requires-4 c κs = search needs
 
--- src/regroup.rt:175:14
 second-requires : tie.Need-second-requires
 second-requires c κs = search needs
 
--- src/regroup.rt:175:5
 slice-write-out-2 : tie.Need-slice-write-out-2
 slice-write-out-2 c = simp length-set (omega arith)
 
--- src/regroup.rt:177:9
 same-length-2 : tie.Need-same-length-2
 same-length-2 c = search needs
 
--- src/regroup.rt:177:9
 returns-3 : tie.Need-returns-3
-returns-3 c = rw (bytes-four symbolAt (now (c .before .before .before .before .before .before .before .before .before .before .before .args .text)) (omega arith), ← c .before .before .before .before .before .before .before .symbol .ensures .0, ← c .before .before .before .before .before .before .symbol2 .ensures .0, ← c .before .before .before .symbol3 .ensures .0, ← c .before .before .symbol4 .ensures .0, ← c .before .before .before .before .before .first .ensures, ← c .before .second .ensures) (sets-eq (_ ∷ _ ∷ []) (now (c .before .before .before .before .before .before .before .before .before .before .before .args .out)) 0 (omega arith))
+returns-3 c = rw (bytes-four (symbolIn (now (c .before .before .before .before .before .before .before .before .before .before .before .args .table))) (now (c .before .before .before .before .before .before .before .before .before .before .before .args .text)) (omega arith), ← c .before .before .before .before .before .before .before .symbol .ensures .0, ← c .before .before .before .before .before .before .symbol2 .ensures .0, ← c .before .before .before .symbol3 .ensures .0, ← c .before .before .symbol4 .ensures .0, ← c .before .before .before .before .before .first .ensures, ← c .before .second .ensures) (sets-eq (_ ∷ _ ∷ []) (now (c .before .before .before .before .before .before .before .before .before .before .before .args .out)) 0 (omega arith))
 
--- src/regroup.rt:179:9
 symbol-requires-5 : tie.Need-symbol-requires-5
 symbol-requires-5 c κs = search needs
 
--- src/regroup.rt:180:14
 third-requires : tie.Need-third-requires
 third-requires c κs = search needs
 
--- src/regroup.rt:180:5
 slice-write-out-3 : tie.Need-slice-write-out-3
 slice-write-out-3 c = simp length-set (omega arith)
 
--- src/regroup.rt:182:9
 same-length-3 : tie.Need-same-length-3
 same-length-3 c = search needs
 
--- src/regroup.rt:182:9
 returns-4 : tie.Need-returns-4
-returns-4 c = rw (bytes-five symbolAt (now (c .before .before .before .before .before .before .before .before .before .before .before .before .before .before .args .text)) (omega arith) (omega arith), ← c .before .before .before .before .before .before .before .before .before .before .symbol .ensures .0, ← c .before .before .before .before .before .before .before .before .before .symbol2 .ensures .0, ← c .before .before .before .before .before .before .symbol3 .ensures .0, ← c .before .before .before .before .before .symbol4 .ensures .0, ← c .before .before .symbol5 .ensures .0, ← c .before .before .before .before .before .before .before .before .first .ensures, ← c .before .before .before .before .second .ensures, ← c .before .third .ensures) (sets-eq (_ ∷ _ ∷ _ ∷ []) (now (c .before .before .before .before .before .before .before .before .before .before .before .before .before .before .args .out)) 0 (omega arith))
+returns-4 c = rw (bytes-five (symbolIn (now (c .before .before .before .before .before .before .before .before .before .before .before .before .before .before .args .table))) (now (c .before .before .before .before .before .before .before .before .before .before .before .before .before .before .args .text)) (omega arith) (omega arith), ← c .before .before .before .before .before .before .before .before .before .before .symbol .ensures .0, ← c .before .before .before .before .before .before .before .before .before .symbol2 .ensures .0, ← c .before .before .before .before .before .before .symbol3 .ensures .0, ← c .before .before .before .before .before .symbol4 .ensures .0, ← c .before .before .symbol5 .ensures .0, ← c .before .before .before .before .before .before .before .before .first .ensures, ← c .before .before .before .before .second .ensures, ← c .before .third .ensures) (sets-eq (_ ∷ _ ∷ _ ∷ []) (now (c .before .before .before .before .before .before .before .before .before .before .before .before .before .before .args .out)) 0 (omega arith))
 
--- src/regroup.rt:184:9
 symbol-requires-6 : tie.Need-symbol-requires-6
-symbol-requires-6 c κs = (c .before .before .before .before .before .before .before .before .before .before .before .before .before .before .pre .0, omega arith)
+symbol-requires-6 c κs = omega arith
 
--- src/regroup.rt:185:9
 symbol-requires-7 : tie.Need-symbol-requires-7
 symbol-requires-7 c κs = search needs
 
--- src/regroup.rt:186:14
 fourth-requires : tie.Need-fourth-requires
 fourth-requires c κs = search needs
 
--- src/regroup.rt:186:5
 slice-write-out-4 : tie.Need-slice-write-out-4
-slice-write-out-4 c = simp length-set (omega (arith, c .before .before .before .before .before .before .before .before .before .before .before .before .before .before .before .before .before .pre .1 .0, c .before .before .before .before .before .before .before .before .before .before .before .before .before .before .before .before .before .pre .1 .1, c .before .before .before .if4 .left))
+slice-write-out-4 c = simp length-set (omega (arith, c .before .before .before .before .before .before .before .before .before .before .before .before .before .before .before .before .before .pre .0, c .before .before .before .before .before .before .before .before .before .before .before .before .before .before .before .before .before .pre .1, c .before .before .before .if4 .left))
 
--- src/regroup.rt:156:1
 same-length-4 : tie.Need-same-length-4
 same-length-4 c = search needs
 
--- src/regroup.rt:156:1
 returns-5 : tie.Need-returns-5
-returns-5 c = rw (bytes-seven symbolAt (now (c .before .before .before .before .before .before .before .before .before .before .before .before .before .before .before .before .before .args .text)) (omega (arith, c .before .before .before .before .before .before .before .before .before .before .before .before .before .before .before .before .before .pre .1 .0, c .before .before .before .before .before .before .before .before .before .before .before .before .before .before .before .before .before .pre .1 .1, c .before .before .before .if4 .left)), ← c .before .before .before .before .before .before .before .before .before .before .before .before .before .symbol .ensures .0, ← c .before .before .before .before .before .before .before .before .before .before .before .before .symbol2 .ensures .0, ← c .before .before .before .before .before .before .before .before .before .symbol3 .ensures .0, ← c .before .before .before .before .before .before .before .before .symbol4 .ensures .0, ← c .before .before .before .before .before .symbol5 .ensures .0, ← c .before .before .symbol6 .ensures .0, ← c .before .symbol7 .ensures .0, ← c .before .before .before .before .before .before .before .before .before .before .before .first .ensures, ← c .before .before .before .before .before .before .before .second .ensures, ← c .before .before .before .before .third .ensures, ← c .fourth .ensures) (sets-eq (_ ∷ _ ∷ _ ∷ _ ∷ []) (now (c .before .before .before .before .before .before .before .before .before .before .before .before .before .before .before .before .before .args .out)) 0 (omega (arith, c .before .before .before .before .before .before .before .before .before .before .before .before .before .before .before .before .before .pre .1 .0, c .before .before .before .before .before .before .before .before .before .before .before .before .before .before .before .before .before .pre .1 .1, c .before .before .before .if4 .left)))
+returns-5 c = rw (bytes-seven (symbolIn (now (c .before .before .before .before .before .before .before .before .before .before .before .before .before .before .before .before .before .args .table))) (now (c .before .before .before .before .before .before .before .before .before .before .before .before .before .before .before .before .before .args .text)) (omega (arith, c .before .before .before .before .before .before .before .before .before .before .before .before .before .before .before .before .before .pre .0, c .before .before .before .before .before .before .before .before .before .before .before .before .before .before .before .before .before .pre .1, c .before .before .before .if4 .left)), ← c .before .before .before .before .before .before .before .before .before .before .before .before .before .symbol .ensures .0, ← c .before .before .before .before .before .before .before .before .before .before .before .before .symbol2 .ensures .0, ← c .before .before .before .before .before .before .before .before .before .symbol3 .ensures .0, ← c .before .before .before .before .before .before .before .before .symbol4 .ensures .0, ← c .before .before .before .before .before .symbol5 .ensures .0, ← c .before .before .symbol6 .ensures .0, ← c .before .symbol7 .ensures .0, ← c .before .before .before .before .before .before .before .before .before .before .before .first .ensures, ← c .before .before .before .before .before .before .before .second .ensures, ← c .before .before .before .before .third .ensures, ← c .fourth .ensures) (sets-eq (_ ∷ _ ∷ _ ∷ _ ∷ []) (now (c .before .before .before .before .before .before .before .before .before .before .before .before .before .before .before .before .before .args .out)) 0 (omega (arith, c .before .before .before .before .before .before .before .before .before .before .before .before .before .before .before .before .before .pre .0, c .before .before .before .before .before .before .before .before .before .before .before .before .before .before .before .before .before .pre .1, c .before .before .before .if4 .left)))
 
 pub decode-rest-spec : {M : Type 1} → statement M
 decode-rest-spec =

@@ -1,3 +1,4 @@
+-- As many places as `out` has make fewer bytes than the payload has exactly if its symbols do not fit.
 use lib.ListN.{length}
 use native.Mathlib.Omega.{arith}
 use denote.Ref.{now}
@@ -7,31 +8,22 @@ use Rattle.symbols.proofs.Laws.Groups.{symbols-length}
 use borrow.Author.Needs.{needs}
 use Rattle.symbols.proofs.regroup.encode.Statement.{statement}
 use Rattle.symbols.proofs.regroup.encode.Tie as tie
-use Rattle.symbols.proofs.regroup.encode.Reads as reads
-use Rattle.symbols.proofs.regroup.encode.Lts as lts
-use Rattle.symbols.proofs.regroup.bytes_length.Reads as bytes-length-reads
-use Rattle.symbols.proofs.regroup.symbols_into.Reads as symbols-into-reads
 
--- src/regroup.rt:193:8
 bytes-length-requires : tie.Need-bytes-length-requires
 bytes-length-requires c κs = search needs
 
--- src/regroup.rt:194:9
 returns : tie.Need-returns
 returns c =
     let p = now (c .before .before .before .before .args .payload) in
     let o = now (c .before .before .before .before .args .out) in
     rw (lt-ltb (length o) (length (symbols p)) (omega (arith, symbols-length p, c .before .bytes-length .ensures)))
 
--- src/regroup.rt:196:5
 symbols-into-requires : tie.Need-symbols-into-requires
 symbols-into-requires c κs = search needs
 
--- src/regroup.rt:190:1
 same-length : tie.Need-same-length
 same-length c = search needs
 
--- src/regroup.rt:190:1
 returns-2 : tie.Need-returns-2
 returns-2 c =
     let p = now (c .before .before .before .before .before .before .before .before .args .payload) in

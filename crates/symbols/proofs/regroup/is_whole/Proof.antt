@@ -1,55 +1,39 @@
+-- By how many symbols there are and the last.
 use mathlib.Core.Path.{sym, _∙_}
 use native.Mathlib.Omega.{arith}
 use denote.Ref.{now}
-use Rattle.symbols.specs.Calls.{valueAt}
+use Rattle.symbols.specs.Steps.{valueIn}
 use Rattle.symbols.proofs.Laws.Groups.{whole-none, whole-last}
 use borrow.Author.Needs.{needs}
 use Rattle.symbols.proofs.regroup.is_whole.Statement.{statement}
 use Rattle.symbols.proofs.regroup.is_whole.Tie as tie
-use Rattle.symbols.proofs.regroup.is_whole.Reads as reads
-use Rattle.symbols.proofs.regroup.is_whole.Lts as lts
-use Rattle.symbols.proofs.charset.look_up.Reads as look-up-reads
-use Rattle.symbols.proofs.charset.values.Reads as values-reads
-use Rattle.symbols.proofs.regroup.is_clear.Reads as is-clear-reads
 
--- src/regroup.rt:56:9
 returns : tie.Need-returns
-returns c = sym (whole-none valueAt (now (c .before .before .args .text)) (c .if1 .taken))
+returns c = sym (whole-none (valueIn (now (c .before .before .args .table))) (now (c .before .before .args .text)) (c .if1 .taken))
 
--- src/regroup.rt:58:17
-values-requires : tie.Need-values-requires
-values-requires c κs = search needs
-
--- src/regroup.rt:58:14
 mul-is-clear : tie.Need-mul-is-clear
 mul-is-clear c = search needs
 
--- src/regroup.rt:58:49
 sub-look-up : tie.Need-sub-look-up
 sub-look-up c = search needs
 
--- src/regroup.rt:58:44
 shared-slice-read-look-up : tie.Need-shared-slice-read-look-up
 shared-slice-read-look-up c = search needs
 
--- src/regroup.rt:58:29
 look-up-requires : tie.Need-look-up-requires
-look-up-requires c κs = c .before .before .values .ensures
+look-up-requires c κs = search needs
 
--- src/regroup.rt:58:5
 is-clear-requires : tie.Need-is-clear-requires
 is-clear-requires c κs = search needs
 
--- src/regroup.rt:50:1
 returns-2 : tie.Need-returns-2
-returns-2 c = c .is-clear .ensures ∙ rw (c .before .look-up .ensures) (whole-last valueAt (now (c .before .before .before .before .before .before .before .args .text)) (omega arith))
+returns-2 c = c .is-clear .ensures ∙ rw (c .before .look-up .ensures) (whole-last (valueIn (now (c .before .before .before .before .before .args .table))) (now (c .before .before .before .before .before .args .text)) (omega arith))
 
 pub is-whole-spec : {M : Type 1} → statement M
 is-whole-spec =
     tie.close
     (tie.spec
     returns
-    values-requires
     mul-is-clear
     sub-look-up
     shared-slice-read-look-up

@@ -1,22 +1,17 @@
+-- The value, less its multiples of 32.
 use Prim.Native.Nat.{_%_}
 use mathlib.Core.Path.{ap}
 use native.Mathlib.Omega.{arith}
 use borrow.Author.Needs.{needs}
 use Rattle.symbols.proofs.regroup.symbol.Statement.{statement}
 use Rattle.symbols.proofs.regroup.symbol.Tie as tie
-use Rattle.symbols.proofs.regroup.symbol.Reads as reads
-use Rattle.symbols.proofs.regroup.symbol.Lts as lts
-use Rattle.symbols.proofs.charset.look_up.Reads as look-up-reads
 
--- src/regroup.rt:69:20
 shared-slice-read-look-up : tie.Need-shared-slice-read-look-up
 shared-slice-read-look-up c = search needs
 
--- src/regroup.rt:69:5
 look-up-requires : tie.Need-look-up-requires
 look-up-requires c κs = search needs
 
--- src/regroup.rt:62:1
 returns : tie.Need-returns
 returns c = (ap (λ v. v % 32) (c .look-up .ensures), omega arith)
 

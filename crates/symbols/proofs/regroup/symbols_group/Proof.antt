@@ -1,3 +1,4 @@
+-- The eight writes, from place 0 on, put the list of the eight symbols that five bytes make.
 use native.Mathlib.Omega.{arith}
 use lib.ListN.{length-set}
 use lib.Seq.{sets-eq}
@@ -7,98 +8,73 @@ use Rattle.symbols.proofs.Laws.Groups.{symbols-five}
 use borrow.Author.Needs.{needs}
 use Rattle.symbols.proofs.regroup.symbols_group.Statement.{statement}
 use Rattle.symbols.proofs.regroup.symbols_group.Tie as tie
-use Rattle.symbols.proofs.regroup.symbols_group.Reads as reads
-use Rattle.symbols.proofs.regroup.symbols_group.Lts as lts
 
--- src/regroup.rt:214:13
 shared-slice-read-a : tie.Need-shared-slice-read-a
 shared-slice-read-a c = search needs
 
--- src/regroup.rt:215:13
 shared-slice-read-b : tie.Need-shared-slice-read-b
 shared-slice-read-b c = search needs
 
--- src/regroup.rt:216:13
 shared-slice-read-c : tie.Need-shared-slice-read-c
 shared-slice-read-c c = search needs
 
--- src/regroup.rt:217:13
 shared-slice-read-d : tie.Need-shared-slice-read-d
 shared-slice-read-d c = search needs
 
--- src/regroup.rt:218:13
 shared-slice-read-e : tie.Need-shared-slice-read-e
 shared-slice-read-e c = search needs
 
--- src/regroup.rt:219:5
 slice-write-out : tie.Need-slice-write-out
 slice-write-out c = search needs
 
--- src/regroup.rt:220:14
 mul-out : tie.Need-mul-out
 mul-out c = search needs
 
--- src/regroup.rt:220:14
 add-out : tie.Need-add-out
 add-out c = omega (arith, c .before .before .before .before .shared-slice-known .given 1)
 
--- src/regroup.rt:220:5
 slice-write-out-2 : tie.Need-slice-write-out-2
 slice-write-out-2 c = simp length-set (omega arith)
 
--- src/regroup.rt:221:5
 slice-write-out-3 : tie.Need-slice-write-out-3
 slice-write-out-3 c = simp length-set (omega arith)
 
--- src/regroup.rt:222:14
 mul-out-2 : tie.Need-mul-out-2
 mul-out-2 c = search needs
 
--- src/regroup.rt:222:14
 add-out-2 : tie.Need-add-out-2
 add-out-2 c = omega (arith, c .before .before .before .before .shared-slice-known .given 2)
 
--- src/regroup.rt:222:5
 slice-write-out-4 : tie.Need-slice-write-out-4
 slice-write-out-4 c = simp length-set (omega arith)
 
--- src/regroup.rt:223:14
 mul-out-3 : tie.Need-mul-out-3
 mul-out-3 c = search needs
 
--- src/regroup.rt:223:14
 add-out-3 : tie.Need-add-out-3
 add-out-3 c = omega (arith, c .before .before .before .before .shared-slice-known .given 3)
 
--- src/regroup.rt:223:5
 slice-write-out-5 : tie.Need-slice-write-out-5
 slice-write-out-5 c = simp length-set (omega arith)
 
--- src/regroup.rt:224:5
 slice-write-out-6 : tie.Need-slice-write-out-6
 slice-write-out-6 c = simp length-set (omega arith)
 
--- src/regroup.rt:225:14
 mul-out-4 : tie.Need-mul-out-4
 mul-out-4 c = search needs
 
--- src/regroup.rt:225:14
 add-out-4 : tie.Need-add-out-4
 add-out-4 c = omega (arith, c .before .before .before .before .shared-slice-known .given 4)
 
--- src/regroup.rt:225:5
 slice-write-out-7 : tie.Need-slice-write-out-7
 slice-write-out-7 c = simp length-set (omega arith)
 
--- src/regroup.rt:226:5
 slice-write-out-8 : tie.Need-slice-write-out-8
 slice-write-out-8 c = simp length-set (omega arith)
 
--- src/regroup.rt:209:1
 same-length : tie.Need-same-length
 same-length c = simp length-set
 
--- src/regroup.rt:209:1
 returns : tie.Need-returns
 returns c = rw (symbols-five (now (c .before .before .before .before .before .args .payload)) (c .before .before .before .before .before .pre .0)) (sets-eq (_ ∷ _ ∷ _ ∷ _ ∷ _ ∷ _ ∷ _ ∷ _ ∷ []) (now (c .before .before .before .before .before .args .out)) 0 (c .before .before .before .before .before .pre .1))
 

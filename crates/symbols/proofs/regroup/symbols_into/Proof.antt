@@ -1,3 +1,4 @@
+-- Invariant: the first i groups' symbols stand at the front of `out`, 8 of each, and behind them `out` is as it was.
 use Prim.Native.Nat.{_-_, _*_, _/_, _≤_}
 use mathlib.Core.Path.{_≡_, refl, _∙_}
 use mathlib.Core.List.{_++_}
@@ -10,10 +11,6 @@ use Rattle.symbols.specs.Regroup.{symbols}
 use Rattle.symbols.proofs.Laws.Groups.{symbols-turn, symbols-ended}
 use Rattle.symbols.proofs.regroup.symbols_into.Statement.{statement}
 use Rattle.symbols.proofs.regroup.symbols_into.Tie as tie
-use Rattle.symbols.proofs.regroup.symbols_into.Reads as reads
-use Rattle.symbols.proofs.regroup.symbols_into.Lts as lts
-use Rattle.symbols.proofs.regroup.symbols_group.Reads as symbols-group-reads
-use Rattle.symbols.proofs.regroup.symbols_rest.Reads as symbols-rest-reads
 
 abbrev Inv-loop : tie.InvT-loop
 Inv-loop payload out₀ n i₀ out i =
@@ -22,60 +19,46 @@ Inv-loop payload out₀ n i₀ out i =
 abbrev μ-loop : tie.MeasureT-loop
 μ-loop payload out₀ n i₀ out i = n - i
 
--- src/regroup.rt:196:5
 loop-holds : tie.Need-loop-holds Inv-loop μ-loop
 unfolding symbols
 loop-holds c = (search needs, refl, refl)
 
--- src/regroup.rt:197:17
 mul-a : tie.Need-mul-a Inv-loop μ-loop
 mul-a c = search needs
 
--- src/regroup.rt:198:17
 add-e : tie.Need-add-e Inv-loop μ-loop
 add-e c = search needs
 
--- src/regroup.rt:199:17
 mul-b : tie.Need-mul-b Inv-loop μ-loop
 mul-b c = search needs
 
--- src/regroup.rt:200:23
 sub-symbols-group : tie.Need-sub-symbols-group Inv-loop μ-loop
 sub-symbols-group c = search needs
 
--- src/regroup.rt:200:23
 part-symbols-group-start : tie.Need-part-symbols-group-start Inv-loop μ-loop
 part-symbols-group-start c = search needs
 
--- src/regroup.rt:200:23
 part-symbols-group-end : tie.Need-part-symbols-group-end Inv-loop μ-loop
 part-symbols-group-end c = search needs
 
--- src/regroup.rt:200:39
 sub-symbols-group-2 : tie.Need-sub-symbols-group-2 Inv-loop μ-loop
 sub-symbols-group-2 c = search needs
 
--- src/regroup.rt:200:39
 part-symbols-group-start-2 : tie.Need-part-symbols-group-start-2 Inv-loop μ-loop
 part-symbols-group-start-2 c = search needs
 
--- src/regroup.rt:200:39
 part-symbols-group-end-2 : tie.Need-part-symbols-group-end-2 Inv-loop μ-loop
 part-symbols-group-end-2 c = search needs
 
--- src/regroup.rt:200:9
 symbols-group-requires : tie.Need-symbols-group-requires Inv-loop μ-loop
 symbols-group-requires c κs = (simp (length-take, length-drop) (omega arith), simp (length-take, length-drop) (omega arith))
 
--- src/regroup.rt:201:9
 add-i : tie.Need-add-i Inv-loop μ-loop
 add-i c = search needs
 
--- src/regroup.rt:196:5
 loop-less : tie.Need-loop-less Inv-loop μ-loop
 loop-less c = search needs
 
--- src/regroup.rt:196:5
 loop-again : tie.Need-loop-again Inv-loop μ-loop
 loop-again c =
     let t = now (c .before .before .before .before .before .before .before .before .before .args .payload) in
@@ -86,50 +69,39 @@ loop-again c =
       symbols-turn t out (now (c .before .before .before .before .before .before .before .before .before .args .out)) (c .before .before .symbols-group .last .1 .0) i (omega arith) (c .before .before .before .before .before .before .loop .inv .2) (c .before .before .symbols-group .ensures),
     )
 
--- src/regroup.rt:203:13
 mul-a-2 : tie.Need-mul-a-2 Inv-loop μ-loop
 mul-a-2 c = search needs
 
--- src/regroup.rt:204:13
 mul-b-2 : tie.Need-mul-b-2 Inv-loop μ-loop
 mul-b-2 c = search needs
 
--- src/regroup.rt:205:18
 sub-symbols-rest : tie.Need-sub-symbols-rest Inv-loop μ-loop
 sub-symbols-rest c = search needs
 
--- src/regroup.rt:205:18
 part-symbols-rest-start : tie.Need-part-symbols-rest-start Inv-loop μ-loop
 part-symbols-rest-start c = search needs
 
--- src/regroup.rt:205:18
 part-symbols-rest-end : tie.Need-part-symbols-rest-end Inv-loop μ-loop
 part-symbols-rest-end c = search needs
 
--- src/regroup.rt:205:33
 sub-symbols-rest-2 : tie.Need-sub-symbols-rest-2 Inv-loop μ-loop
 sub-symbols-rest-2 c = search needs
 
--- src/regroup.rt:205:33
 part-symbols-rest-start-2 : tie.Need-part-symbols-rest-start-2 Inv-loop μ-loop
 part-symbols-rest-start-2 c = search needs
 
--- src/regroup.rt:205:33
 part-symbols-rest-end-2 : tie.Need-part-symbols-rest-end-2 Inv-loop μ-loop
 part-symbols-rest-end-2 c = search needs
 
--- src/regroup.rt:205:5
 symbols-rest-requires : tie.Need-symbols-rest-requires Inv-loop μ-loop
 symbols-rest-requires c κs = (simp (length-take, length-drop) (omega arith), simp (length-take, length-drop) (omega arith))
 
--- src/regroup.rt:190:1
 same-length : tie.Need-same-length Inv-loop μ-loop
 same-length c =
     let k = 8 * (length (now (c .before .before .before .before .before .before .before .before .before .args .payload)) / 5) in
     let out = c .before .before .before .before .before .before .loop .out in
     same-len-mid k (length out - k) out (c .before .before .symbols-rest .last .1 .0) (c .before .before .symbols-rest .kept .1 .0) ∙ c .before .before .before .before .before .before .loop .inv .1
 
--- src/regroup.rt:190:1
 returns : tie.Need-returns Inv-loop μ-loop
 returns c =
     let t = now (c .before .before .before .before .before .before .before .before .before .args .payload) in

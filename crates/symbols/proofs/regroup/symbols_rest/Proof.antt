@@ -1,3 +1,4 @@
+-- By the number of bytes: the writes of each case, from place 0 on, put the list of its symbols.
 use native.Mathlib.Omega.{arith}
 use lib.ListN.{length-set}
 use lib.Seq.{sets-eq}
@@ -7,138 +8,103 @@ use Rattle.symbols.proofs.Laws.Groups.{symbols-none, symbols-one, symbo
 use borrow.Author.Needs.{needs}
 use Rattle.symbols.proofs.regroup.symbols_rest.Statement.{statement}
 use Rattle.symbols.proofs.regroup.symbols_rest.Tie as tie
-use Rattle.symbols.proofs.regroup.symbols_rest.Reads as reads
-use Rattle.symbols.proofs.regroup.symbols_rest.Lts as lts
 
--- src/regroup.rt:237:9
 returns : tie.Need-returns
 returns c = rw (symbols-none (now (c .before .args .payload)) (c .if1 .taken))
 
--- src/regroup.rt:239:13
 shared-slice-read-a : tie.Need-shared-slice-read-a
 shared-slice-read-a c = search needs
 
--- src/regroup.rt:240:5
 slice-write-out : tie.Need-slice-write-out
 slice-write-out c = search needs
 
--- src/regroup.rt:242:18
 mul-out : tie.Need-mul-out
 mul-out c = search needs
 
--- src/regroup.rt:242:9
 slice-write-out-2 : tie.Need-slice-write-out-2
 slice-write-out-2 c = simp length-set (omega arith)
 
--- src/regroup.rt:243:9
 same-length : tie.Need-same-length
 same-length c = search needs
 
--- src/regroup.rt:243:9
 returns-2 : tie.Need-returns-2
 returns-2 c = rw (symbols-one (now (c .before .before .before .args .payload)) (omega arith)) (sets-eq (_ ∷ _ ∷ []) (now (c .before .before .before .args .out)) 0 (omega arith))
 
--- src/regroup.rt:245:13
 shared-slice-read-b : tie.Need-shared-slice-read-b
 shared-slice-read-b c = search needs
 
--- src/regroup.rt:246:14
 mul-out-2 : tie.Need-mul-out-2
 mul-out-2 c = search needs
 
--- src/regroup.rt:246:14
 add-out : tie.Need-add-out
 add-out c = omega (arith, c .before .before .shared-slice-known .given 1)
 
--- src/regroup.rt:246:5
 slice-write-out-3 : tie.Need-slice-write-out-3
 slice-write-out-3 c = simp length-set (omega arith)
 
--- src/regroup.rt:247:5
 slice-write-out-4 : tie.Need-slice-write-out-4
 slice-write-out-4 c = simp length-set (omega arith)
 
--- src/regroup.rt:249:18
 mul-out-3 : tie.Need-mul-out-3
 mul-out-3 c = search needs
 
--- src/regroup.rt:249:9
 slice-write-out-5 : tie.Need-slice-write-out-5
 slice-write-out-5 c = simp length-set (omega arith)
 
--- src/regroup.rt:250:9
 same-length-2 : tie.Need-same-length-2
 same-length-2 c = search needs
 
--- src/regroup.rt:250:9
 returns-3 : tie.Need-returns-3
 returns-3 c = rw (symbols-two (now (c .before .before .before .before .before .args .payload)) (omega arith)) (sets-eq (_ ∷ _ ∷ _ ∷ _ ∷ []) (now (c .before .before .before .before .before .args .out)) 0 (omega arith))
 
--- src/regroup.rt:252:13
 shared-slice-read-c : tie.Need-shared-slice-read-c
 shared-slice-read-c c = search needs
 
--- src/regroup.rt:253:14
 mul-out-4 : tie.Need-mul-out-4
 mul-out-4 c = search needs
 
--- src/regroup.rt:253:14
 add-out-2 : tie.Need-add-out-2
 add-out-2 c = omega (arith, c .before .before .before .before .shared-slice-known .given 2)
 
--- src/regroup.rt:253:5
 slice-write-out-6 : tie.Need-slice-write-out-6
 slice-write-out-6 c = simp length-set (omega arith)
 
--- src/regroup.rt:255:18
 mul-out-5 : tie.Need-mul-out-5
 mul-out-5 c = search needs
 
--- src/regroup.rt:255:9
 slice-write-out-7 : tie.Need-slice-write-out-7
 slice-write-out-7 c = simp length-set (omega arith)
 
--- src/regroup.rt:256:9
 same-length-3 : tie.Need-same-length-3
 same-length-3 c = search needs
 
--- src/regroup.rt:256:9
 returns-4 : tie.Need-returns-4
 returns-4 c = rw (symbols-three (now (c .before .before .before .before .before .before .before .args .payload)) (omega arith)) (sets-eq (_ ∷ _ ∷ _ ∷ _ ∷ _ ∷ []) (now (c .before .before .before .before .before .before .before .args .out)) 0 (omega arith))
 
--- src/regroup.rt:258:13
 shared-slice-read-d : tie.Need-shared-slice-read-d
 shared-slice-read-d c = search needs
 
--- src/regroup.rt:259:14
 mul-out-6 : tie.Need-mul-out-6
 mul-out-6 c = search needs
 
--- src/regroup.rt:259:14
 add-out-3 : tie.Need-add-out-3
 add-out-3 c = omega (arith, c .before .before .before .before .before .before .shared-slice-known .given 3)
 
--- src/regroup.rt:259:5
 slice-write-out-8 : tie.Need-slice-write-out-8
 slice-write-out-8 c = simp length-set (omega arith)
 
--- src/regroup.rt:260:5
 slice-write-out-9 : tie.Need-slice-write-out-9
 slice-write-out-9 c = simp length-set (omega arith)
 
--- src/regroup.rt:261:14
 mul-out-7 : tie.Need-mul-out-7
 mul-out-7 c = search needs
 
--- src/regroup.rt:261:5
 slice-write-out-10 : tie.Need-slice-write-out-10
 slice-write-out-10 c = simp length-set (omega arith)
 
--- src/regroup.rt:230:1
 same-length-4 : tie.Need-same-length-4
 same-length-4 c = simp length-set
 
--- src/regroup.rt:230:1
 returns-5 : tie.Need-returns-5
 returns-5 c = rw (symbols-four (now (c .before .before .before .before .before .before .before .before .args .payload)) (omega arith)) (sets-eq (_ ∷ _ ∷ _ ∷ _ ∷ _ ∷ _ ∷ _ ∷ []) (now (c .before .before .before .before .before .before .before .before .args .out)) 0 (omega arith))
 

@@ -1,3 +1,4 @@
+-- Invariant: the first i bytes of `part` stand at the front of `out`, and behind them `out` is as it was.
 use Prim.Native.Nat.{_-_, _≤_}
 use mathlib.Core.List.{_++_}
 use mathlib.Core.Path.{_≡_, refl}
@@ -8,8 +9,6 @@ use borrow.Author.Needs.{needs}
 use Rattle.refusal.proofs.Laws.Lists.{front-store, front-whole}
 use Rattle.tables.proofs.copying.copy.Statement.{statement}
 use Rattle.tables.proofs.copying.copy.Tie as tie
-use Rattle.tables.proofs.copying.copy.Reads as reads
-use Rattle.tables.proofs.copying.copy.Lts as lts
 
 abbrev Inv-loop : tie.InvT-loop
 Inv-loop part out₀ i₀ out i =
@@ -18,35 +17,27 @@ Inv-loop part out₀ i₀ out i =
 abbrev μ-loop : tie.MeasureT-loop
 μ-loop part out₀ i₀ out i = length part - i
 
--- src/copying.rt:14:5
 loop-holds : tie.Need-loop-holds Inv-loop μ-loop
 loop-holds c = (search needs, refl, refl)
 
--- src/copying.rt:15:18
 shared-slice-read-out : tie.Need-shared-slice-read-out Inv-loop μ-loop
 shared-slice-read-out c = search needs
 
--- src/copying.rt:15:9
 slice-write-out : tie.Need-slice-write-out Inv-loop μ-loop
 slice-write-out c = search needs
 
--- src/copying.rt:16:9
 add-i : tie.Need-add-i Inv-loop μ-loop
 add-i c = search needs
 
--- src/copying.rt:14:5
 loop-less : tie.Need-loop-less Inv-loop μ-loop
 loop-less c = search needs
 
--- src/copying.rt:14:5
 loop-again : tie.Need-loop-again Inv-loop μ-loop
 loop-again c = (search needs, simp length-set (c .before .before .loop .inv .1), front-store (now (c .before .before .before .args .part)) (c .before .before .loop .out) (now (c .before .before .before .args .out)) (c .before .before .loop .i) 0 (c .before .before .loop .inv .2) (omega arith) (c .before .before .before .pre))
 
--- src/copying.rt:9:1
 same-length : tie.Need-same-length Inv-loop μ-loop
 same-length c = c .before .loop .inv .1
 
--- src/copying.rt:9:1
 returns : tie.Need-returns Inv-loop μ-loop
 returns c =
     let p = now (c .before .before .args .part) in

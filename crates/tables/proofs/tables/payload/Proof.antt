@@ -1,41 +1,31 @@
+-- By what was found: an entry is a part of the buffer, and nothing is the empty part at its end.
 use denote.Ref.{now}
 use Rattle.tables.proofs.Laws.LookUp.{nothing-left}
 use borrow.Author.Needs.{needs}
 use Rattle.tables.proofs.tables.payload.Statement.{statement}
 use Rattle.tables.proofs.tables.payload.Tie as tie
-use Rattle.tables.proofs.tables.payload.Reads as reads
-use Rattle.tables.proofs.tables.payload.Lts as lts
-use Rattle.tables.proofs.tables.part.Reads as part-reads
 
--- src/tables.rt:305:27
 enum-told : tie.Need-enum-told
 enum-told c = search needs
 
--- src/tables.rt:305:27
 sub-result : tie.Need-sub-result
 sub-result c = search needs
 
--- src/tables.rt:305:27
 part-result-start : tie.Need-part-result-start
 part-result-start c = search needs
 
--- src/tables.rt:305:27
 part-result-end : tie.Need-part-result-end
 part-result-end c = search needs
 
--- src/tables.rt:306:22
 enum-known-found : tie.Need-enum-known-found
 enum-known-found c = search needs
 
--- src/tables.rt:306:28
 part-requires : tie.Need-part-requires
 part-requires c κs = search needs
 
--- src/tables.rt:300:1
 returns : tie.Need-returns
 returns c = rw (c .before .enum-told .given .1) (nothing-left (now (c .before .before .before .before .args .buffer)))
 
--- src/tables.rt:300:1
 returns-2 : tie.Need-returns-2
 returns-2 c = rw (c .before .before .found .given .1) (c .part .ensures)
 

@@ -1,0 +1,3 @@
+-- What the code of the look-up stands for.
+pub mod LookUp
+pub mod ErrorNames

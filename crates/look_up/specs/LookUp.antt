@@ -1,0 +1,97 @@
+-- Look-up for a host: an entry by kind and number (document 01, "Phase one": "Any caller may ask for an entry by kind (recipient or identity) and number"); which
+-- command awaits an answer; and, where its conversation has ended, what phase two brought: errors by number; "Returned stanzas are numbered from 0 within their
+-- file and keys go by file" (document 01, "Phase two").
+use Prim.Native.Nat.{ℕ, zero, suc}
+use mathlib.Core.Bool.{Bool}
+use mathlib.Core.List.{List, [], _∷_}
+use lib.Dec.{eqb}
+use Rattle.refusal.specs.Pick.{pick}
+use Rattle.bech32.specs.declared.TextKind.{TextKind}
+use Rattle.bech32.specs.declared.TextKind.the-variants as the-text
+use Rattle.tables.specs.declared.slots.Entry.{Entry}
+use Rattle.tables.specs.declared.tables.Found.{Found}
+use Rattle.tables.specs.declared.tables.Found.the-variants as the-found
+use Rattle.tables.specs.Tables.{Table, found, shown}
+use Rattle.session.specs.Tables.{Tables}
+use Rattle.session.specs.declared.kinds.Kind.{Kind}
+use Rattle.session.specs.declared.kinds.Kind.the-variants as the-kind
+use Rattle.session.specs.declared.phases.Phase.{Phase}
+use Rattle.session.specs.declared.phases.Phase.the-variants.{One, Two, Awaiting, Ended, Closed}
+use Rattle.conversation.specs.PhaseTwo.{Label, labels, isFile}
+use Rattle.look_up.specs.declared.look_up.Awaited.{Awaited}
+use Rattle.look_up.specs.declared.look_up.Awaited.the-variants as the-awaited
+use Rattle.look_up.specs.declared.look_up.ErrorNamed.{ErrorNamed}
+use Rattle.look_up.specs.declared.look_up.ErrorNamed.the-variants as the
+
+-- ---- by kind and number
+
+-- a kind's table
+abbrev pub tableOf : Kind → Tables → Table
+tableOf the-kind.Recipients t = t .recipients
+tableOf the-kind.Identities t = t .identities
+tableOf the-kind.Keys t = t .keys
+tableOf the-kind.Headers t = t .headers
+tableOf the-kind.Errors t = t .errors
+tableOf the-kind.Stanzas t = t .stanzas
+tableOf the-kind.Returned t = t .returned
+
+-- an entry's text, as a part of the recipients' buffer or the identities' buffer
+abbrev pub entryText : Tables → TextKind → ℕ → List ℕ → List ℕ → List ℕ
+entryText t the-text.Recipient n recipients identities = shown (found (t .recipients) n) recipients
+entryText t the-text.Identity n recipients identities = shown (found (t .identities) n) identities
+
+-- ---- the command that awaits an answer, if any
+
+abbrev pub awaitedIn : Phase → Awaited
+awaitedIn One = the-awaited.Nothing
+awaitedIn Two = the-awaited.Nothing
+awaitedIn (Awaiting w) = the-awaited.Command w
+awaitedIn Ended = the-awaited.Nothing
+awaitedIn Closed = the-awaited.Nothing
+
+-- ---- "what the k-th error names, by value": the entry's mark says which kind, its index which number
+
+-- header stanza i: the stanza has the file
+abbrev pub headerNamed : ℕ → Found → ErrorNamed
+headerNamed i the-found.Nothing = the.Nothing
+headerNamed i (the-found.Entry h) = the.Header (h .index) i
+
+-- by the marks that an error is stored with; no call stores another
+abbrev pub namedBy : Table → Entry → ErrorNamed
+namedBy headers e =
+    pick (eqb (e .mark) 0) the.Internal
+    (pick (eqb (e .mark) 1) (the.Identity (e .index))
+    (pick (eqb (e .mark) 2) (the.Recipient (e .index)) (pick (eqb (e .mark) 3) (headerNamed (e .index) (found headers (e .index))) the.Nothing)))
+
+-- what was found, if anything
+abbrev pub namedIn : Table → Found → ErrorNamed
+namedIn headers the-found.Nothing = the.Nothing
+namedIn headers (the-found.Entry e) = namedBy headers e
+
+-- error k
+abbrev pub errorNamed : Tables → ℕ → ErrorNamed
+errorNamed t k = namedIn (t .headers) (found (t .errors) k)
+
+-- ---- "its message, the k-th stanza of a file, the key of a file, each as a part of its buffer .., and empty where there is none or the buffer is too short"
+
+-- the number of the k-th that passes a test, among all; as many as there are where there is none
+unfoldable pub numberOf : (Label → Bool) → List Label → ℕ → ℕ
+numberOf test [] k = 0
+numberOf test (l ∷ ls) zero = pick (test l) 0 (suc (numberOf test ls 0))
+numberOf test (l ∷ ls) (suc k) = suc (numberOf test ls (pick (test l) k (suc k)))
+
+-- the k-th entry of the file f, in the order of acceptance
+abbrev pub foundOf : Table → ℕ → ℕ → Found
+foundOf t f k = found t (numberOf (isFile f) (labels t) k)
+
+-- the message of error k
+abbrev pub messageOf : Tables → ℕ → List ℕ → List ℕ
+messageOf t k errors = shown (found (t .errors) k) errors
+
+-- stanza k of the file f
+abbrev pub stanzaOf : Tables → ℕ → ℕ → List ℕ → List ℕ
+stanzaOf t f k stanzas = shown (foundOf (t .stanzas) f k) stanzas
+
+-- the key of the file f, its first: there is no second
+abbrev pub keyOf : Tables → ℕ → List ℕ → List ℕ
+keyOf t f returned = shown (foundOf (t .returned) f 0) returned

@@ -1,3 +1,0 @@
--- What is shown of look-ups, and of a table's labels by the loops of the code.
-pub mod Labels
-pub mod LookUp

@@ -1,2 +1,0 @@
--- What the code of the look-up stands for.
-pub mod LookUp

@@ -1,0 +1,42 @@
+-- The comparisons in the definition's order: the first word that is the same names the command, else the machine's word decides.
+use mathlib.Core.Path.{sym, _∙_}
+use borrow.Author.Needs.{needs}
+use Rattle.phase_two_commands.proofs.commands.late_word.Statement.{statement}
+use Rattle.phase_two_commands.proofs.commands.late_word.Tie as tie
+
+slice-aggregate-is-same : tie.Need-slice-aggregate-is-same
+slice-aggregate-is-same c = search needs
+
+is-same-requires : tie.Need-is-same-requires
+is-same-requires c κs = search needs
+
+returns : tie.Need-returns
+returns c = rw (sym (c .before .is-same .ensures) ∙ c .if1 .taken)
+
+slice-aggregate-is-same-2 : tie.Need-slice-aggregate-is-same-2
+slice-aggregate-is-same-2 c = search needs
+
+is-same-requires-2 : tie.Need-is-same-requires-2
+is-same-requires-2 c κs = search needs
+
+returns-2 : tie.Need-returns-2
+returns-2 c = rw (sym (c .before .before .before .before .is-same .ensures) ∙ c .before .before .before .if1 .left, sym (c .before .is-same2 .ensures) ∙ c .if2 .taken)
+
+work-word-requires : tie.Need-work-word-requires
+work-word-requires c κs = search needs
+
+returns-3 : tie.Need-returns-3
+returns-3 c = rw (sym (c .before .before .before .before .before .is-same .ensures) ∙ c .before .before .before .before .if1 .left, sym (c .before .before .is-same2 .ensures) ∙ c .before .if2 .left) (c .work-word .ensures)
+
+pub late-word-spec : {M : Type 1} → statement M
+late-word-spec =
+    tie.close
+    (tie.spec
+    slice-aggregate-is-same
+    is-same-requires
+    returns
+    slice-aggregate-is-same-2
+    is-same-requires-2
+    returns-2
+    work-word-requires
+    returns-3)

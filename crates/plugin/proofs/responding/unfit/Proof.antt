@@ -1,0 +1,13 @@
+-- 12 closes the session.
+use borrow.Author.Needs.{needs}
+use Rattle.plugin.proofs.responding.unfit.Statement.{statement}
+use Rattle.plugin.proofs.responding.unfit.Tie as tie
+
+moved-requires : tie.Need-moved-requires
+moved-requires c κs = search needs
+
+returns : tie.Need-returns
+returns c = λ xs hs out. rw (c .moved .ensures)
+
+pub unfit-spec : {M : Type 1} → statement M
+unfit-spec = tie.close (tie.spec moved-requires returns)

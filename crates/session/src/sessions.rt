@@ -1,0 +1,106 @@
+// The session that an end keeps between calls, and its opening. It goes by value: payloads and entries lie in buffers and slots that each call is lent.
+ghost use mathlib.Core.Path.{_≡_};
+ghost use mathlib.Core.Bool.{true, false};
+ghost use Rattle.session.specs.Session.{opened, openingSaid};
+use crate::kinds::Tables;
+use crate::kinds::open_tables;
+use crate::opening::Machine;
+use crate::opening::read_settings;
+use crate::phases::Phase;
+use crate::phases::phase_opened;
+use bech32::Name;
+use refusal::Verdict;
+
+// The machine, the plugin's name, whether there is a screen (the client's alone), the phase, and the tables.
+pub struct Session {
+    pub machine: Machine,
+    pub phase: Phase,
+    pub screen: bool,
+    pub name: Name,
+    pub tables: Tables,
+}
+
+// An opening: accepted, or 18 or 17 with a closed session.
+pub struct Opening {
+    pub verdict: Verdict,
+    pub session: Session,
+}
+
+impl Session {
+    // A client session opens with a screen unless told otherwise.
+    pub const SCREEN: bool = true;
+
+    // How many entries each kind has at most.
+    pub const RECIPIENTS: usize = 64;
+
+    pub const IDENTITIES: usize = 64;
+
+    pub const FILE_KEYS: usize = 64;
+
+    pub const HEADER_STANZAS: usize = 256;
+
+    pub const ERRORS: usize = 384;
+
+    pub const RETURNED_STANZAS: usize = 256;
+
+    pub const RETURNED_KEYS: usize = 256;
+
+    // How many slots the kinds other than header stanzas have together.
+    pub const OTHER_SLOTS: usize = Session::RECIPIENTS
+        + Session::IDENTITIES
+        + Session::FILE_KEYS
+        + Session::ERRORS
+        + Session::RETURNED_STANZAS
+        + Session::RETURNED_KEYS;
+
+    // A client session in phase one with empty tables.
+    pub fn open(machine: &[u8], name: &[u8]) -> Opening
+        ensures { λ r. ⌜ openingSaid r ≡ opened (now (machine .entry)) (now (name .entry)) true ⌝ }
+    {
+        Session::open_with(machine, name, Session::SCREEN)
+    }
+
+    // The same, told whether there is a screen.
+    pub fn open_with(machine: &[u8], name: &[u8], screen: bool) -> Opening
+        ensures { λ r. ⌜ openingSaid r ≡ opened (now (machine .entry)) (now (name .entry)) screen ⌝ }
+    {
+        let given = read_settings(machine, name);
+        let verdict = given.verdict;
+        let phase = phase_opened(verdict);
+        let machine = given.machine;
+        let name = given.name;
+        let tables = open_tables();
+        Opening {
+            verdict: verdict,
+            session: Session {
+                machine: machine,
+                phase: phase,
+                screen: screen,
+                name: name,
+                tables: tables,
+            },
+        }
+    }
+
+    // A plugin session: it has no screen.
+    pub fn open_plugin(machine: &[u8], name: &[u8]) -> Opening
+        ensures { λ r. ⌜ openingSaid r ≡ opened (now (machine .entry)) (now (name .entry)) false ⌝ }
+    {
+        Session::open_with(machine, name, false)
+    }
+
+    // The same session in another phase and with other tables.
+    pub fn moved(self, phase: Phase, tables: Tables) -> Session
+        ensures { λ r. ⌜ r ≡ record { machine = self .machine; phase = phase; screen = self .screen; name = self .name; tables = tables } ⌝ }
+    {
+        let machine = self.machine;
+        let name = self.name;
+        Session {
+            machine: machine,
+            phase: phase,
+            screen: self.screen,
+            name: name,
+            tables: tables,
+        }
+    }
+}
