@@ -16,6 +16,7 @@ pub use parts::lines_of;
 pub use reading::First;
 pub use reading::Stanza;
 pub use reading::read;
+pub use writing::copy;
 pub use writing::join;
 pub use writing::size;
 pub use writing::write;

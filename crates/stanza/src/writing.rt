@@ -111,15 +111,16 @@ fn join_into(command: &[u8], arguments: &[u8], out: &mut [u8])
     copy(arguments, &mut out[from..]);
 }
 
-// All of src at the front of `out`, which is long enough.
-fn copy(src: &[u8], out: &mut [u8])
-    requires { ⌜ length (now src) ≤ length (now out) ⌝ }
-    ensures { λ _. ⌜ now (out .exit) ≡ now (src .entry) ++ drop (length (now (src .entry))) (now (out .entry)) ⌝ }
+// A part at the front of `out`; nothing where it is too short.
+pub fn copy(part: &[u8], out: &mut [u8])
+    ensures { λ _. ⌜ now (out .exit) ≡ filled (now (part .entry)) (now (out .entry)) ⌝ }
 {
-    let n = src.len();
+    if out.len() < part.len() {
+        return;
+    }
     let mut i: usize = 0;
-    while i < n {
-        out[i] = src[i];
+    while i < part.len() {
+        out[i] = part[i];
         i += 1;
     }
 }
