@@ -116,7 +116,7 @@ fn send_due(
             out,
         );
     }
-    let mut store = [0u8; 8192];
+    let mut store = [0u8; stanza::LONGEST];
     send_in(
         session,
         word,

@@ -47,7 +47,7 @@ returns c =
     let b = set a (length command) 32 in
     let f : length command ≤ length o = omega (arith, c .before .before .before .before .before .before .before .before .before .before .before .pre) in
     let h : length arguments ≤ length (take (length b - (length command + 1)) (drop (length command + 1) b)) =
-        rw (part-rest (length command + 1) b) (simp (length-drop, length-set) (omega (arith, c .before .before .before .before .before .before .copy .kept .1 .0, c .before .before .before .before .before .before .before .before .before .before .before .pre))) in
+    rw (part-rest (length command + 1) b) (simp (length-drop, length-set) (omega (arith, c .before .before .before .before .before .before .copy .kept .1 .0, c .before .before .before .before .before .before .before .before .before .before .before .pre))) in
     parts-joined command arguments a o (c .before .before .copy2 .last .1 .0) 32 (rw (le-ltb _ _ f) at (c .before .before .before .before .before .before .copy .ensures)) (omega (arith, c .before .before .before .before .before .before .before .before .before .before .before .pre)) (rw (le-ltb _ _ h) at (c .before .before .copy2 .ensures))
 
 pub join-into-spec : {M : Type 1} → statement M
