@@ -14,7 +14,7 @@ use crate::charset::cased;
 use symbols::lowered;
 
 // The longest name.
-const LONGEST_NAME: usize = 32;
+pub const LONGEST_NAME: usize = 32;
 
 // A plugin's name by value: bytes[..length], zeros behind it. It is empty where there is none.
 pub struct Name {

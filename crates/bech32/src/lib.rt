@@ -4,6 +4,7 @@ mod human;
 mod parsing;
 mod writing;
 
+pub use human::LONGEST_NAME;
 pub use human::Name;
 pub use human::is_lowered;
 pub use human::name_of;

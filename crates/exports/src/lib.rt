@@ -13,6 +13,7 @@ ghost use Rattle.exports.specs.Results.{numberIn, lengthOr, bodyAt};
 ghost use Rattle.exports.specs.Results.{readNumber, lineOr, bodyOr, takenOr};
 ghost use Rattle.exports.specs.Results.{indexNumber, valueOr};
 ghost use Rattle.exports.specs.Results.{nameOr, namedOr};
+use bech32::LONGEST_NAME;
 use bech32::TextKind;
 use refusal::Written;
 use stanza::First;
@@ -121,7 +122,7 @@ pub extern "C" fn flugremio_index(text: &[u8], value: &mut u32) -> u8
 #[no_mangle]
 pub extern "C" fn flugremio_read_recipient(
     text: &[u8],
-    name: &mut [u8; 32],
+    name: &mut [u8; LONGEST_NAME],
     named: &mut usize,
     out: &mut [u8],
     length: &mut usize,
@@ -139,7 +140,7 @@ pub extern "C" fn flugremio_read_recipient(
 #[no_mangle]
 pub extern "C" fn flugremio_read_identity(
     text: &[u8],
-    name: &mut [u8; 32],
+    name: &mut [u8; LONGEST_NAME],
     named: &mut usize,
     out: &mut [u8],
     length: &mut usize,
@@ -157,7 +158,7 @@ pub extern "C" fn flugremio_read_identity(
 fn read_text(
     kind: TextKind,
     text: &[u8],
-    name: &mut [u8; 32],
+    name: &mut [u8; LONGEST_NAME],
     named: &mut usize,
     out: &mut [u8],
     length: &mut usize,

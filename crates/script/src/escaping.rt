@@ -10,7 +10,7 @@ use refusal::Refusal;
 use refusal::Written;
 
 // How far a hex digit that is a letter stands over its value, from 10 on.
-const LETTER_OVER: u8 = b'a' - 10;
+pub(crate) const LETTER_OVER: u8 = b'a' - 10;
 
 // A hex digit of a value below 16.
 fn hex_digit(v: u8) -> u8

@@ -3,6 +3,7 @@
 ghost use mathlib.Core.Path.{_≡_};
 ghost use mathlib.Core.Bool.{true};
 ghost use Rattle.script.specs.Escape.{hexValue, plain, letter, digit, effect, stepSaid, unescaped, measured, sizeSaid, fits, unescapedSaid, answeredBy, filledBy};
+use crate::escaping::LETTER_OVER;
 use refusal::Refusal;
 use refusal::Written;
 
@@ -34,10 +35,11 @@ const HEX: u8 = 2;
 
 const DIGIT: u8 = 16;
 
-// How far a hex digit that is a letter stands over its value, from 10 on, in either case.
-const LETTER_OVER: u8 = b'a' - 10;
-
+// How far a hex digit that is a capital stands over its value, from 10 on.
 const CAPITAL_OVER: u8 = b'A' - 10;
+
+// The value of a byte that is no hex digit.
+const NO_DIGIT: u8 = 16;
 
 // The value of a hex digit of either case, 16 for another byte.
 fn hex_value(b: u8) -> u8
@@ -52,7 +54,7 @@ fn hex_value(b: u8) -> u8
     if (b'A' <= b) & (b <= b'F') {
         return b - CAPITAL_OVER;
     }
-    16
+    NO_DIGIT
 }
 
 // A byte between two escapes.
@@ -95,7 +97,7 @@ fn read_digit(state: u8, b: u8) -> Step
     ensures { λ r. ⌜ stepSaid r ≡ digit state b ⌝ }
 {
     let v = hex_value(b);
-    if 16 <= v {
+    if NO_DIGIT <= v {
         return Step::Stops;
     }
     if state == HEX {
