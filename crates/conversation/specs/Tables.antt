@@ -2,7 +2,7 @@
 -- "Returned stanzas are numbered from 0 within their file").
 use Prim.Native.Nat.{ℕ, _+_}
 use mathlib.Core.Path.{_≡_}
-use mathlib.Core.List.{List, [], _∷_, _++_}
+use mathlib.Core.List.{[], _∷_, _++_}
 use lib.ListN.{length, getD}
 use Rattle.tables.specs.Tables.{Row}
 use Rattle.phase_one.specs.Commands.{other}

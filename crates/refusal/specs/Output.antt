@@ -35,7 +35,7 @@ filled content buffer = pick (overflows content buffer) buffer (content ++ drop 
 
 -- "Outside a session: .. 16 or 17, then 15": `number` exactly where the call is bad; else 15 exactly where the content is longer than the buffer; else all of it is
 -- written. "A refusal writes nothing"; else the content stands at the buffer's front
-pub record Judged (number : ℕ) (IsBad : Type 0) (content buffer : List ℕ) (answer : Answer) (after : List ℕ) : Type 0 where
+pub record WritingJudged (number : ℕ) (IsBad : Type 0) (content buffer : List ℕ) (answer : Answer) (after : List ℕ) : Type 0 where
   pub bad : (answer ≡ refused number) ↔ IsBad
   pub short : (answer ≡ refused 15) ↔ ((IsBad → ⊥) × (length buffer < length content))
   pub whole : (n : ℕ) → (answer ≡ bytes n) ↔ ((IsBad → ⊥) × (length content ≤ length buffer) × (n ≡ length content))

@@ -10,7 +10,6 @@ use borrow.Author.Tests.{eqb-true, eqb-false, eq-eqb, ne-eqb}
 use Rattle.refusal.specs.Pick.{pick}
 use Rattle.refusal.proofs.Laws.Booleans.{cases}
 use Rattle.stanza.specs.Reading.{readFirst}
-use Rattle.session.specs.declared.words.WordTwo.the-variants.{Other}
 use Rattle.tables.specs.Tables.{Row, view}
 use Rattle.tables.proofs.Laws.Tables.{view-count}
 use Rattle.phase_one.specs.Commands.{CommandOne, recipient, identity, key, header, done, other, bad}
@@ -21,7 +20,6 @@ use Rattle.phase_one.specs.Turns.{phaseAfter}
 use Rattle.phase_one.specs.Views as one-kind
 use Rattle.phase_one.specs.Views.{recipients, identities, keys, headers}
 use Rattle.session.specs.declared.phases.Phase.{Phase}
-use Rattle.session.specs.declared.phases.Phase.the-variants.{Awaiting}
 use Rattle.phase_one.proofs.Laws.Views.{Reached}
 use Rattle.session.specs.Session.{Session, moved, opened}
 use Rattle.conversation.specs.Kinds.{AnyKind, first, second, Buffers, buffersOf, tableOf, viewOf, ofFile}
@@ -33,7 +31,7 @@ use Rattle.conversation.specs.ReceivingTwo.{phaseReceived}
 use Rattle.conversation.specs.SendingTwo.{phaseSent}
 use Rattle.conversation.specs.Numbers.{bufferFor}
 use Rattle.conversation.specs.Tables.{Numbered, NumberedInFile, Ignored, phaseIgnored}
-use Rattle.conversation.specs.Calls.{Call, receive, send, receive-two, reply, send-two, respond, Outcome, outcome, after, lineRead, bodyRead, Brought, in-one, in-two, no-command, broughtBy, rowsOne, rowsTwo, rowsBrought, acceptedRows}
+use Rattle.conversation.specs.Calls.{Call, receive, send, receive-two, reply, send-two, respond, Outcome, outcome, after, lineRead, bodyRead, broughtBy, rowsOne, rowsTwo, rowsBrought, acceptedRows}
 use Rattle.conversation.proofs.Laws.Accepted.{AppliedOne, AppliedTwo, commandAt, payloadAt, applied-rows, AcceptedBy, accepted}
 use Rattle.conversation.proofs.Laws.Reached.{ReachedSession, empty-reached, opening-tables, opening-reached, call-reached, after-reached}
 use Rattle.conversation.proofs.Laws.Refusals.{refusal}

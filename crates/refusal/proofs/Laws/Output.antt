@@ -9,7 +9,7 @@ use lib.ListN.{length, take, drop}
 use lib.Seq.{take-append-seam}
 use native.Mathlib.Omega.{arith}
 use borrow.Author.Tests.{lt-ltb, ltb-true, ltb-false}
-use Rattle.refusal.specs.Output.{bytes, refused, answered, filled, Judged}
+use Rattle.refusal.specs.Output.{bytes, refused, answered, filled, WritingJudged}
 use Rattle.refusal.specs.Pick.{pick}
 
 pub whole : (f : Bool) (n m : ℕ) → bytes n ≡ pick f (refused 15) (bytes m) → (f ≡ false) × (n ≡ m)
@@ -46,7 +46,7 @@ short-kept content buffer n e = rw (lt-ltb (length buffer) (length content) (ref
 
 -- a call that is refused with a number exactly where a test fails; with no other than 15 behind it
 module _ (number : ℕ) (content buffer : List ℕ) (other : number ≡ 15 → ⊥) (IsBad : Type 0) where
-  bad-judged : IsBad → Judged number IsBad content buffer (refused number) buffer
+  bad-judged : IsBad → WritingJudged number IsBad content buffer (refused number) buffer
   bad-judged b = record {
     bad = (λ _. b, λ _. refl);
     short = (λ e. let z : number ≡ 15 = cc in absurd (other z), λ w. absurd (w .0 b));
@@ -56,7 +56,7 @@ module _ (number : ℕ) (content buffer : List ℕ) (other : number ≡ 15 → �
   }
 
   good-judged : (IsBad → ⊥) → (over : Bool) → ltb (length buffer) (length content) ≡ over →
-      Judged number IsBad content buffer (pick over (refused 15) (bytes (length content))) (pick over buffer (content ++ drop (length content) buffer))
+      WritingJudged number IsBad content buffer (pick over (refused 15) (bytes (length content))) (pick over buffer (content ++ drop (length content) buffer))
   good-judged g true o =
       let l = ltb-true (length buffer) (length content) o in
       record {
@@ -77,11 +77,11 @@ module _ (number : ℕ) (content buffer : List ℕ) (other : number ≡ 15 → �
       }
 
   pub judged : (good : Bool) → (good ≡ true → IsBad → ⊥) → (good ≡ false → IsBad) →
-      Judged number IsBad content buffer (pick good (answered content buffer) (refused number)) (pick good (filled content buffer) buffer)
+      WritingJudged number IsBad content buffer (pick good (answered content buffer) (refused number)) (pick good (filled content buffer) buffer)
   judged true g b = good-judged (g refl) (ltb (length buffer) (length content)) refl
   judged false g b = bad-judged (b refl)
 
 -- where it is bad exactly if a test fails
 pub test-judged : (number : ℕ) (content buffer : List ℕ) → (number ≡ 15 → ⊥) → (good : Bool) →
-    Judged number (good ≡ false) content buffer (pick good (answered content buffer) (refused number)) (pick good (filled content buffer) buffer)
+    WritingJudged number (good ≡ false) content buffer (pick good (answered content buffer) (refused number)) (pick good (filled content buffer) buffer)
 test-judged number content buffer other good = judged number content buffer other (good ≡ false) good (λ t f. false≢true (sym f ∙ t)) (λ f. f)

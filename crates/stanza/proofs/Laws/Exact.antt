@@ -12,7 +12,6 @@ use Rattle.refusal.specs.Pick.{pick}
 use Rattle.refusal.proofs.Laws.Booleans.{cases}
 use Rattle.stanza.specs.Automaton.{State, start, hyphen, arrow, gap, word, line, ended, dead, next, after, Scan, bad, short, whole, verdict, scan}
 use Rattle.stanza.specs.Exact.{Begins, FirstFault, Taken}
-use Rattle.stanza.specs.Grammar.{IsStanza}
 use Rattle.stanza.specs.Reading.{stanza, refused, found, readFirst}
 use Rattle.stanza.proofs.Laws.Grammar.{dead-or, after-append, after-dead, after-dead-not, completion, completes, Fits, after-fits, ended-iff, dead-iff}
 

@@ -1,7 +1,7 @@
 -- The text of an index: which texts are one, and of which number. `readIndex` and `decimal` undo each other, and every other text is refused with 5.
 use Prim.Native.Nat.{ℕ, zero, suc, _+_, _-_, _*_, _/_, _%_, _<_, _≤_}
 use mathlib.Core.Path.{_≡_, refl, sym, ap, _∙_}
-use mathlib.Core.Bool.{true, false, _&&_, not}
+use mathlib.Core.Bool.{true, false, _&&_}
 use mathlib.Core.List.{List, [], _∷_, _++_, append-assoc, append-nil}
 use mathlib.Core.Logic.{_⊎_, inl, inr, ⊎-elim, _↔_}
 use lib.Dec.{leb, ltb, eqb, eqb·suc-zero, eqb·suc-suc}
@@ -13,7 +13,7 @@ use Rattle.refusal.specs.Run.{all}
 use Rattle.refusal.proofs.Laws.Booleans.{cases, and-true, and-false-right}
 use Rattle.refusal.proofs.Laws.Lists.{drop-one}
 use Rattle.refusal.proofs.Laws.Run.{all-append}
-use Rattle.stanza.specs.Index.{number, refused, isDigit, digits, readIndex, valueFrom, isPlain, isIndex, decimal, decimalWith}
+use Rattle.stanza.specs.Index.{number, refused, isDigit, digits, readIndex, valueFrom, isIndex, decimal, decimalWith}
 
 -- ---- what the code passes over
 

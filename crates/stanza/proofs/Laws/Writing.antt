@@ -9,7 +9,7 @@ use borrow.Author.Tests.{le-ltb, lt-ltb, lt-leb, eq-eqb, ne-eqb}
 use mathlib.Core.Bool.{Bool, true, false, _&&_}
 use lib.Dec.{eqb}
 use Rattle.refusal.specs.Pick.{pick}
-use Rattle.refusal.specs.Output.{bytes, refused, answered, filled, Judged}
+use Rattle.refusal.specs.Output.{bytes, refused, answered, filled, WritingJudged}
 use Rattle.refusal.proofs.Laws.Booleans.{cases, and-false-right}
 use Rattle.refusal.proofs.Laws.Output.{test-judged}
 use Rattle.refusal.proofs.Laws.Lists.{part-rest, put-rest, overwrite-part, front-part, front-store, front-whole}
@@ -115,5 +115,5 @@ module _ (command arguments o : List ℕ) where
       (ap bytes (sym joined-length), q ∙ ap (λ k. (command ++ 32 ∷ arguments) ++ drop k o) (sym joined-length))
 
 -- 17 exactly where the text can't be written, then 15, and nothing is written then
-pub written-judged : (l b buffer : List ℕ) → Judged 17 (isWritable l b ≡ false) (stanzaText l b) buffer (written l b buffer) (bufferAfter l b buffer)
+pub written-judged : (l b buffer : List ℕ) → WritingJudged 17 (isWritable l b ≡ false) (stanzaText l b) buffer (written l b buffer) (bufferAfter l b buffer)
 written-judged l b buffer = test-judged 17 (stanzaText l b) buffer (λ e. omega arith) (isWritable l b)
