@@ -32,7 +32,7 @@ use Rattle.responses.specs.Responses.{response, responseOf, responseLine}
 use Rattle.responses.specs.declared.Response.{Response}
 use Rattle.session.specs.declared.words.WordTwo.{WordTwo}
 use Rattle.session.specs.declared.words.WordTwo.the-variants.{Other}
-use Rattle.tables.specs.Tables.{Row, view, Looked}
+use Rattle.tables.specs.Tables.{Row, view, found, shown, Looked}
 use Rattle.phase_one.specs.Commands as one
 use Rattle.phase_one.specs.Commands.{WordOne}
 use Rattle.phase_one.specs.PhaseOne.{BuffersOne}
@@ -273,6 +273,11 @@ demand-2-recipient machine name screen cs = looking-up.recipient-looked (afterEa
 pub demand-2-identity : (machine name : List ℕ) (screen : Bool) (cs : List CallWith) (n : ℕ) (recipients identities : List ℕ) →
     let t = afterEach (opened machine name screen .session) cs .tables in Looked (entryText t Identity n recipients identities) (t .identities) identities n
 demand-2-identity machine name screen cs = looking-up.identity-looked (afterEach (opened machine name screen .session) cs .tables) (made machine name screen cs .tables)
+
+-- .. and any entry of a kind of phase one, file keys and header stanzas too, found by its number
+pub demand-2-found : (machine name : List ℕ) (screen : Bool) (cs : List CallWith) (k : KindOne) (b : List ℕ) (n : ℕ) →
+    let t = one-kind.tableOf k (afterEach (opened machine name screen .session) cs .tables) in Looked (shown (found t n) b) t b n
+demand-2-found machine name screen cs = looking-up.entry-looked (afterEach (opened machine name screen .session) cs .tables) (made machine name screen cs .tables)
 
 -- stanza k of a file, the key of a file, and the message of error k, which may be empty
 pub demand-2-stanza-of : (machine name : List ℕ) (screen : Bool) (cs : List CallWith) (b : List ℕ) (f k : ℕ) →

@@ -145,14 +145,17 @@ none-shown t b k w o =
 -- ---- of the tables of a session that an opening and calls can reach
 
 module _ (t : Tables) (r : Reached t) where
+  -- an entry of a kind of phase one, found by its number
+  pub entry-looked : (k : one-kind.KindOne) (b : List ℕ) (n : ℕ) → Looked (shown (found (one-kind.tableOf k t) n) b) (one-kind.tableOf k t) b n
+  unfolding Reached
+  entry-looked k b n = looked (one-kind.tableOf k t) b n (r k)
+
   -- a recipient or an identity: what `entryText` shows
   pub recipient-looked : (n : ℕ) (recipients identities : List ℕ) → Looked (entryText t Recipient n recipients identities) (t .recipients) recipients n
-  unfolding Reached
-  recipient-looked n recipients identities = looked (t .recipients) recipients n (r one-kind.recipients)
+  recipient-looked n recipients identities = entry-looked one-kind.recipients recipients n
 
   pub identity-looked : (n : ℕ) (recipients identities : List ℕ) → Looked (entryText t Identity n recipients identities) (t .identities) identities n
-  unfolding Reached
-  identity-looked n recipients identities = looked (t .identities) identities n (r one-kind.identities)
+  identity-looked n recipients identities = entry-looked one-kind.identities identities n
 
 module _ (t : Tables) (r : ReachedTwo t) where
   -- stanza k of a file, and how many it has
