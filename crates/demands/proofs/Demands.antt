@@ -112,7 +112,9 @@ pub demand-1-number : (machine name : List ℕ) (screen : Bool) (cs : List CallW
     let s = afterEach (opened machine name screen .session) cs in FirstOf (Condition s b c) (orderOf c) (outcome s b c .number)
 demand-1-number = numbering.number-after
 
--- outside a session, openings: 18 exactly where the machine's name is neither of the two, else 17 exactly where the plugin's name is none in lower case
+-- ---- Demand 1, "Outside a session: 18, then 1 to 3, 16 or 17, then 15 .. A refusal writes nothing". 1 to 3 and 5: below, with stanza text
+
+-- openings: 18 exactly where the machine's name is neither of the two, else 17 exactly where the plugin's name is none in lower case
 pub demand-1-opening : (machine name : List ℕ) (screen : Bool) → OpenedWith machine name (opened machine name screen .number)
 demand-1-opening = openings.opened-with
 
