@@ -11,7 +11,7 @@ ghost use Rattle.refusal.specs.Verdict.{verdictSaid};
 ghost use Rattle.tables.specs.Bodies.{bodyFrom};
 ghost use Rattle.tables.specs.Slots.{areApart, slotsOf};
 ghost use Rattle.tables.specs.declared.slots.Span.{Span as AnySpan};
-ghost use Rattle.tables.specs.Tables.{tableIn, storing, entered, kept, found, shown, partOf};
+ghost use Rattle.tables.specs.Tables.{tableIn, storing, entered, kept, foundSaid, found, shown, partOf};
 use crate::copying::Coding;
 use crate::copying::body_size;
 use crate::copying::put_body;
@@ -64,7 +64,7 @@ impl Table {
 
     // What stands at a number.
     pub fn find(self, span: Span, n: usize, slots: &[[usize; 4]]) -> Found
-        ensures { λ r. ⌜ r ≡ found (tableIn span self (now (slots .entry))) n ⌝ }
+        ensures { λ r. ⌜ foundSaid r ≡ found (tableIn span self (now (slots .entry))) n ⌝ }
     {
         if self.count <= n {
             return Found::Nothing;
@@ -186,7 +186,7 @@ impl Table {
 
 // The payload of what was found, a part of its kind's buffer; empty where there is no entry, or the buffer is too short for it.
 pub fn payload<'a>(found: Found, buffer: &'a [u8]) -> &'a [u8]
-    ensures { λ r. ⌜ now r ≡ shown found (now (buffer .entry)) ⌝ }
+    ensures { λ r. ⌜ now r ≡ shown (foundSaid found) (now (buffer .entry)) ⌝ }
 {
     let capacity = buffer.len();
     match found {
