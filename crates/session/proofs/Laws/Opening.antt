@@ -1,6 +1,6 @@
 -- Openings: a plugin's name by value, by the tests of the code.
 use Prim.Native.Nat.{ℕ, _≤_}
-use mathlib.Core.Path.{_≡_, ap, _∙_}
+use mathlib.Core.Path.{_≡_, ap, ap₂, _∙_}
 use mathlib.Core.Bool.{true, _&&_}
 use mathlib.Core.List.{List, []}
 use lib.Dec.{leb}
@@ -14,7 +14,8 @@ use Rattle.refusal.specs.Run.{all}
 use Rattle.refusal.proofs.Laws.Booleans.{cases, and-true}
 use Rattle.bech32.specs.Calls.{padded, givenName}
 use Rattle.bech32.specs.Text.{isName, isNameByte}
-use Rattle.session.specs.Opening.{settingsNamed, refusedSettings}
+use Rattle.bech32.specs.declared.human.Name.{Name}
+use Rattle.session.specs.Opening.{held, settingsNamed, refusedSettings}
 use Rattle.session.specs.declared.opening.Machine.{Machine}
 use Rattle.session.specs.declared.opening.Machine.the-variants.{RecipientV1}
 
@@ -41,8 +42,21 @@ module _ (machine : Machine) (t bytes : List ℕ) (n : ℕ) (p : bytes ≡ padde
       (λ e. let g : take n bytes ≡ t = given ∙ ap (λ f. pick f t []) e in rw (e, g))
       (λ e. let l : n ≡ 0 = q ∙ ap (λ f. length (pick f t [])) e in absurd (z l))
 
+-- the value that holds a name, by its parts
+pub held-is : (n : Name) (t : List ℕ) → n .bytes ≡ padded t → n .length ≡ length t → n ≡ held t
+held-is n t p q = ap₂ (λ b l. record { bytes = b; length = l }) p q
+
+-- the name that is given is that of the settings
+pub given-named : (machine : Machine) (t : List ℕ) → givenName t ≡ settingsNamed machine t .name
+given-named machine t = cases (isName t) (λ e. rw e) (λ e. rw e)
+
 -- no name where no machine is named
+nameless : givenName [] ≡ []
+nameless = cases (isName []) (λ f. rw f) (λ f. rw f)
+
+pub nameless-held : (n : Name) → n .bytes ≡ padded (givenName []) → n .length ≡ length (givenName []) → n ≡ held []
+nameless-held n p q = held-is n (givenName []) p q ∙ ap held nameless
+
 pub nameless-refused : (bytes : List ℕ) (n : ℕ) → bytes ≡ padded (givenName []) → n ≡ length (givenName []) → record { number = 18; machine = RecipientV1; name = take n bytes } ≡ refusedSettings 18
 nameless-refused bytes n p q =
-    let e : givenName [] ≡ [] = cases (isName []) (λ f. rw f) (λ f. rw f) in
-    ap (λ x. record { number = 18; machine = RecipientV1; name = x }) (given RecipientV1 [] bytes n p q ∙ e)
+    ap (λ x. record { number = 18; machine = RecipientV1; name = x }) (given RecipientV1 [] bytes n p q ∙ nameless)
