@@ -6,7 +6,8 @@ use mathlib.Core.List.{List, [], _∷_}
 use mathlib.Core.Logic.{_⊎_, _↔_}
 use Rattle.refusal.specs.Pick.{pick}
 use Rattle.refusal.specs.Same.{same}
-use lib.ListN.{take}
+use lib.ListN.{length, take}
+use Rattle.bech32.specs.Calls.{padded}
 use Rattle.bech32.specs.Text.{isName}
 use Rattle.bech32.specs.declared.human.Name.{Name}
 use Rattle.refusal.specs.Verdict.{verdictSaid}
@@ -43,6 +44,10 @@ machineNamed t = pick (same t recipientV1) (named RecipientV1) (pick (same t ide
 -- the name that the code's value holds
 abbrev pub nameOf : Name → List ℕ
 nameOf n = take (n .length) (n .bytes)
+
+-- and the value that holds a name: zeros stand behind its bytes
+abbrev pub held : List ℕ → Name
+held name = record { bytes = padded name; length = length name }
 
 -- the number, 0 where nothing is refused; the machine and the name
 pub record Settings : Type 0 where

@@ -1,6 +1,6 @@
 -- Openings: a plugin's name by value, by the tests of the code; and exactly when an opening is refused.
 use Prim.Native.Nat.{ℕ, _≤_}
-use mathlib.Core.Path.{_≡_, sym, ap, _∙_}
+use mathlib.Core.Path.{_≡_, sym, ap, ap₂, _∙_}
 use mathlib.Core.Bool.{Bool, true, false, _&&_, false≢true}
 use mathlib.Core.Logic.{_⊎_, inl, inr, ⊎-elim}
 use mathlib.Core.List.{List, []}
@@ -17,7 +17,8 @@ use Rattle.refusal.proofs.Laws.Booleans.{cases, and-true}
 use Rattle.refusal.proofs.Laws.Same.{same-refl, same-eq}
 use Rattle.bech32.specs.Calls.{padded, givenName}
 use Rattle.bech32.specs.Text.{isName, isNameByte}
-use Rattle.session.specs.Opening.{recipientV1, identityV1, named, nameless, machineNamed, settingsOf, settingsNamed, refusedSettings, settings, IsMachine, OpenedWith}
+use Rattle.bech32.specs.declared.human.Name.{Name}
+use Rattle.session.specs.Opening.{held, recipientV1, identityV1, named, nameless, machineNamed, settingsOf, settingsNamed, refusedSettings, settings, IsMachine, OpenedWith}
 use Rattle.session.specs.Session.{opened}
 use Rattle.session.specs.declared.opening.Machine.{Machine}
 use Rattle.session.specs.declared.opening.Machine.the-variants.{RecipientV1, IdentityV1}
@@ -45,11 +46,24 @@ module _ (machine : Machine) (t bytes : List ℕ) (n : ℕ) (p : bytes ≡ padde
       (λ e. let g : take n bytes ≡ t = given ∙ ap (λ f. pick f t []) e in rw (e, g))
       (λ e. let l : n ≡ 0 = q ∙ ap (λ f. length (pick f t [])) e in absurd (z l))
 
+-- the value that holds a name, by its parts
+pub held-is : (n : Name) (t : List ℕ) → n .bytes ≡ padded t → n .length ≡ length t → n ≡ held t
+held-is n t p q = ap₂ (λ b l. record { bytes = b; length = l }) p q
+
+-- the name that is given is that of the settings
+pub given-named : (machine : Machine) (t : List ℕ) → givenName t ≡ settingsNamed machine t .name
+given-named machine t = cases (isName t) (λ e. rw e) (λ e. rw e)
+
 -- no name where no machine is named
+none-given : givenName [] ≡ []
+none-given = cases (isName []) (λ f. rw f) (λ f. rw f)
+
+pub nameless-held : (n : Name) → n .bytes ≡ padded (givenName []) → n .length ≡ length (givenName []) → n ≡ held []
+nameless-held n p q = held-is n (givenName []) p q ∙ ap held none-given
+
 pub nameless-refused : (bytes : List ℕ) (n : ℕ) → bytes ≡ padded (givenName []) → n ≡ length (givenName []) → record { number = 18; machine = RecipientV1; name = take n bytes } ≡ refusedSettings 18
 nameless-refused bytes n p q =
-    let e : givenName [] ≡ [] = cases (isName []) (λ f. rw f) (λ f. rw f) in
-    ap (λ x. record { number = 18; machine = RecipientV1; name = x }) (given RecipientV1 [] bytes n p q ∙ e)
+    ap (λ x. record { number = 18; machine = RecipientV1; name = x }) (given RecipientV1 [] bytes n p q ∙ none-given)
 
 -- ---- when an opening is refused
 
