@@ -192,7 +192,9 @@ fn put_word(kind: TextKind, word: &[u8], out: &mut [u8])
 // Three words, one behind the other.
 fn put_words(kind: TextKind, front: &[u8], name: &[u8], back: &[u8], out: &mut [u8])
     requires { ⌜ length (now front) + length (now name) + length (now back) ≤ length (now out) ⌝ }
-    ensures { λ _. ⌜ now (out .exit) ≡ inCase (formOf kind) (now (front .entry) ++ now (name .entry) ++ now (back .entry)) ++ drop (length (now (front .entry)) + length (now (name .entry)) + length (now (back .entry))) (now (out .entry)) ⌝ }
+    ensures { λ _. ⌜ now (out .exit) ≡
+        inCase (formOf kind) (now (front .entry) ++ now (name .entry) ++ now (back .entry)) ++ drop
+        (length (now (front .entry)) + length (now (name .entry)) + length (now (back .entry))) (now (out .entry)) ⌝ }
 {
     let a = front.len();
     let b = a + name.len();
@@ -204,7 +206,8 @@ fn put_words(kind: TextKind, front: &[u8], name: &[u8], back: &[u8], out: &mut [
 // The human part of a name at the front of `out`, which is long enough.
 pub(crate) fn put_human(kind: TextKind, name: &[u8], out: &mut [u8])
     requires { ⌜ length (humanPart (formOf kind) (now name)) ≤ length (now out) ⌝ }
-    ensures { λ _. ⌜ now (out .exit) ≡ inCase (formOf kind) (humanPart (formOf kind) (now (name .entry))) ++ drop (length (humanPart (formOf kind) (now (name .entry)))) (now (out .entry)) ⌝ }
+    ensures { λ _. ⌜ now (out .exit) ≡
+        inCase (formOf kind) (humanPart (formOf kind) (now (name .entry))) ++ drop (length (humanPart (formOf kind) (now (name .entry)))) (now (out .entry)) ⌝ }
 {
     match kind {
         TextKind::Recipient => put_words(kind, b"age1", name, b"", out),

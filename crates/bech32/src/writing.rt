@@ -62,7 +62,9 @@ fn write_into(kind: TextKind, name: &[u8], payload: &[u8], out: &mut [u8])
     requires { ⌜ isName (now name) ≡ true ⌝ }
     requires { ⌜ length (now payload) ≤ 1024 ⌝ }
     requires { ⌜ length (humanPart (formOf kind) (now name)) + symbolsSize (length (now payload)) + 7 ≤ length (now out) ⌝ }
-    ensures { λ _. ⌜ now (out .exit) ≡ textOf (formOf kind) (now (name .entry)) (now (payload .entry)) ++ drop (length (textOf (formOf kind) (now (name .entry)) (now (payload .entry)))) (now (out .entry)) ⌝ }
+    ensures { λ _. ⌜ now (out .exit) ≡
+        textOf (formOf kind) (now (name .entry)) (now (payload .entry)) ++ drop (length (textOf (formOf kind) (now (name .entry)) (now (payload .entry))))
+        (now (out .entry)) ⌝ }
 {
     let h = human_length(kind, name.len());
     put_human(kind, name, out);
@@ -76,7 +78,9 @@ fn write_into(kind: TextKind, name: &[u8], payload: &[u8], out: &mut [u8])
 fn put_characters(kind: TextKind, payload: &[u8], from: u32, out: &mut [u8])
     requires { ⌜ length (now payload) ≤ 1024 ⌝ }
     requires { ⌜ symbolsSize (length (now payload)) + 6 ≤ length (now out) ⌝ }
-    ensures { λ _. ⌜ now (out .exit) ≡ inCase (formOf kind) (map characterOf (withChecksum from (now (payload .entry)))) ++ drop (symbolsSize (length (now (payload .entry))) + 6) (now (out .entry)) ⌝ }
+    ensures { λ _. ⌜ now (out .exit) ≡
+        inCase (formOf kind) (map characterOf (withChecksum from (now (payload .entry)))) ++ drop (symbolsSize (length (now (payload .entry))) + 6)
+        (now (out .entry)) ⌝ }
 {
     let end = symbols_length(payload.len()) + CHECKSUM;
     put_symbols(payload, from, out);

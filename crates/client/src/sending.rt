@@ -38,7 +38,11 @@ fn send_in(
     out: &mut [u8],
 ) -> Sent
     requires { ⌜ min (length (lineSent (wordSaid word) (now arguments))) 8192 ≤ length (now store) ⌝ }
-    ensures outcome { λ r. ⌜ sentSaid r (now (slots .exit)) (now («header_slots» .exit)) (now (recipients .exit)) (now (identities .exit)) (now (keys .exit)) (now (headers .exit)) (now (out .exit)) ≡ sentLine (sessionOf session (now (slots .entry)) (now («header_slots» .entry))) (buffersOf (now (recipients .entry)) (now (identities .entry)) (now (keys .entry)) (now (headers .entry))) (lineSent (wordSaid word) (now (arguments .entry))) (now (body .entry)) (now (out .entry)) ⌝ }
+    ensures outcome { λ r. ⌜ sentSaid r (now (slots .exit)) (now («header_slots» .exit)) (now (recipients .exit)) (now (identities .exit)) (now (keys .exit))
+        (now (headers .exit)) (now (out .exit)) ≡
+        sentLine (sessionOf session (now (slots .entry)) (now («header_slots» .entry)))
+        (buffersOf (now (recipients .entry)) (now (identities .entry)) (now (keys .entry)) (now (headers .entry)))
+        (lineSent (wordSaid word) (now (arguments .entry))) (now (body .entry)) (now (out .entry)) ⌝ }
     ensures name { λ r. ⌜ r .session .name ≡ session .name ⌝ }
 {
     let put = put_line(word, arguments, store);
@@ -98,7 +102,11 @@ fn send_due(
     headers: &mut [u8],
     out: &mut [u8],
 ) -> Sent
-    ensures outcome { λ r. ⌜ sentSaid r (now (slots .exit)) (now («header_slots» .exit)) (now (recipients .exit)) (now (identities .exit)) (now (keys .exit)) (now (headers .exit)) (now (out .exit)) ≡ sentLine (sessionOf session (now (slots .entry)) (now («header_slots» .entry))) (buffersOf (now (recipients .entry)) (now (identities .entry)) (now (keys .entry)) (now (headers .entry))) (lineSent (wordSaid word) (now (arguments .entry))) (now (body .entry)) (now (out .entry)) ⌝ }
+    ensures outcome { λ r. ⌜ sentSaid r (now (slots .exit)) (now («header_slots» .exit)) (now (recipients .exit)) (now (identities .exit)) (now (keys .exit))
+        (now (headers .exit)) (now (out .exit)) ≡
+        sentLine (sessionOf session (now (slots .entry)) (now («header_slots» .entry)))
+        (buffersOf (now (recipients .entry)) (now (identities .entry)) (now (keys .entry)) (now (headers .entry)))
+        (lineSent (wordSaid word) (now (arguments .entry))) (now (body .entry)) (now (out .entry)) ⌝ }
     ensures name { λ r. ⌜ r .session .name ≡ session .name ⌝ }
 {
     if arguments.len() < 112 {
@@ -150,7 +158,10 @@ pub fn send(
     headers: &mut [u8],
     out: &mut [u8],
 ) -> Sent
-    ensures outcome { λ r. ⌜ sentSaid r (now (slots .exit)) (now («header_slots» .exit)) (now (recipients .exit)) (now (identities .exit)) (now (keys .exit)) (now (headers .exit)) (now (out .exit)) ≡ sent (sessionOf session (now (slots .entry)) (now («header_slots» .entry))) (wordSaid word) (now (arguments .entry)) (now (body .entry)) (buffersOf (now (recipients .entry)) (now (identities .entry)) (now (keys .entry)) (now (headers .entry))) (now (out .entry)) ⌝ }
+    ensures outcome { λ r. ⌜ sentSaid r (now (slots .exit)) (now («header_slots» .exit)) (now (recipients .exit)) (now (identities .exit)) (now (keys .exit))
+        (now (headers .exit)) (now (out .exit)) ≡
+        sent (sessionOf session (now (slots .entry)) (now («header_slots» .entry))) (wordSaid word) (now (arguments .entry)) (now (body .entry))
+        (buffersOf (now (recipients .entry)) (now (identities .entry)) (now (keys .entry)) (now (headers .entry))) (now (out .entry)) ⌝ }
     ensures name { λ r. ⌜ r .session .name ≡ session .name ⌝ }
 {
     let phase = session.phase;

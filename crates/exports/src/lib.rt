@@ -194,7 +194,8 @@ pub extern "C" fn flugremio_write_recipient(
 ) -> u8
     ensures number { λ r. ⌜ r ≡ numberIn (writeAnswer recipient (now (name .entry)) (now (payload .entry)) (now (out .entry))) ⌝ }
     ensures buffer { λ _. ⌜ now (out .exit) ≡ writeBuffer recipient (now (name .entry)) (now (payload .entry)) (now (out .entry)) ⌝ }
-    ensures length { λ _. ⌜ now (length .exit) ≡ lengthOr (now (length .entry)) (writeAnswer recipient (now (name .entry)) (now (payload .entry)) (now (out .entry))) ⌝ }
+    ensures length { λ _. ⌜ now (length .exit) ≡
+        lengthOr (now (length .entry)) (writeAnswer recipient (now (name .entry)) (now (payload .entry)) (now (out .entry))) ⌝ }
 {
     write_text(TextKind::Recipient, name, payload, out, length)
 }
@@ -209,7 +210,8 @@ pub extern "C" fn flugremio_write_identity(
 ) -> u8
     ensures number { λ r. ⌜ r ≡ numberIn (writeAnswer identity (now (name .entry)) (now (payload .entry)) (now (out .entry))) ⌝ }
     ensures buffer { λ _. ⌜ now (out .exit) ≡ writeBuffer identity (now (name .entry)) (now (payload .entry)) (now (out .entry)) ⌝ }
-    ensures length { λ _. ⌜ now (length .exit) ≡ lengthOr (now (length .entry)) (writeAnswer identity (now (name .entry)) (now (payload .entry)) (now (out .entry))) ⌝ }
+    ensures length { λ _. ⌜ now (length .exit) ≡
+        lengthOr (now (length .entry)) (writeAnswer identity (now (name .entry)) (now (payload .entry)) (now (out .entry))) ⌝ }
 {
     write_text(TextKind::Identity, name, payload, out, length)
 }
@@ -218,7 +220,8 @@ pub extern "C" fn flugremio_write_identity(
 fn write_text(kind: TextKind, name: &[u8], payload: &[u8], out: &mut [u8], length: &mut usize) -> u8
     ensures number { λ r. ⌜ r ≡ numberIn (writeAnswer (formOf kind) (now (name .entry)) (now (payload .entry)) (now (out .entry))) ⌝ }
     ensures buffer { λ _. ⌜ now (out .exit) ≡ writeBuffer (formOf kind) (now (name .entry)) (now (payload .entry)) (now (out .entry)) ⌝ }
-    ensures length { λ _. ⌜ now (length .exit) ≡ lengthOr (now (length .entry)) (writeAnswer (formOf kind) (now (name .entry)) (now (payload .entry)) (now (out .entry))) ⌝ }
+    ensures length { λ _. ⌜ now (length .exit) ≡
+        lengthOr (now (length .entry)) (writeAnswer (formOf kind) (now (name .entry)) (now (payload .entry)) (now (out .entry))) ⌝ }
 {
     let w = bech32::write(kind, name, payload, out);
     match w {

@@ -100,7 +100,9 @@ fn advance(
     keys: &mut [u8],
 ) -> Judging
     requires { ⌜ at ≤ length (now window) ⌝ }
-    ensures outcome { λ r. ⌜ turnSaid r (now (slots .exit)) (now («header_slots» .exit)) (now (recipients .exit)) (now (identities .exit)) (now (keys .exit)) ≡ behind at (turned last (sessionOf session (now (slots .entry)) (now («header_slots» .entry))) (buffersIn (now (recipients .entry)) (now (identities .entry)) (now (keys .entry))) (drop at (now (window .entry)))) ⌝ }
+    ensures outcome { λ r. ⌜ turnSaid r (now (slots .exit)) (now («header_slots» .exit)) (now (recipients .exit)) (now (identities .exit)) (now (keys .exit)) ≡
+        behind at (turned last (sessionOf session (now (slots .entry)) (now («header_slots» .entry)))
+        (buffersIn (now (recipients .entry)) (now (identities .entry)) (now (keys .entry))) (drop at (now (window .entry)))) ⌝ }
     ensures name { λ r. ⌜ r .session .name ≡ session .name ⌝ }
 {
     let mut headers = [0u8; 0];
@@ -160,8 +162,13 @@ impl Judging {
         identities: &mut [u8],
         keys: &mut [u8],
     ) -> Judging
-        ensures exact { λ r. ⌜ turnSaid r (now (slots .exit)) (now («header_slots» .exit)) (now (recipients .exit)) (now (identities .exit)) (now (keys .exit)) ≡ judgedFrom last (standingOf self (now (slots .entry)) (now («header_slots» .entry))) (buffersIn (now (recipients .entry)) (now (identities .entry)) (now (keys .entry))) (now (window .entry)) ⌝ }
-        ensures any_cut { λ r. ⌜ Cut last (standingOf self (now (slots .entry)) (now («header_slots» .entry))) (buffersIn (now (recipients .entry)) (now (identities .entry)) (now (keys .entry))) (now (window .entry)) (turnSaid r (now (slots .exit)) (now («header_slots» .exit)) (now (recipients .exit)) (now (identities .exit)) (now (keys .exit))) ⌝ }
+        ensures exact { λ r. ⌜ turnSaid r (now (slots .exit)) (now («header_slots» .exit)) (now (recipients .exit)) (now (identities .exit)) (now (keys .exit))
+            ≡
+            judgedFrom last (standingOf self (now (slots .entry)) (now («header_slots» .entry)))
+            (buffersIn (now (recipients .entry)) (now (identities .entry)) (now (keys .entry))) (now (window .entry)) ⌝ }
+        ensures any_cut { λ r. ⌜ Cut last (standingOf self (now (slots .entry)) (now («header_slots» .entry)))
+            (buffersIn (now (recipients .entry)) (now (identities .entry)) (now (keys .entry))) (now (window .entry))
+            (turnSaid r (now (slots .exit)) (now («header_slots» .exit)) (now (recipients .exit)) (now (identities .exit)) (now (keys .exit))) ⌝ }
         ensures name { λ r. ⌜ r .session .name ≡ self .session .name ⌝ }
     {
         let mut j = self;
@@ -203,8 +210,10 @@ impl Judging {
 
 // A whole text: the five numbers. The judging program lends 16,384, 16,384 and 1,024 bytes of zeros. Header stanzas need no buffer: recipient-v1 has none.
 pub fn judge(text: &[u8], recipients: &mut [u8], identities: &mut [u8], keys: &mut [u8]) -> Judged
-    ensures numbers { λ r. ⌜ judgedSaid r ≡ numbersOf (judgedText (buffersIn (now (recipients .entry)) (now (identities .entry)) (now (keys .entry))) (now (text .entry)) .standing) ⌝ }
-    ensures buffers { λ _. ⌜ buffersIn (now (recipients .exit)) (now (identities .exit)) (now (keys .exit)) ≡ judgedText (buffersIn (now (recipients .entry)) (now (identities .entry)) (now (keys .entry))) (now (text .entry)) .buffers ⌝ }
+    ensures numbers { λ r. ⌜ judgedSaid r ≡
+        numbersOf (judgedText (buffersIn (now (recipients .entry)) (now (identities .entry)) (now (keys .entry))) (now (text .entry)) .standing) ⌝ }
+    ensures buffers { λ _. ⌜ buffersIn (now (recipients .exit)) (now (identities .exit)) (now (keys .exit)) ≡
+        judgedText (buffersIn (now (recipients .entry)) (now (identities .entry)) (now (keys .entry))) (now (text .entry)) .buffers ⌝ }
 {
     let begun = Judging::open();
     let mut slots = Session::open_slots();

@@ -54,7 +54,8 @@ pub fn entry<'a>(
     recipients: &'a [u8],
     identities: &'a [u8],
 ) -> &'a [u8]
-    ensures { λ r. ⌜ ((hs : List (List ℕ)) → now r ≡ entryText (tablesIn tables (now (slots .entry)) hs) kind n (now (recipients .entry)) (now (identities .entry))) ⌝ }
+    ensures { λ r. ⌜ ((hs : List (List ℕ)) → now r ≡ entryText (tablesIn tables (now (slots .entry)) hs) kind n (now (recipients .entry))
+        (now (identities .entry))) ⌝ }
 {
     match kind {
         TextKind::Recipient => payload(

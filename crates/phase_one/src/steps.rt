@@ -94,10 +94,16 @@ fn keep_text(
     slots: &mut [[usize; 4]],
     buffer: &mut [u8],
 ) -> Stored
-    ensures number { λ r. ⌜ verdictSaid (r .verdict) ≡ storing (tableIn span table (now (slots .entry))) (length (argumentOf (now (line .entry)) 1)) (length (now (buffer .entry))) (verdictSaid late) ⌝ }
-    ensures table { λ r. ⌜ tableIn span (r .table) (now (slots .exit)) ≡ pick (eqb (verdictSaid (r .verdict)) 0) (entered (tableIn span table (now (slots .entry))) (length (argumentOf (now (line .entry)) 1)) 0 (markOf (parse (formOf kind) (argumentOf (now (line .entry)) 1)) (now (plugin .entry))) (length (now (buffer .entry)))) (tableIn span table (now (slots .entry))) ⌝ }
+    ensures number { λ r. ⌜ verdictSaid (r .verdict) ≡
+        storing (tableIn span table (now (slots .entry))) (length (argumentOf (now (line .entry)) 1)) (length (now (buffer .entry))) (verdictSaid late) ⌝ }
+    ensures table { λ r. ⌜ tableIn span (r .table) (now (slots .exit)) ≡
+        pick (eqb (verdictSaid (r .verdict)) 0) (entered (tableIn span table (now (slots .entry))) (length (argumentOf (now (line .entry)) 1)) 0
+        (markOf (parse (formOf kind) (argumentOf (now (line .entry)) 1)) (now (plugin .entry))) (length (now (buffer .entry))))
+        (tableIn span table (now (slots .entry))) ⌝ }
     ensures others { λ r. ⌜ ((k : AnySpan) → areApart span k ≡ true → slotsOf k (now (slots .exit)) ≡ slotsOf k (now (slots .entry))) ⌝ }
-    ensures buffer { λ r. ⌜ now (buffer .exit) ≡ pick (eqb (verdictSaid (r .verdict)) 0) (kept (tableIn span table (now (slots .entry))) (argumentOf (now (line .entry)) 1) (now (buffer .entry))) (now (buffer .entry)) ⌝ }
+    ensures buffer { λ r. ⌜ now (buffer .exit) ≡
+        pick (eqb (verdictSaid (r .verdict)) 0) (kept (tableIn span table (now (slots .entry))) (argumentOf (now (line .entry)) 1) (now (buffer .entry)))
+        (now (buffer .entry)) ⌝ }
 {
     let text = stanza::argument(line, 1);
     let mark = text_mark(kind, text, plugin);
@@ -117,9 +123,18 @@ fn keep_header(
     slots: &mut [[usize; 4]],
     buffer: &mut [u8],
 ) -> Stored
-    ensures number { λ r. ⌜ verdictSaid (r .verdict) ≡ pick (falls (tableIn (spanOf Kind.Headers) table (now (slots .entry))) index) 7 (storing (tableIn (spanOf Kind.Headers) table (now (slots .entry))) (length (restOf (now (line .entry)) ++ 10 ∷ bodyFrom coding (now (source .entry)))) (length (now (buffer .entry))) (verdictSaid late)) ⌝ }
-    ensures table { λ r. ⌜ tableIn (spanOf Kind.Headers) (r .table) (now (slots .exit)) ≡ pick (eqb (verdictSaid (r .verdict)) 0) (entered (tableIn (spanOf Kind.Headers) table (now (slots .entry))) (length (restOf (now (line .entry)) ++ 10 ∷ bodyFrom coding (now (source .entry)))) index (findingMark (checked (now (plugin .entry)) (restOf (now (line .entry))) n)) (length (now (buffer .entry)))) (tableIn (spanOf Kind.Headers) table (now (slots .entry))) ⌝ }
-    ensures buffer { λ r. ⌜ now (buffer .exit) ≡ pick (eqb (verdictSaid (r .verdict)) 0) (kept (tableIn (spanOf Kind.Headers) table (now (slots .entry))) (restOf (now (line .entry)) ++ 10 ∷ bodyFrom coding (now (source .entry))) (now (buffer .entry))) (now (buffer .entry)) ⌝ }
+    ensures number { λ r. ⌜ verdictSaid (r .verdict) ≡
+        pick (falls (tableIn (spanOf Kind.Headers) table (now (slots .entry))) index) 7
+        (storing (tableIn (spanOf Kind.Headers) table (now (slots .entry))) (length (restOf (now (line .entry)) ++ 10 ∷ bodyFrom coding (now (source .entry))))
+        (length (now (buffer .entry))) (verdictSaid late)) ⌝ }
+    ensures table { λ r. ⌜ tableIn (spanOf Kind.Headers) (r .table) (now (slots .exit)) ≡
+        pick (eqb (verdictSaid (r .verdict)) 0) (entered (tableIn (spanOf Kind.Headers) table (now (slots .entry)))
+        (length (restOf (now (line .entry)) ++ 10 ∷ bodyFrom coding (now (source .entry)))) index
+        (findingMark (checked (now (plugin .entry)) (restOf (now (line .entry))) n)) (length (now (buffer .entry))))
+        (tableIn (spanOf Kind.Headers) table (now (slots .entry))) ⌝ }
+    ensures buffer { λ r. ⌜ now (buffer .exit) ≡
+        pick (eqb (verdictSaid (r .verdict)) 0) (kept (tableIn (spanOf Kind.Headers) table (now (slots .entry)))
+        (restOf (now (line .entry)) ++ 10 ∷ bodyFrom coding (now (source .entry))) (now (buffer .entry))) (now (buffer .entry)) ⌝ }
 {
     if is_falling(table, index, slots) {
         return Stored {
@@ -151,7 +166,21 @@ pub struct StepOne {
 
 // What a command came to, by what storing it came to: its kind's table has changed, and no other.
 fn stepped_recipients(command: CommandOne, tables: Tables, stored: Stored) -> StepOne
-    ensures { λ r. ⌜ r ≡ record { command = command; verdict = stored .verdict; tables = record { recipients = stored .table; identities = tables .identities; keys = tables .keys; headers = tables .headers; errors = tables .errors; stanzas = tables .stanzas; returned = tables .returned } } ⌝ }
+    ensures { λ r. ⌜ r ≡
+        record {
+          command = command;
+          verdict = stored .verdict;
+          tables = record {
+            recipients = stored .table;
+            identities = tables .identities;
+            keys = tables .keys;
+            headers = tables .headers;
+            errors = tables .errors;
+            stanzas = tables
+                .stanzas;
+            returned = tables .returned;
+          };
+        } ⌝ }
 {
     let verdict = stored.verdict;
     let after = stored.table;
@@ -165,7 +194,21 @@ fn stepped_recipients(command: CommandOne, tables: Tables, stored: Stored) -> St
 }
 
 fn stepped_identities(command: CommandOne, tables: Tables, stored: Stored) -> StepOne
-    ensures { λ r. ⌜ r ≡ record { command = command; verdict = stored .verdict; tables = record { recipients = tables .recipients; identities = stored .table; keys = tables .keys; headers = tables .headers; errors = tables .errors; stanzas = tables .stanzas; returned = tables .returned } } ⌝ }
+    ensures { λ r. ⌜ r ≡
+        record {
+          command = command;
+          verdict = stored .verdict;
+          tables = record {
+            recipients = tables .recipients;
+            identities = stored .table;
+            keys = tables .keys;
+            headers = tables .headers;
+            errors = tables .errors;
+            stanzas = tables
+                .stanzas;
+            returned = tables .returned;
+          };
+        } ⌝ }
 {
     let verdict = stored.verdict;
     let after = stored.table;
@@ -179,7 +222,21 @@ fn stepped_identities(command: CommandOne, tables: Tables, stored: Stored) -> St
 }
 
 fn stepped_keys(command: CommandOne, tables: Tables, stored: Stored) -> StepOne
-    ensures { λ r. ⌜ r ≡ record { command = command; verdict = stored .verdict; tables = record { recipients = tables .recipients; identities = tables .identities; keys = stored .table; headers = tables .headers; errors = tables .errors; stanzas = tables .stanzas; returned = tables .returned } } ⌝ }
+    ensures { λ r. ⌜ r ≡
+        record {
+          command = command;
+          verdict = stored .verdict;
+          tables = record {
+            recipients = tables .recipients;
+            identities = tables .identities;
+            keys = stored .table;
+            headers = tables .headers;
+            errors = tables .errors;
+            stanzas =
+                tables .stanzas;
+            returned = tables .returned;
+          };
+        } ⌝ }
 {
     let verdict = stored.verdict;
     let after = stored.table;
@@ -193,7 +250,21 @@ fn stepped_keys(command: CommandOne, tables: Tables, stored: Stored) -> StepOne
 }
 
 fn stepped_headers(command: CommandOne, tables: Tables, stored: Stored) -> StepOne
-    ensures { λ r. ⌜ r ≡ record { command = command; verdict = stored .verdict; tables = record { recipients = tables .recipients; identities = tables .identities; keys = tables .keys; headers = stored .table; errors = tables .errors; stanzas = tables .stanzas; returned = tables .returned } } ⌝ }
+    ensures { λ r. ⌜ r ≡
+        record {
+          command = command;
+          verdict = stored .verdict;
+          tables = record {
+            recipients = tables .recipients;
+            identities = tables .identities;
+            keys = tables .keys;
+            headers = stored .table;
+            errors = tables .errors;
+            stanzas =
+                tables .stanzas;
+            returned = tables .returned;
+          };
+        } ⌝ }
 {
     let verdict = stored.verdict;
     let after = stored.table;
@@ -223,10 +294,20 @@ pub fn step_one(
     keys: &mut [u8],
     headers: &mut [u8],
 ) -> StepOne
-    ensures command { λ r. ⌜ commandSaid (now (plugin .entry)) (now (line .entry)) (length (bodyFrom coding (now (source .entry)))) (r .command) ≡ commandIn machine (now (plugin .entry)) (now (line .entry)) (bodyFrom coding (now (source .entry))) ⌝ }
-    ensures number { λ r. ⌜ verdictSaid (r .verdict) ≡ numberOne machine (now (plugin .entry)) (tablesIn tables (now (slots .entry)) (now («header_slots» .entry))) (buffersOf (now (recipients .entry)) (now (identities .entry)) (now (keys .entry)) (now (headers .entry))) (verdictSaid late) (now (line .entry)) (bodyFrom coding (now (source .entry))) ⌝ }
-    ensures tables { λ r. ⌜ tablesIn (r .tables) (now (slots .exit)) (now («header_slots» .exit)) ≡ tablesOne machine (now (plugin .entry)) (tablesIn tables (now (slots .entry)) (now («header_slots» .entry))) (buffersOf (now (recipients .entry)) (now (identities .entry)) (now (keys .entry)) (now (headers .entry))) (verdictSaid late) (now (line .entry)) (bodyFrom coding (now (source .entry))) ⌝ }
-    ensures buffers { λ _. ⌜ buffersOf (now (recipients .exit)) (now (identities .exit)) (now (keys .exit)) (now (headers .exit)) ≡ buffersOne machine (now (plugin .entry)) (tablesIn tables (now (slots .entry)) (now («header_slots» .entry))) (buffersOf (now (recipients .entry)) (now (identities .entry)) (now (keys .entry)) (now (headers .entry))) (verdictSaid late) (now (line .entry)) (bodyFrom coding (now (source .entry))) ⌝ }
+    ensures command { λ r. ⌜ commandSaid (now (plugin .entry)) (now (line .entry)) (length (bodyFrom coding (now (source .entry)))) (r .command) ≡
+        commandIn machine (now (plugin .entry)) (now (line .entry)) (bodyFrom coding (now (source .entry))) ⌝ }
+    ensures number { λ r. ⌜ verdictSaid (r .verdict) ≡
+        numberOne machine (now (plugin .entry)) (tablesIn tables (now (slots .entry)) (now («header_slots» .entry)))
+        (buffersOf (now (recipients .entry)) (now (identities .entry)) (now (keys .entry)) (now (headers .entry))) (verdictSaid late) (now (line .entry))
+        (bodyFrom coding (now (source .entry))) ⌝ }
+    ensures tables { λ r. ⌜ tablesIn (r .tables) (now (slots .exit)) (now («header_slots» .exit)) ≡
+        tablesOne machine (now (plugin .entry)) (tablesIn tables (now (slots .entry)) (now («header_slots» .entry)))
+        (buffersOf (now (recipients .entry)) (now (identities .entry)) (now (keys .entry)) (now (headers .entry))) (verdictSaid late) (now (line .entry))
+        (bodyFrom coding (now (source .entry))) ⌝ }
+    ensures buffers { λ _. ⌜ buffersOf (now (recipients .exit)) (now (identities .exit)) (now (keys .exit)) (now (headers .exit)) ≡
+        buffersOne machine (now (plugin .entry)) (tablesIn tables (now (slots .entry)) (now («header_slots» .entry)))
+        (buffersOf (now (recipients .entry)) (now (identities .entry)) (now (keys .entry)) (now (headers .entry))) (verdictSaid late) (now (line .entry))
+        (bodyFrom coding (now (source .entry))) ⌝ }
 {
     let n = tables::body_size(coding, source);
     let command = parse_one(machine, line, n);

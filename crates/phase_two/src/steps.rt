@@ -70,10 +70,17 @@ fn keep_stanza(
     slots: &mut [[usize; 4]],
     stanzas: &mut [u8],
 ) -> Stored
-    ensures number { λ r. ⌜ verdictSaid (r .verdict) ≡ storing (tableIn (spanOf Kind.Stanzas) table (now (slots .entry))) (length (restOf (now (line .entry)) ++ 10 ∷ bodyFrom coding (now (source .entry)))) (length (now (stanzas .entry))) (verdictSaid late) ⌝ }
-    ensures table { λ r. ⌜ tableIn (spanOf Kind.Stanzas) (r .table) (now (slots .exit)) ≡ pick (eqb (verdictSaid (r .verdict)) 0) (entered (tableIn (spanOf Kind.Stanzas) table (now (slots .entry))) (length (restOf (now (line .entry)) ++ 10 ∷ bodyFrom coding (now (source .entry)))) file 0 (length (now (stanzas .entry)))) (tableIn (spanOf Kind.Stanzas) table (now (slots .entry))) ⌝ }
+    ensures number { λ r. ⌜ verdictSaid (r .verdict) ≡
+        storing (tableIn (spanOf Kind.Stanzas) table (now (slots .entry))) (length (restOf (now (line .entry)) ++ 10 ∷ bodyFrom coding (now (source .entry))))
+        (length (now (stanzas .entry))) (verdictSaid late) ⌝ }
+    ensures table { λ r. ⌜ tableIn (spanOf Kind.Stanzas) (r .table) (now (slots .exit)) ≡
+        pick (eqb (verdictSaid (r .verdict)) 0) (entered (tableIn (spanOf Kind.Stanzas) table (now (slots .entry)))
+        (length (restOf (now (line .entry)) ++ 10 ∷ bodyFrom coding (now (source .entry)))) file 0 (length (now (stanzas .entry))))
+        (tableIn (spanOf Kind.Stanzas) table (now (slots .entry))) ⌝ }
     ensures others { λ _. ⌜ ((k : AnySpan) → areApart (spanOf Kind.Stanzas) k ≡ true → slotsOf k (now (slots .exit)) ≡ slotsOf k (now (slots .entry))) ⌝ }
-    ensures buffer { λ r. ⌜ now (stanzas .exit) ≡ pick (eqb (verdictSaid (r .verdict)) 0) (kept (tableIn (spanOf Kind.Stanzas) table (now (slots .entry))) (restOf (now (line .entry)) ++ 10 ∷ bodyFrom coding (now (source .entry))) (now (stanzas .entry))) (now (stanzas .entry)) ⌝ }
+    ensures buffer { λ r. ⌜ now (stanzas .exit) ≡
+        pick (eqb (verdictSaid (r .verdict)) 0) (kept (tableIn (spanOf Kind.Stanzas) table (now (slots .entry)))
+        (restOf (now (line .entry)) ++ 10 ∷ bodyFrom coding (now (source .entry))) (now (stanzas .entry))) (now (stanzas .entry)) ⌝ }
 {
     table.store_lines(
         span_of(Kind::Stanzas),
@@ -98,10 +105,17 @@ fn keep_key(
     slots: &mut [[usize; 4]],
     returned: &mut [u8],
 ) -> Stored
-    ensures number { λ r. ⌜ verdictSaid (r .verdict) ≡ storing (tableIn (spanOf Kind.Returned) table (now (slots .entry))) (length (bodyFrom coding (now (source .entry)))) (length (now (returned .entry))) (verdictSaid late) ⌝ }
-    ensures table { λ r. ⌜ tableIn (spanOf Kind.Returned) (r .table) (now (slots .exit)) ≡ pick (eqb (verdictSaid (r .verdict)) 0) (entered (tableIn (spanOf Kind.Returned) table (now (slots .entry))) (length (bodyFrom coding (now (source .entry)))) file 0 (length (now (returned .entry)))) (tableIn (spanOf Kind.Returned) table (now (slots .entry))) ⌝ }
+    ensures number { λ r. ⌜ verdictSaid (r .verdict) ≡
+        storing (tableIn (spanOf Kind.Returned) table (now (slots .entry))) (length (bodyFrom coding (now (source .entry)))) (length (now (returned .entry)))
+        (verdictSaid late) ⌝ }
+    ensures table { λ r. ⌜ tableIn (spanOf Kind.Returned) (r .table) (now (slots .exit)) ≡
+        pick (eqb (verdictSaid (r .verdict)) 0) (entered (tableIn (spanOf Kind.Returned) table (now (slots .entry)))
+        (length (bodyFrom coding (now (source .entry)))) file 0 (length (now (returned .entry)))) (tableIn (spanOf Kind.Returned) table (now (slots .entry)))
+        ⌝ }
     ensures others { λ _. ⌜ ((k : AnySpan) → areApart (spanOf Kind.Returned) k ≡ true → slotsOf k (now (slots .exit)) ≡ slotsOf k (now (slots .entry))) ⌝ }
-    ensures buffer { λ r. ⌜ now (returned .exit) ≡ pick (eqb (verdictSaid (r .verdict)) 0) (kept (tableIn (spanOf Kind.Returned) table (now (slots .entry))) (bodyFrom coding (now (source .entry))) (now (returned .entry))) (now (returned .entry)) ⌝ }
+    ensures buffer { λ r. ⌜ now (returned .exit) ≡
+        pick (eqb (verdictSaid (r .verdict)) 0) (kept (tableIn (spanOf Kind.Returned) table (now (slots .entry))) (bodyFrom coding (now (source .entry)))
+        (now (returned .entry))) (now (returned .entry)) ⌝ }
 {
     table.store(
         span_of(Kind::Returned),
@@ -125,10 +139,17 @@ fn keep_error(
     slots: &mut [[usize; 4]],
     errors: &mut [u8],
 ) -> Stored
-    ensures number { λ r. ⌜ verdictSaid (r .verdict) ≡ storing (tableIn (spanOf Kind.Errors) table (now (slots .entry))) (length (bodyFrom coding (now (source .entry)))) (length (now (errors .entry))) (verdictSaid late) ⌝ }
-    ensures table { λ r. ⌜ tableIn (spanOf Kind.Errors) (r .table) (now (slots .exit)) ≡ pick (eqb (verdictSaid (r .verdict)) 0) (entered (tableIn (spanOf Kind.Errors) table (now (slots .entry))) (length (bodyFrom coding (now (source .entry)))) (indexOf (namedSaid named)) (markOf (namedSaid named)) (length (now (errors .entry)))) (tableIn (spanOf Kind.Errors) table (now (slots .entry))) ⌝ }
+    ensures number { λ r. ⌜ verdictSaid (r .verdict) ≡
+        storing (tableIn (spanOf Kind.Errors) table (now (slots .entry))) (length (bodyFrom coding (now (source .entry)))) (length (now (errors .entry)))
+        (verdictSaid late) ⌝ }
+    ensures table { λ r. ⌜ tableIn (spanOf Kind.Errors) (r .table) (now (slots .exit)) ≡
+        pick (eqb (verdictSaid (r .verdict)) 0) (entered (tableIn (spanOf Kind.Errors) table (now (slots .entry)))
+        (length (bodyFrom coding (now (source .entry)))) (indexOf (namedSaid named)) (markOf (namedSaid named)) (length (now (errors .entry))))
+        (tableIn (spanOf Kind.Errors) table (now (slots .entry))) ⌝ }
     ensures others { λ _. ⌜ ((k : AnySpan) → areApart (spanOf Kind.Errors) k ≡ true → slotsOf k (now (slots .exit)) ≡ slotsOf k (now (slots .entry))) ⌝ }
-    ensures buffer { λ r. ⌜ now (errors .exit) ≡ pick (eqb (verdictSaid (r .verdict)) 0) (kept (tableIn (spanOf Kind.Errors) table (now (slots .entry))) (bodyFrom coding (now (source .entry))) (now (errors .entry))) (now (errors .entry)) ⌝ }
+    ensures buffer { λ r. ⌜ now (errors .exit) ≡
+        pick (eqb (verdictSaid (r .verdict)) 0) (kept (tableIn (spanOf Kind.Errors) table (now (slots .entry))) (bodyFrom coding (now (source .entry)))
+        (now (errors .entry))) (now (errors .entry)) ⌝ }
 {
     table.store(
         span_of(Kind::Errors),
@@ -144,7 +165,20 @@ fn keep_error(
 
 // What a command came to, by what storing it came to: its kind's table has changed, and no other.
 fn stepped_errors(tables: Tables, stored: Stored) -> StepTwo
-    ensures { λ r. ⌜ r ≡ record { verdict = stored .verdict; tables = record { recipients = tables .recipients; identities = tables .identities; keys = tables .keys; headers = tables .headers; errors = stored .table; stanzas = tables .stanzas; returned = tables .returned } } ⌝ }
+    ensures { λ r. ⌜ r ≡
+        record {
+          verdict = stored .verdict;
+          tables = record {
+            recipients = tables .recipients;
+            identities = tables .identities;
+            keys = tables .keys;
+            headers =
+                tables .headers;
+            errors = stored .table;
+            stanzas = tables .stanzas;
+            returned = tables .returned;
+          };
+        } ⌝ }
 {
     let verdict = stored.verdict;
     let after = stored.table;
@@ -157,7 +191,20 @@ fn stepped_errors(tables: Tables, stored: Stored) -> StepTwo
 }
 
 fn stepped_stanzas(tables: Tables, stored: Stored) -> StepTwo
-    ensures { λ r. ⌜ r ≡ record { verdict = stored .verdict; tables = record { recipients = tables .recipients; identities = tables .identities; keys = tables .keys; headers = tables .headers; errors = tables .errors; stanzas = stored .table; returned = tables .returned } } ⌝ }
+    ensures { λ r. ⌜ r ≡
+        record {
+          verdict = stored .verdict;
+          tables = record {
+            recipients = tables .recipients;
+            identities = tables .identities;
+            keys = tables .keys;
+            headers =
+                tables .headers;
+            errors = tables .errors;
+            stanzas = stored .table;
+            returned = tables .returned;
+          };
+        } ⌝ }
 {
     let verdict = stored.verdict;
     let after = stored.table;
@@ -170,7 +217,20 @@ fn stepped_stanzas(tables: Tables, stored: Stored) -> StepTwo
 }
 
 fn stepped_returned(tables: Tables, stored: Stored) -> StepTwo
-    ensures { λ r. ⌜ r ≡ record { verdict = stored .verdict; tables = record { recipients = tables .recipients; identities = tables .identities; keys = tables .keys; headers = tables .headers; errors = tables .errors; stanzas = tables .stanzas; returned = stored .table } } ⌝ }
+    ensures { λ r. ⌜ r ≡
+        record {
+          verdict = stored .verdict;
+          tables = record {
+            recipients = tables .recipients;
+            identities = tables .identities;
+            keys = tables .keys;
+            headers =
+                tables .headers;
+            errors = tables .errors;
+            stanzas = tables .stanzas;
+            returned = stored .table;
+          };
+        } ⌝ }
 {
     let verdict = stored.verdict;
     let after = stored.table;
@@ -197,9 +257,24 @@ pub fn step_two(
     stanzas: &mut [u8],
     returned: &mut [u8],
 ) -> StepTwo
-    ensures number { λ r. ⌜ ((hs : List (List ℕ)) → verdictSaid (r .verdict) ≡ (numberStepped (verdictSaid ruled) (tablesIn tables (now (slots .entry)) hs) (buffersOf (now (errors .entry)) (now (stanzas .entry)) (now (returned .entry))) (commandSaid command) (payloadOf (commandSaid command) (now (line .entry)) (bodyFrom coding (now (source .entry)))) (verdictSaid late))) ⌝ }
-    ensures tables { λ r. ⌜ ((hs : List (List ℕ)) → tablesIn (r .tables) (now (slots .exit)) hs ≡ pick (eqb (numberStepped (verdictSaid ruled) (tablesIn tables (now (slots .entry)) hs) (buffersOf (now (errors .entry)) (now (stanzas .entry)) (now (returned .entry))) (commandSaid command) (payloadOf (commandSaid command) (now (line .entry)) (bodyFrom coding (now (source .entry)))) (verdictSaid late)) 0) (applied (tablesIn tables (now (slots .entry)) hs) (buffersOf (now (errors .entry)) (now (stanzas .entry)) (now (returned .entry))) (commandSaid command) (payloadOf (commandSaid command) (now (line .entry)) (bodyFrom coding (now (source .entry))))) (tablesIn tables (now (slots .entry)) hs)) ⌝ }
-    ensures buffers { λ _. ⌜ ((hs : List (List ℕ)) → buffersOf (now (errors .exit)) (now (stanzas .exit)) (now (returned .exit)) ≡ pick (eqb (numberStepped (verdictSaid ruled) (tablesIn tables (now (slots .entry)) hs) (buffersOf (now (errors .entry)) (now (stanzas .entry)) (now (returned .entry))) (commandSaid command) (payloadOf (commandSaid command) (now (line .entry)) (bodyFrom coding (now (source .entry)))) (verdictSaid late)) 0) (filledBy (tablesIn tables (now (slots .entry)) hs) (buffersOf (now (errors .entry)) (now (stanzas .entry)) (now (returned .entry))) (commandSaid command) (payloadOf (commandSaid command) (now (line .entry)) (bodyFrom coding (now (source .entry))))) (buffersOf (now (errors .entry)) (now (stanzas .entry)) (now (returned .entry)))) ⌝ }
+    ensures number { λ r. ⌜ ((hs : List (List ℕ)) → verdictSaid (r .verdict) ≡
+        (numberStepped (verdictSaid ruled) (tablesIn tables (now (slots .entry)) hs)
+        (buffersOf (now (errors .entry)) (now (stanzas .entry)) (now (returned .entry))) (commandSaid command)
+        (payloadOf (commandSaid command) (now (line .entry)) (bodyFrom coding (now (source .entry)))) (verdictSaid late))) ⌝ }
+    ensures tables { λ r. ⌜ ((hs : List (List ℕ)) → tablesIn (r .tables) (now (slots .exit)) hs ≡ pick
+        (eqb (numberStepped (verdictSaid ruled) (tablesIn tables (now (slots .entry)) hs)
+        (buffersOf (now (errors .entry)) (now (stanzas .entry)) (now (returned .entry))) (commandSaid command)
+        (payloadOf (commandSaid command) (now (line .entry)) (bodyFrom coding (now (source .entry)))) (verdictSaid late)) 0)
+        (applied (tablesIn tables (now (slots .entry)) hs) (buffersOf (now (errors .entry)) (now (stanzas .entry)) (now (returned .entry)))
+        (commandSaid command) (payloadOf (commandSaid command) (now (line .entry)) (bodyFrom coding (now (source .entry)))))
+        (tablesIn tables (now (slots .entry)) hs)) ⌝ }
+    ensures buffers { λ _. ⌜ ((hs : List (List ℕ)) → buffersOf (now (errors .exit)) (now (stanzas .exit)) (now (returned .exit)) ≡ pick
+        (eqb (numberStepped (verdictSaid ruled) (tablesIn tables (now (slots .entry)) hs)
+        (buffersOf (now (errors .entry)) (now (stanzas .entry)) (now (returned .entry))) (commandSaid command)
+        (payloadOf (commandSaid command) (now (line .entry)) (bodyFrom coding (now (source .entry)))) (verdictSaid late)) 0)
+        (filledBy (tablesIn tables (now (slots .entry)) hs) (buffersOf (now (errors .entry)) (now (stanzas .entry)) (now (returned .entry)))
+        (commandSaid command) (payloadOf (commandSaid command) (now (line .entry)) (bodyFrom coding (now (source .entry)))))
+        (buffersOf (now (errors .entry)) (now (stanzas .entry)) (now (returned .entry)))) ⌝ }
 {
     match ruled {
         Verdict::Refused(_) => StepTwo {
@@ -234,9 +309,21 @@ fn keep(
     stanzas: &mut [u8],
     returned: &mut [u8],
 ) -> StepTwo
-    ensures number { λ r. ⌜ ((hs : List (List ℕ)) → verdictSaid (r .verdict) ≡ (numberStepped 0 (tablesIn tables (now (slots .entry)) hs) (buffersOf (now (errors .entry)) (now (stanzas .entry)) (now (returned .entry))) (commandSaid command) (payloadOf (commandSaid command) (now (line .entry)) (bodyFrom coding (now (source .entry)))) (verdictSaid late))) ⌝ }
-    ensures tables { λ r. ⌜ ((hs : List (List ℕ)) → tablesIn (r .tables) (now (slots .exit)) hs ≡ pick (eqb (numberStepped 0 (tablesIn tables (now (slots .entry)) hs) (buffersOf (now (errors .entry)) (now (stanzas .entry)) (now (returned .entry))) (commandSaid command) (payloadOf (commandSaid command) (now (line .entry)) (bodyFrom coding (now (source .entry)))) (verdictSaid late)) 0) (applied (tablesIn tables (now (slots .entry)) hs) (buffersOf (now (errors .entry)) (now (stanzas .entry)) (now (returned .entry))) (commandSaid command) (payloadOf (commandSaid command) (now (line .entry)) (bodyFrom coding (now (source .entry))))) (tablesIn tables (now (slots .entry)) hs)) ⌝ }
-    ensures buffers { λ _. ⌜ ((hs : List (List ℕ)) → buffersOf (now (errors .exit)) (now (stanzas .exit)) (now (returned .exit)) ≡ pick (eqb (numberStepped 0 (tablesIn tables (now (slots .entry)) hs) (buffersOf (now (errors .entry)) (now (stanzas .entry)) (now (returned .entry))) (commandSaid command) (payloadOf (commandSaid command) (now (line .entry)) (bodyFrom coding (now (source .entry)))) (verdictSaid late)) 0) (filledBy (tablesIn tables (now (slots .entry)) hs) (buffersOf (now (errors .entry)) (now (stanzas .entry)) (now (returned .entry))) (commandSaid command) (payloadOf (commandSaid command) (now (line .entry)) (bodyFrom coding (now (source .entry))))) (buffersOf (now (errors .entry)) (now (stanzas .entry)) (now (returned .entry)))) ⌝ }
+    ensures number { λ r. ⌜ ((hs : List (List ℕ)) → verdictSaid (r .verdict) ≡
+        (numberStepped 0 (tablesIn tables (now (slots .entry)) hs) (buffersOf (now (errors .entry)) (now (stanzas .entry)) (now (returned .entry)))
+        (commandSaid command) (payloadOf (commandSaid command) (now (line .entry)) (bodyFrom coding (now (source .entry)))) (verdictSaid late))) ⌝ }
+    ensures tables { λ r. ⌜ ((hs : List (List ℕ)) → tablesIn (r .tables) (now (slots .exit)) hs ≡ pick
+        (eqb (numberStepped 0 (tablesIn tables (now (slots .entry)) hs) (buffersOf (now (errors .entry)) (now (stanzas .entry)) (now (returned .entry)))
+        (commandSaid command) (payloadOf (commandSaid command) (now (line .entry)) (bodyFrom coding (now (source .entry)))) (verdictSaid late)) 0)
+        (applied (tablesIn tables (now (slots .entry)) hs) (buffersOf (now (errors .entry)) (now (stanzas .entry)) (now (returned .entry)))
+        (commandSaid command) (payloadOf (commandSaid command) (now (line .entry)) (bodyFrom coding (now (source .entry)))))
+        (tablesIn tables (now (slots .entry)) hs)) ⌝ }
+    ensures buffers { λ _. ⌜ ((hs : List (List ℕ)) → buffersOf (now (errors .exit)) (now (stanzas .exit)) (now (returned .exit)) ≡ pick
+        (eqb (numberStepped 0 (tablesIn tables (now (slots .entry)) hs) (buffersOf (now (errors .entry)) (now (stanzas .entry)) (now (returned .entry)))
+        (commandSaid command) (payloadOf (commandSaid command) (now (line .entry)) (bodyFrom coding (now (source .entry)))) (verdictSaid late)) 0)
+        (filledBy (tablesIn tables (now (slots .entry)) hs) (buffersOf (now (errors .entry)) (now (stanzas .entry)) (now (returned .entry)))
+        (commandSaid command) (payloadOf (commandSaid command) (now (line .entry)) (bodyFrom coding (now (source .entry)))))
+        (buffersOf (now (errors .entry)) (now (stanzas .entry)) (now (returned .entry)))) ⌝ }
 {
     match command {
         CommandTwo::Stanza(file) => {

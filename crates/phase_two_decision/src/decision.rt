@@ -190,7 +190,9 @@ fn is_key_held_back(
     slots: &[[usize; 4]],
     header_slots: &[[usize; 4]],
 ) -> bool
-    ensures { λ r. ⌜ r ≡ (anyInvalid (tablesIn tables (now (slots .entry)) (now («header_slots» .entry))) || hasNonconforming (tablesIn tables (now (slots .entry)) (now («header_slots» .entry))) file) ⌝ }
+    ensures { λ r. ⌜ r ≡
+        (anyInvalid (tablesIn tables (now (slots .entry)) (now («header_slots» .entry))) || hasNonconforming
+        (tablesIn tables (now (slots .entry)) (now («header_slots» .entry))) file) ⌝ }
 {
     if has_invalid(tables, slots) {
         return true;

@@ -56,7 +56,9 @@ pub fn has_error_for(
     slots: &[[usize; 4]],
     header_slots: &[[usize; 4]],
 ) -> bool
-    ensures { λ r. ⌜ r ≡ isAny (isAbout (labels (tableIn (spanOf Kind.Headers) headers (now («header_slots» .entry)))) file) (labels (tableIn (spanOf Kind.Errors) errors (now (slots .entry)))) ⌝ }
+    ensures { λ r. ⌜ r ≡
+        isAny (isAbout (labels (tableIn (spanOf Kind.Headers) headers (now («header_slots» .entry)))) file)
+        (labels (tableIn (spanOf Kind.Errors) errors (now (slots .entry)))) ⌝ }
 {
     let span = span_of(Kind::Errors);
     let mut i = 0;
@@ -146,7 +148,9 @@ fn are_reported(
     mark: usize,
     slots: &[[usize; 4]],
 ) -> bool
-    ensures { λ r. ⌜ r ≡ areReported (pick header isNonconforming isInvalid) mark 0 (labels (tableIn span table (now (own .entry)))) (labels (tableIn (spanOf Kind.Errors) errors (now (slots .entry)))) ⌝ }
+    ensures { λ r. ⌜ r ≡
+        areReported (pick header isNonconforming isInvalid) mark 0 (labels (tableIn span table (now (own .entry))))
+        (labels (tableIn (spanOf Kind.Errors) errors (now (slots .entry)))) ⌝ }
 {
     let mut i = 0;
     while i < count_entries(table, span, own) {

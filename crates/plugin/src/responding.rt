@@ -51,7 +51,8 @@ fn receive_fitting(
     out: &mut [u8],
 ) -> Responded
     requires { ⌜ readFirst (now text) ≡ stanza (s .line) (s .body) (s .taken) ⌝ }
-    ensures outcome { λ r. ⌜ ((xs hs : List (List ℕ)) → respondedSaid r xs hs (now (out .exit)) ≡ respondedAs word (sessionOf session xs hs) (response found) (bodyIn (now (text .entry)) s) (s .taken) (now (out .entry))) ⌝ }
+    ensures outcome { λ r. ⌜ ((xs hs : List (List ℕ)) → respondedSaid r xs hs (now (out .exit)) ≡ respondedAs word (sessionOf session xs hs) (response found)
+        (bodyIn (now (text .entry)) s) (s .taken) (now (out .entry))) ⌝ }
     ensures name { λ r. ⌜ r .session .name ≡ session .name ⌝ }
 {
     if !responses::fits_whole(word, found, s.body) {
@@ -79,7 +80,8 @@ fn receive_stanza(
     out: &mut [u8],
 ) -> Responded
     requires { ⌜ readFirst (now text) ≡ stanza (s .line) (s .body) (s .taken) ⌝ }
-    ensures outcome { λ r. ⌜ ((xs hs : List (List ℕ)) → respondedSaid r xs hs (now (out .exit)) ≡ respondedAs word (sessionOf session xs hs) (responseOf (argumentsIn (now (text .entry)) s)) (bodyIn (now (text .entry)) s) (s .taken) (now (out .entry))) ⌝ }
+    ensures outcome { λ r. ⌜ ((xs hs : List (List ℕ)) → respondedSaid r xs hs (now (out .exit)) ≡ respondedAs word (sessionOf session xs hs)
+        (responseOf (argumentsIn (now (text .entry)) s)) (bodyIn (now (text .entry)) s) (s .taken) (now (out .entry))) ⌝ }
     ensures name { λ r. ⌜ r .session .name ≡ session .name ⌝ }
 {
     let reading = responses::read_line(stanza::arguments_of(text, s));
@@ -91,7 +93,8 @@ fn receive_stanza(
 
 // A text while a command awaits its response.
 fn receive_awaited(session: Session, word: WordTwo, text: &[u8], out: &mut [u8]) -> Responded
-    ensures outcome { λ r. ⌜ ((xs hs : List (List ℕ)) → respondedSaid r xs hs (now (out .exit)) ≡ respondedText (readFirst (now (text .entry))) word (sessionOf session xs hs) (now (text .entry)) (now (out .entry))) ⌝ }
+    ensures outcome { λ r. ⌜ ((xs hs : List (List ℕ)) → respondedSaid r xs hs (now (out .exit)) ≡ respondedText (readFirst (now (text .entry))) word
+        (sessionOf session xs hs) (now (text .entry)) (now (out .entry))) ⌝ }
     ensures name { λ r. ⌜ r .session .name ≡ session .name ⌝ }
 {
     let phase = session.phase;
@@ -108,7 +111,8 @@ fn receive_awaited(session: Session, word: WordTwo, text: &[u8], out: &mut [u8])
 // A response at the front of a text: which it was, its body at the front of `out`, and the session. 13, 14, 1 to 3, 12 or 15 where it is refused: then `out`
 // stays as it was. It needs no slots: whatever they hold, the tables stay.
 pub fn receive_response(session: Session, text: &[u8], out: &mut [u8]) -> Responded
-    ensures outcome { λ r. ⌜ ((xs hs : List (List ℕ)) → respondedSaid r xs hs (now (out .exit)) ≡ responded (sessionOf session xs hs) (now (text .entry)) (now (out .entry))) ⌝ }
+    ensures outcome { λ r. ⌜ ((xs hs : List (List ℕ)) → respondedSaid r xs hs (now (out .exit)) ≡ responded (sessionOf session xs hs) (now (text .entry))
+        (now (out .entry))) ⌝ }
     ensures name { λ r. ⌜ r .session .name ≡ session .name ⌝ }
 {
     let phase = session.phase;

@@ -37,7 +37,11 @@ fn send_in(
     out: &mut [u8],
 ) -> Sent
     requires { ⌜ min (length (lineSent word (now arguments))) 8192 ≤ length (now store) ⌝ }
-    ensures outcome { λ r. ⌜ sentSaid r (now (slots .exit)) (now («header_slots» .entry)) (now (errors .exit)) (now (stanzas .exit)) (now (returned .exit)) (now (out .exit)) ≡ sentLine (sessionOf session (now (slots .entry)) (now («header_slots» .entry))) (buffersOf (now (errors .entry)) (now (stanzas .entry)) (now (returned .entry))) (lineSent word (now (arguments .entry))) (now (body .entry)) (now (out .entry)) ⌝ }
+    ensures outcome { λ r. ⌜ sentSaid r (now (slots .exit)) (now («header_slots» .entry)) (now (errors .exit)) (now (stanzas .exit)) (now (returned .exit))
+        (now (out .exit)) ≡
+        sentLine (sessionOf session (now (slots .entry)) (now («header_slots» .entry)))
+        (buffersOf (now (errors .entry)) (now (stanzas .entry)) (now (returned .entry))) (lineSent word (now (arguments .entry))) (now (body .entry))
+        (now (out .entry)) ⌝ }
     ensures name { λ r. ⌜ r .session .name ≡ session .name ⌝ }
 {
     let put = put_line_two(word, arguments, store);
@@ -93,7 +97,11 @@ fn send_due(
     returned: &mut [u8],
     out: &mut [u8],
 ) -> Sent
-    ensures outcome { λ r. ⌜ sentSaid r (now (slots .exit)) (now («header_slots» .entry)) (now (errors .exit)) (now (stanzas .exit)) (now (returned .exit)) (now (out .exit)) ≡ sentLine (sessionOf session (now (slots .entry)) (now («header_slots» .entry))) (buffersOf (now (errors .entry)) (now (stanzas .entry)) (now (returned .entry))) (lineSent word (now (arguments .entry))) (now (body .entry)) (now (out .entry)) ⌝ }
+    ensures outcome { λ r. ⌜ sentSaid r (now (slots .exit)) (now («header_slots» .entry)) (now (errors .exit)) (now (stanzas .exit)) (now (returned .exit))
+        (now (out .exit)) ≡
+        sentLine (sessionOf session (now (slots .entry)) (now («header_slots» .entry)))
+        (buffersOf (now (errors .entry)) (now (stanzas .entry)) (now (returned .entry))) (lineSent word (now (arguments .entry))) (now (body .entry))
+        (now (out .entry)) ⌝ }
     ensures name { λ r. ⌜ r .session .name ≡ session .name ⌝ }
 {
     if arguments.len() < 112 {
@@ -142,7 +150,10 @@ pub fn send(
     returned: &mut [u8],
     out: &mut [u8],
 ) -> Sent
-    ensures outcome { λ r. ⌜ sentSaid r (now (slots .exit)) (now («header_slots» .entry)) (now (errors .exit)) (now (stanzas .exit)) (now (returned .exit)) (now (out .exit)) ≡ sent (sessionOf session (now (slots .entry)) (now («header_slots» .entry))) word (now (arguments .entry)) (now (body .entry)) (buffersOf (now (errors .entry)) (now (stanzas .entry)) (now (returned .entry))) (now (out .entry)) ⌝ }
+    ensures outcome { λ r. ⌜ sentSaid r (now (slots .exit)) (now («header_slots» .entry)) (now (errors .exit)) (now (stanzas .exit)) (now (returned .exit))
+        (now (out .exit)) ≡
+        sent (sessionOf session (now (slots .entry)) (now («header_slots» .entry))) word (now (arguments .entry)) (now (body .entry))
+        (buffersOf (now (errors .entry)) (now (stanzas .entry)) (now (returned .entry))) (now (out .entry)) ⌝ }
     ensures name { λ r. ⌜ r .session .name ≡ session .name ⌝ }
 {
     let phase = session.phase;

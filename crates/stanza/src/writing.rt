@@ -56,7 +56,8 @@ pub fn write(line: &[u8], body: &[u8], out: &mut [u8]) -> Written
 // The same where the buffer is long enough.
 fn write_into(line: &[u8], body: &[u8], out: &mut [u8])
     requires { ⌜ length (stanzaText (now line) (now body)) ≤ length (now out) ⌝ }
-    ensures { λ _. ⌜ now (out .exit) ≡ stanzaText (now (line .entry)) (now (body .entry)) ++ drop (length (stanzaText (now (line .entry)) (now (body .entry)))) (now (out .entry)) ⌝ }
+    ensures { λ _. ⌜ now (out .exit) ≡
+        stanzaText (now (line .entry)) (now (body .entry)) ++ drop (length (stanzaText (now (line .entry)) (now (body .entry)))) (now (out .entry)) ⌝ }
 {
     write_line(line, out);
     let at = line.len() + AROUND;
@@ -102,7 +103,9 @@ pub fn join(command: &[u8], arguments: &[u8], out: &mut [u8]) -> Written
 // The two with a space between them at the front of `out`, which is long enough.
 fn join_into(command: &[u8], arguments: &[u8], out: &mut [u8])
     requires { ⌜ length (now command) + 1 + length (now arguments) ≤ length (now out) ⌝ }
-    ensures { λ _. ⌜ now (out .exit) ≡ (now (command .entry) ++ 32 ∷ now (arguments .entry)) ++ drop (length (now (command .entry)) + 1 + length (now (arguments .entry))) (now (out .entry)) ⌝ }
+    ensures { λ _. ⌜ now (out .exit) ≡
+        (now (command .entry) ++ 32 ∷ now (arguments .entry)) ++ drop (length (now (command .entry)) + 1 + length (now (arguments .entry))) (now (out .entry))
+        ⌝ }
 {
     let n = command.len();
     copy(command, out);

@@ -37,7 +37,9 @@ pub(crate) fn put_body(coding: Coding, source: &[u8], out: &mut [u8])
 // A line, an LF and a body at the front of `out`, which is long enough.
 pub(crate) fn put_lines(line: &[u8], coding: Coding, source: &[u8], out: &mut [u8])
     requires { ⌜ length (now line) + 1 + length (bodyFrom coding (now source)) ≤ length (now out) ⌝ }
-    ensures { λ _. ⌜ now (out .exit) ≡ (now (line .entry) ++ 10 ∷ bodyFrom coding (now (source .entry))) ++ drop (length (now (line .entry)) + 1 + length (bodyFrom coding (now (source .entry)))) (now (out .entry)) ⌝ }
+    ensures { λ _. ⌜ now (out .exit) ≡
+        (now (line .entry) ++ 10 ∷ bodyFrom coding (now (source .entry))) ++ drop
+        (length (now (line .entry)) + 1 + length (bodyFrom coding (now (source .entry)))) (now (out .entry)) ⌝ }
 {
     let n = line.len();
     stanza::copy(line, out);

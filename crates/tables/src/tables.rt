@@ -87,7 +87,9 @@ impl Table {
         slots: &mut [[usize; 4]],
     ) -> Stored
         ensures number { λ r. ⌜ verdictSaid (r .verdict) ≡ storing (tableIn span self (now (slots .entry))) n capacity (verdictSaid late) ⌝ }
-        ensures table { λ r. ⌜ tableIn span (r .table) (now (slots .exit)) ≡ pick (eqb (storing (tableIn span self (now (slots .entry))) n capacity (verdictSaid late)) 0) (entered (tableIn span self (now (slots .entry))) n index mark capacity) (tableIn span self (now (slots .entry))) ⌝ }
+        ensures table { λ r. ⌜ tableIn span (r .table) (now (slots .exit)) ≡
+            pick (eqb (storing (tableIn span self (now (slots .entry))) n capacity (verdictSaid late)) 0)
+            (entered (tableIn span self (now (slots .entry))) n index mark capacity) (tableIn span self (now (slots .entry))) ⌝ }
         ensures others { λ r. ⌜ ((k : AnySpan) → areApart span k ≡ true → slotsOf k (now (slots .exit)) ≡ slotsOf k (now (slots .entry))) ⌝ }
     {
         let count = self.count;
@@ -134,10 +136,18 @@ impl Table {
         slots: &mut [[usize; 4]],
         buffer: &mut [u8],
     ) -> Stored
-        ensures number { λ r. ⌜ verdictSaid (r .verdict) ≡ storing (tableIn span self (now (slots .entry))) (length (bodyFrom coding (now (source .entry)))) (length (now (buffer .entry))) (verdictSaid late) ⌝ }
-        ensures table { λ r. ⌜ tableIn span (r .table) (now (slots .exit)) ≡ pick (eqb (storing (tableIn span self (now (slots .entry))) (length (bodyFrom coding (now (source .entry)))) (length (now (buffer .entry))) (verdictSaid late)) 0) (entered (tableIn span self (now (slots .entry))) (length (bodyFrom coding (now (source .entry)))) index mark (length (now (buffer .entry)))) (tableIn span self (now (slots .entry))) ⌝ }
+        ensures number { λ r. ⌜ verdictSaid (r .verdict) ≡
+            storing (tableIn span self (now (slots .entry))) (length (bodyFrom coding (now (source .entry)))) (length (now (buffer .entry))) (verdictSaid late)
+            ⌝ }
+        ensures table { λ r. ⌜ tableIn span (r .table) (now (slots .exit)) ≡
+            pick (eqb (storing (tableIn span self (now (slots .entry))) (length (bodyFrom coding (now (source .entry)))) (length (now (buffer .entry)))
+            (verdictSaid late)) 0) (entered (tableIn span self (now (slots .entry))) (length (bodyFrom coding (now (source .entry)))) index mark
+            (length (now (buffer .entry)))) (tableIn span self (now (slots .entry))) ⌝ }
         ensures others { λ r. ⌜ ((k : AnySpan) → areApart span k ≡ true → slotsOf k (now (slots .exit)) ≡ slotsOf k (now (slots .entry))) ⌝ }
-        ensures buffer { λ r. ⌜ now (buffer .exit) ≡ pick (eqb (storing (tableIn span self (now (slots .entry))) (length (bodyFrom coding (now (source .entry)))) (length (now (buffer .entry))) (verdictSaid late)) 0) (kept (tableIn span self (now (slots .entry))) (bodyFrom coding (now (source .entry))) (now (buffer .entry))) (now (buffer .entry)) ⌝ }
+        ensures buffer { λ r. ⌜ now (buffer .exit) ≡
+            pick (eqb (storing (tableIn span self (now (slots .entry))) (length (bodyFrom coding (now (source .entry)))) (length (now (buffer .entry)))
+            (verdictSaid late)) 0) (kept (tableIn span self (now (slots .entry))) (bodyFrom coding (now (source .entry))) (now (buffer .entry)))
+            (now (buffer .entry)) ⌝ }
     {
         let used = self.used;
         let n = body_size(coding, source);
@@ -165,10 +175,20 @@ impl Table {
         slots: &mut [[usize; 4]],
         buffer: &mut [u8],
     ) -> Stored
-        ensures number { λ r. ⌜ verdictSaid (r .verdict) ≡ storing (tableIn span self (now (slots .entry))) (length (now (line .entry) ++ 10 ∷ bodyFrom coding (now (source .entry)))) (length (now (buffer .entry))) (verdictSaid late) ⌝ }
-        ensures table { λ r. ⌜ tableIn span (r .table) (now (slots .exit)) ≡ pick (eqb (storing (tableIn span self (now (slots .entry))) (length (now (line .entry) ++ 10 ∷ bodyFrom coding (now (source .entry)))) (length (now (buffer .entry))) (verdictSaid late)) 0) (entered (tableIn span self (now (slots .entry))) (length (now (line .entry) ++ 10 ∷ bodyFrom coding (now (source .entry)))) index mark (length (now (buffer .entry)))) (tableIn span self (now (slots .entry))) ⌝ }
+        ensures number { λ r. ⌜ verdictSaid (r .verdict) ≡
+            storing (tableIn span self (now (slots .entry))) (length (now (line .entry) ++ 10 ∷ bodyFrom coding (now (source .entry))))
+            (length (now (buffer .entry))) (verdictSaid late) ⌝ }
+        ensures table { λ r. ⌜ tableIn span (r .table) (now (slots .exit)) ≡
+            pick (eqb (storing (tableIn span self (now (slots .entry))) (length (now (line .entry) ++ 10 ∷ bodyFrom coding (now (source .entry))))
+            (length (now (buffer .entry))) (verdictSaid late)) 0)
+            (entered (tableIn span self (now (slots .entry))) (length (now (line .entry) ++ 10 ∷ bodyFrom coding (now (source .entry)))) index mark
+            (length (now (buffer .entry)))) (tableIn span self (now (slots .entry))) ⌝ }
         ensures others { λ r. ⌜ ((k : AnySpan) → areApart span k ≡ true → slotsOf k (now (slots .exit)) ≡ slotsOf k (now (slots .entry))) ⌝ }
-        ensures buffer { λ r. ⌜ now (buffer .exit) ≡ pick (eqb (storing (tableIn span self (now (slots .entry))) (length (now (line .entry) ++ 10 ∷ bodyFrom coding (now (source .entry)))) (length (now (buffer .entry))) (verdictSaid late)) 0) (kept (tableIn span self (now (slots .entry))) (now (line .entry) ++ 10 ∷ bodyFrom coding (now (source .entry))) (now (buffer .entry))) (now (buffer .entry)) ⌝ }
+        ensures buffer { λ r. ⌜ now (buffer .exit) ≡
+            pick (eqb (storing (tableIn span self (now (slots .entry))) (length (now (line .entry) ++ 10 ∷ bodyFrom coding (now (source .entry))))
+            (length (now (buffer .entry))) (verdictSaid late)) 0)
+            (kept (tableIn span self (now (slots .entry))) (now (line .entry) ++ 10 ∷ bodyFrom coding (now (source .entry))) (now (buffer .entry)))
+            (now (buffer .entry)) ⌝ }
     {
         let used = self.used;
         let n = line.len() + 1 + body_size(coding, source);
