@@ -12,6 +12,7 @@ use crate::entries::count_file;
 use crate::entries::has_file;
 use bech32::TextKind;
 use session::Kind;
+use session::Mark;
 use session::Phase;
 use session::Tables;
 use session::WordTwo;
@@ -135,16 +136,16 @@ fn named_by(headers: Table, e: Entry, header_slots: &[[usize; 4]]) -> ErrorNamed
 {
     let mark = e.mark;
     let index = e.index;
-    if mark == 0 {
+    if mark == Mark::INTERNAL {
         return ErrorNamed::Internal;
     }
-    if mark == 1 {
+    if mark == Mark::IDENTITY {
         return ErrorNamed::Identity(index);
     }
-    if mark == 2 {
+    if mark == Mark::RECIPIENT {
         return ErrorNamed::Recipient(index);
     }
-    if mark == 3 {
+    if mark == Mark::STANZA {
         return header_named(headers, index, header_slots);
     }
     ErrorNamed::Nothing

@@ -26,6 +26,7 @@ use refusal::Refusal;
 use refusal::Verdict;
 use session::Kind;
 use session::Machine;
+use session::Mark;
 use session::Session;
 use session::Tables;
 use session::span_of;
@@ -62,9 +63,9 @@ fn header_mark(plugin: &[u8], rest: &[u8], body: usize) -> usize
 {
     let found = profile::check(plugin, rest, body);
     match found {
-        Conformity::Conforming => 0,
-        Conformity::Nonconforming => 1,
-        Conformity::Unknown => 2,
+        Conformity::Conforming => Mark::CONFORMING,
+        Conformity::Nonconforming => Mark::NONCONFORMING,
+        Conformity::Unknown => Mark::UNKNOWN,
     }
 }
 
@@ -345,7 +346,7 @@ pub fn step_one(
         CommandOne::Key => {
             let t = tables.keys;
             let span = span_of(Kind::Keys);
-            let stored = t.store(span, late, coding, source, 0, 0, slots, keys);
+            let stored = t.store(span, late, coding, source, 0, Mark::NONE, slots, keys);
             stepped_keys(command, tables, stored)
         }
         CommandOne::Header(index) => {

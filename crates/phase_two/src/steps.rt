@@ -23,6 +23,7 @@ use phase_two_commands::CommandTwo;
 use phase_two_commands::Named;
 use refusal::Verdict;
 use session::Kind;
+use session::Mark;
 use session::Tables;
 use session::span_of;
 use tables::Coding;
@@ -34,10 +35,10 @@ fn mark_of(named: Named) -> usize
     ensures { λ r. ⌜ r ≡ markOf (namedSaid named) ⌝ }
 {
     match named {
-        Named::Internal => 0,
-        Named::Identity(_) => 1,
-        Named::Recipient(_) => 2,
-        Named::Header(_, _) => 3,
+        Named::Internal => Mark::INTERNAL,
+        Named::Identity(_) => Mark::IDENTITY,
+        Named::Recipient(_) => Mark::RECIPIENT,
+        Named::Header(_, _) => Mark::STANZA,
     }
 }
 
@@ -89,7 +90,7 @@ fn keep_stanza(
         coding,
         source,
         wide(file),
-        0,
+        Mark::NONE,
         slots,
         stanzas,
     )
@@ -123,7 +124,7 @@ fn keep_key(
         coding,
         source,
         wide(file),
-        0,
+        Mark::NONE,
         slots,
         returned,
     )

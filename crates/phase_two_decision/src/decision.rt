@@ -24,6 +24,7 @@ use phase_two_commands::Named;
 use refusal::Refusal;
 use refusal::Verdict;
 use session::Kind;
+use session::Mark;
 use session::Tables;
 use session::span_of;
 
@@ -200,7 +201,7 @@ fn is_key_held_back(
     has_labelled(
         tables.headers,
         span_of(Kind::Headers),
-        1,
+        Mark::NONCONFORMING,
         file,
         header_slots,
     )

@@ -7,6 +7,7 @@ ghost use Rattle.session.specs.Tables.{spanOf, tablesIn};
 ghost use Rattle.conversation.specs.PhaseTwo.{labelOf, labels, isAny, passes, isFile, isNaming, isAbout, isInvalid, isNonconforming, isUnknown, areReported, allReported};
 use look_up::count_entries;
 use session::Kind;
+use session::Mark;
 use session::Tables;
 use session::span_of;
 use tables::Entry;
@@ -35,14 +36,14 @@ pub fn is_unknown_at(headers: Table, i: usize, header_slots: &[[usize; 4]]) -> b
         return false;
     }
     let e = entry_at(span, i, header_slots);
-    e.mark == 2
+    e.mark == Mark::UNKNOWN
 }
 
 // Whether an entry is an error for a header stanza of a file.
 fn is_about(headers: Table, file: usize, e: Entry, header_slots: &[[usize; 4]]) -> bool
     ensures { λ r. ⌜ r ≡ isAbout (labels (tableIn (spanOf Kind.Headers) headers (now («header_slots» .entry)))) file (labelOf e) ⌝ }
 {
-    if e.mark != 3 {
+    if e.mark != Mark::STANZA {
         return false;
     }
     belongs_to(headers, file, e.index, header_slots)
@@ -79,7 +80,7 @@ pub fn any_invalid(table: Table, span: Span, slots: &[[usize; 4]]) -> bool
     let mut i = 0;
     while i < count_entries(table, span, slots) {
         let e = entry_at(span, i, slots);
-        if e.mark != 0 {
+        if e.mark != Mark::VALID {
             return true;
         }
         i += 1;
@@ -123,9 +124,9 @@ fn is_owing(header: bool, e: Entry) -> bool
     ensures { λ r. ⌜ r ≡ pick header isNonconforming isInvalid (labelOf e) ⌝ }
 {
     if header {
-        return e.mark == 1;
+        return e.mark == Mark::NONCONFORMING;
     }
-    e.mark != 0
+    e.mark != Mark::VALID
 }
 
 // Whether an entry owes no error, or has had it.
@@ -175,7 +176,7 @@ pub fn all_reported(tables: Tables, slots: &[[usize; 4]], header_slots: &[[usize
         recipients,
         slots,
         errors,
-        2,
+        Mark::RECIPIENT,
         slots,
     ) {
         return false;
@@ -187,7 +188,7 @@ pub fn all_reported(tables: Tables, slots: &[[usize; 4]], header_slots: &[[usize
         identities,
         slots,
         errors,
-        1,
+        Mark::IDENTITY,
         slots,
     ) {
         return false;
@@ -199,7 +200,7 @@ pub fn all_reported(tables: Tables, slots: &[[usize; 4]], header_slots: &[[usize
         headers,
         header_slots,
         errors,
-        3,
+        Mark::STANZA,
         slots,
     )
 }

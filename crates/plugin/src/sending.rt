@@ -17,6 +17,11 @@ use session::WordTwo;
 use session::front;
 use tables::Coding;
 
+// A short store for a line, and the arguments that have room there behind a command word and its space.
+const SHORT: usize = 128;
+
+const SHORT_ARGUMENTS: usize = 112;
+
 pub struct Sent {
     pub answer: Written,
     pub session: Session,
@@ -104,8 +109,8 @@ fn send_due(
         (now (out .entry)) ⌝ }
     ensures name { λ r. ⌜ r .session .name ≡ session .name ⌝ }
 {
-    if arguments.len() < 112 {
-        let mut store = [0u8; 128];
+    if arguments.len() < SHORT_ARGUMENTS {
+        let mut store = [0u8; SHORT];
         return send_in(
             session,
             word,
