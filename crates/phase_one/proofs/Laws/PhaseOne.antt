@@ -10,17 +10,14 @@ use borrow.Author.Tests.{lt-ltb, le-ltb, le-leb, lt-leb, eq-eqb}
 use Rattle.stanza.specs.Arguments.{argumentOf}
 use Rattle.tables.specs.Tables.{Table, empty, storing, entered, kept}
 use Rattle.refusal.specs.Pick.{pick}
+use Rattle.refusal.proofs.Laws.Pick.{pick-in}
 use Rattle.phase_one.specs.Commands.{CommandOne, recipient, identity, key, header, done, other, bad, restOf, payloadOf}
 use Rattle.session.specs.declared.opening.Machine.{Machine}
 use Rattle.session.specs.Tables.{Tables}
 use Rattle.phase_one.specs.PhaseOne.{BuffersOne, buffersOf, falls, decided, applied, filledBy, commandIn, payloadIn, numberOne, tablesOne, buffersOne}
 use Rattle.refusal.specs.Verdict.{firstOf}
 
--- a choice within, and a choice between the same
-pick-in : {X Y : Type 0} (b : Bool) (f : X → Y) (x y : X) → f (pick b x y) ≡ pick b (f x) (f y)
-pick-in true f x y = refl
-pick-in false f x y = refl
-
+-- a choice between the same
 same-either : {X : Type 0} (b : Bool) (x : X) → x ≡ pick b x x
 same-either true x = refl
 same-either false x = refl

@@ -6,17 +6,13 @@ use mathlib.Core.List.{List}
 use lib.Dec.{eqb}
 use lib.ListN.{length}
 use Rattle.refusal.specs.Pick.{pick}
+use Rattle.refusal.proofs.Laws.Pick.{pick-in}
 use Rattle.refusal.specs.Verdict.{firstOf}
 use Rattle.tables.specs.Tables.{Table, fits, storing, entered, kept}
 use Rattle.session.specs.Tables.{Tables}
 use Rattle.conversation.specs.CommandsTwo.{Named, CommandTwo, stanza, key, error}
 use Rattle.conversation.specs.PhaseTwo.{BuffersTwo, buffersOf, when, applied, filledBy, markOf, indexOf}
 use Rattle.phase_two.specs.Steps.{numberStepped}
-
--- a choice within
-pick-in : {X Y : Type 0} (b : Bool) (f : X → Y) (x y : X) → f (pick b x y) ≡ pick b (f x) (f y)
-pick-in true f x y = refl
-pick-in false f x y = refl
 
 space-as : (f : Bool) (late : ℕ) → firstOf (pick f 0 8) late ≡ firstOf (firstOf 0 (when (not f) 8)) late
 space-as true late = refl
