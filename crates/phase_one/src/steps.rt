@@ -177,8 +177,7 @@ fn stepped_recipients(command: CommandOne, tables: Tables, stored: Stored) -> St
             keys = tables .keys;
             headers = tables .headers;
             errors = tables .errors;
-            stanzas = tables
-                .stanzas;
+            stanzas = tables .stanzas;
             returned = tables .returned;
           };
         } ⌝ }
@@ -205,8 +204,7 @@ fn stepped_identities(command: CommandOne, tables: Tables, stored: Stored) -> St
             keys = tables .keys;
             headers = tables .headers;
             errors = tables .errors;
-            stanzas = tables
-                .stanzas;
+            stanzas = tables .stanzas;
             returned = tables .returned;
           };
         } ⌝ }
@@ -233,8 +231,7 @@ fn stepped_keys(command: CommandOne, tables: Tables, stored: Stored) -> StepOne
             keys = stored .table;
             headers = tables .headers;
             errors = tables .errors;
-            stanzas =
-                tables .stanzas;
+            stanzas = tables .stanzas;
             returned = tables .returned;
           };
         } ⌝ }
@@ -261,8 +258,7 @@ fn stepped_headers(command: CommandOne, tables: Tables, stored: Stored) -> StepO
             keys = tables .keys;
             headers = stored .table;
             errors = tables .errors;
-            stanzas =
-                tables .stanzas;
+            stanzas = tables .stanzas;
             returned = tables .returned;
           };
         } ⌝ }

@@ -173,8 +173,7 @@ fn stepped_errors(tables: Tables, stored: Stored) -> StepTwo
             recipients = tables .recipients;
             identities = tables .identities;
             keys = tables .keys;
-            headers =
-                tables .headers;
+            headers = tables .headers;
             errors = stored .table;
             stanzas = tables .stanzas;
             returned = tables .returned;
@@ -199,8 +198,7 @@ fn stepped_stanzas(tables: Tables, stored: Stored) -> StepTwo
             recipients = tables .recipients;
             identities = tables .identities;
             keys = tables .keys;
-            headers =
-                tables .headers;
+            headers = tables .headers;
             errors = tables .errors;
             stanzas = stored .table;
             returned = tables .returned;
@@ -225,8 +223,7 @@ fn stepped_returned(tables: Tables, stored: Stored) -> StepTwo
             recipients = tables .recipients;
             identities = tables .identities;
             keys = tables .keys;
-            headers =
-                tables .headers;
+            headers = tables .headers;
             errors = tables .errors;
             stanzas = tables .stanzas;
             returned = stored .table;
