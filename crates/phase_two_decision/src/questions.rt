@@ -16,7 +16,7 @@ use tables::Table;
 use tables::entry_at;
 
 // Whether the header stanza of a number is of a file.
-pub fn belongs_to(headers: Table, file: usize, i: usize, header_slots: &[[usize; 4]]) -> bool
+pub(crate) fn belongs_to(headers: Table, file: usize, i: usize, header_slots: &[[usize; 4]]) -> bool
     ensures { λ r. ⌜ r ≡ passes (isFile file) (labels (tableIn (spanOf Kind.Headers) headers (now («header_slots» .entry)))) i ⌝ }
 {
     let span = span_of(Kind::Headers);
@@ -28,7 +28,7 @@ pub fn belongs_to(headers: Table, file: usize, i: usize, header_slots: &[[usize;
 }
 
 // Whether the header stanza of a number is unknown.
-pub fn is_unknown_at(headers: Table, i: usize, header_slots: &[[usize; 4]]) -> bool
+pub(crate) fn is_unknown_at(headers: Table, i: usize, header_slots: &[[usize; 4]]) -> bool
     ensures { λ r. ⌜ r ≡ passes isUnknown (labels (tableIn (spanOf Kind.Headers) headers (now («header_slots» .entry)))) i ⌝ }
 {
     let span = span_of(Kind::Headers);
@@ -50,7 +50,7 @@ fn is_about(headers: Table, file: usize, e: Entry, header_slots: &[[usize; 4]]) 
 }
 
 // Whether there is an error for a header stanza of a file.
-pub fn has_error_for(
+pub(crate) fn has_error_for(
     headers: Table,
     errors: Table,
     file: usize,
@@ -74,7 +74,7 @@ pub fn has_error_for(
 }
 
 // Whether a recipient or an identity is invalid.
-pub fn any_invalid(table: Table, span: Span, slots: &[[usize; 4]]) -> bool
+pub(crate) fn any_invalid(table: Table, span: Span, slots: &[[usize; 4]]) -> bool
     ensures { λ r. ⌜ r ≡ isAny isInvalid (labels (tableIn span table (now (slots .entry)))) ⌝ }
 {
     let mut i = 0;
@@ -99,7 +99,7 @@ fn is_labelled(mark: usize, index: usize, e: Entry) -> bool
 }
 
 // Whether an entry of a table has a mark and an index: an error that names a number, a nonconforming header stanza of a file.
-pub fn has_labelled(
+pub(crate) fn has_labelled(
     table: Table,
     span: Span,
     mark: usize,
@@ -165,7 +165,11 @@ fn are_reported(
 }
 
 // Whether all that is invalid or nonconforming has had its error.
-pub fn all_reported(tables: Tables, slots: &[[usize; 4]], header_slots: &[[usize; 4]]) -> bool
+pub(crate) fn all_reported(
+    tables: Tables,
+    slots: &[[usize; 4]],
+    header_slots: &[[usize; 4]],
+) -> bool
     ensures { λ r. ⌜ r ≡ allReported (tablesIn tables (now (slots .entry)) (now («header_slots» .entry))) ⌝ }
 {
     let errors = tables.errors;
