@@ -4,12 +4,9 @@ use mathlib.Core.Bool.{Bool, true, false, _&&_}
 use mathlib.Core.List.{List, [], _∷_}
 use lib.Dec.{eqb}
 use lib.ListN.{length, getD}
-use Rattle.refusal.specs.Output.{Answer, said, answered, filled}
 use Rattle.refusal.specs.Pick.{pick}
 use Rattle.base64.specs.Alphabet.{isCharacter, valueOf, characterOf}
 use Rattle.refusal.specs.Run.{all}
-use Rattle.base64.specs.declared.decoding.Decoded.{Decoded}
-use Rattle.base64.specs.declared.decoding.Decoded.the-variants as decoded-is
 use Rattle.base64.specs.declared.decoding.Size.{Size}
 use Rattle.base64.specs.declared.decoding.Size.the-variants as size-is
 
@@ -49,22 +46,11 @@ pub data Judged (X : Type 0) : Type 0 where
   base64 : X → Judged X
   notBase64 : Judged X
 
--- what the code's answers stand for
+-- what the code's answer stands for
 abbrev pub sizeSaid : Size → Judged ℕ
 sizeSaid (size-is.Bytes n) = base64 n
 sizeSaid size-is.NotBase64 = notBase64
 
-abbrev pub decodedSaid : Decoded → Judged Answer
-decodedSaid (decoded-is.Base64 w) = base64 (said w)
-decodedSaid decoded-is.NotBase64 = notBase64
-
 -- measuring: how many bytes the text decodes to
 abbrev pub measured : List ℕ → Judged ℕ
 measured t = pick (isBase64 t) (base64 (length (decoded t))) notBase64
-
--- decoding into a buffer: the answer, and the buffer afterwards
-abbrev pub decodedInto : List ℕ → List ℕ → Judged Answer
-decodedInto t buffer = pick (isBase64 t) (base64 (answered (decoded t) buffer)) notBase64
-
-abbrev pub bufferAfter : List ℕ → List ℕ → List ℕ
-bufferAfter t buffer = pick (isBase64 t) (filled (decoded t) buffer) buffer

@@ -283,14 +283,14 @@ pub(crate) fn alphabet_characters() -> [u8; 64]
     CHARACTERS
 }
 
-pub fn is_character(b: u8) -> bool
+pub(crate) fn is_character(b: u8) -> bool
     ensures { λ r. ⌜ r ≡ isCharacter b ⌝ }
 {
-    ((65 <= b) & (b <= 90))
-        | ((97 <= b) & (b <= 122))
-        | ((48 <= b) & (b <= 57))
-        | (b == 43)
-        | (b == 47)
+    ((b'A' <= b) & (b <= b'Z'))
+        | ((b'a' <= b) & (b <= b'z'))
+        | ((b'0' <= b) & (b <= b'9'))
+        | (b == b'+')
+        | (b == b'/')
 }
 
 // Whether the 8 bytes from `at` on are all characters. No early exit, so that the loop is vectorised.
@@ -349,23 +349,28 @@ pub fn ends_well(n: usize, last: u8) -> bool
     false
 }
 
+// How far a letter in lower case stands over its value, from 26 on, and a digit under its own, from 52 on.
+const LETTER_OVER: u8 = b'a' - 26;
+
+const DIGIT_UNDER: u8 = 52 - b'0';
+
 // The value of one byte, with no table.
 pub(crate) fn value(b: u8) -> u8
     ensures { λ r. ⌜ r ≡ valueOf b ⌝ }
 {
-    if (65 <= b) & (b <= 90) {
-        return b - 65;
+    if (b'A' <= b) & (b <= b'Z') {
+        return b - b'A';
     }
-    if (97 <= b) & (b <= 122) {
-        return b - 71;
+    if (b'a' <= b) & (b <= b'z') {
+        return b - LETTER_OVER;
     }
-    if (48 <= b) & (b <= 57) {
-        return b + 4;
+    if (b'0' <= b) & (b <= b'9') {
+        return b + DIGIT_UNDER;
     }
-    if b == 43 {
+    if b == b'+' {
         return 62;
     }
-    if b == 47 {
+    if b == b'/' {
         return 63;
     }
     0

@@ -1,26 +1,17 @@
-// Decoding: the check first, then the bytes, so that nothing is written where the text is refused.
+// Decoding: whether a text is base64 and how many bytes it makes, and the bytes of a text.
 ghost use mathlib.Core.Path.{_≡_};
 ghost use Prim.Native.Nat.{_≤_, _<_};
 ghost use lib.ListN.{length, drop};
 ghost use mathlib.Core.List.{_++_};
 ghost use Rattle.base64.specs.Alphabet.{valueOf};
-ghost use Rattle.base64.specs.Code.{decoded, measured, sizeSaid, decodedInto, decodedSaid, bufferAfter};
+ghost use Rattle.base64.specs.Code.{decoded, measured, sizeSaid};
 ghost use Rattle.base64.specs.Tables.{Values, decodedSize};
 use crate::alphabet::characters;
 use crate::alphabet::ends_well;
-use crate::alphabet::values;
-use refusal::Refusal;
-use refusal::Written;
 
 // How many bytes a text decodes to, if it is base64.
 pub enum Size {
     Bytes(usize),
-    NotBase64,
-}
-
-// What decoding a text into a buffer came to: how many bytes were written or 15, or that the text is no base64.
-pub enum Decoded {
-    Base64(Written),
     NotBase64,
 }
 
@@ -39,25 +30,6 @@ pub fn measure(text: &[u8]) -> Size
         return Size::Bytes(n / 4 * 3 + n % 4 * 3 / 4);
     }
     Size::NotBase64
-}
-
-// The bytes of a text at the front of `out`: how many, or 15, or that it is no base64; nothing is written then.
-pub fn decode(text: &[u8], out: &mut [u8]) -> Decoded
-    ensures answer { λ r. ⌜ decodedSaid r ≡ decodedInto (now (text .entry)) (now (out .entry)) ⌝ }
-    ensures buffer { λ r. ⌜ now (out .exit) ≡ bufferAfter (now (text .entry)) (now (out .entry)) ⌝ }
-{
-    let m = measure(text);
-    match m {
-        Size::NotBase64 => Decoded::NotBase64,
-        Size::Bytes(n) => {
-            if out.len() < n {
-                return Decoded::Base64(Written::Refused(Refusal::ShortOutput));
-            }
-            let table = values();
-            decode_into(&table, text, out);
-            Decoded::Base64(Written::Bytes(n))
-        }
-    }
 }
 
 fn wide(b: u8) -> usize

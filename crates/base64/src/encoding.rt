@@ -6,10 +6,6 @@ ghost use mathlib.Core.List.{_++_};
 ghost use Rattle.base64.specs.Alphabet.{characterOf};
 ghost use Rattle.base64.specs.Code.{encoded};
 ghost use Rattle.base64.specs.Tables.{Characters, encodedSize};
-ghost use Rattle.refusal.specs.Output.{said, answered, filled};
-use crate::alphabet::alphabet_characters;
-use refusal::Refusal;
-use refusal::Written;
 
 // How many characters some bytes make.
 pub(crate) fn encoded_length(bytes: &[u8]) -> usize
@@ -17,20 +13,6 @@ pub(crate) fn encoded_length(bytes: &[u8]) -> usize
 {
     let n = bytes.len();
     n / 3 * 4 + (n % 3 * 4 + 2) / 3
-}
-
-// The characters of some bytes at the front of `out`: how many, or 15 and nothing written.
-pub fn encode(bytes: &[u8], out: &mut [u8]) -> Written
-    ensures answer { λ r. ⌜ said r ≡ answered (encoded (now (bytes .entry))) (now (out .entry)) ⌝ }
-    ensures buffer { λ r. ⌜ now (out .exit) ≡ filled (encoded (now (bytes .entry))) (now (out .entry)) ⌝ }
-{
-    let n = encoded_length(bytes);
-    if out.len() < n {
-        return Written::Refused(Refusal::ShortOutput);
-    }
-    let table = alphabet_characters();
-    encode_into(&table, bytes, out);
-    Written::Bytes(n)
 }
 
 fn wide(b: u8) -> usize

@@ -8,12 +8,10 @@ mod lines;
 
 pub use alphabet::characters;
 pub use alphabet::ends_well;
-pub use alphabet::is_character;
-pub use decoding::Decoded;
 pub use decoding::Size;
-pub use decoding::decode;
 pub use decoding::measure;
-pub use encoding::encode;
+pub use lines::LINE_CHARACTERS;
+pub use lines::LINE_LENGTH;
 pub use lines::body_length;
 pub use lines::decode_lines;
 pub use lines::encode_lines;

@@ -17,6 +17,13 @@ use crate::encoding::encoded_length;
 use refusal::Refusal;
 use refusal::Written;
 
+// A full line: its characters, its bytes with the LF, and how many bytes of the body it has.
+pub const LINE_CHARACTERS: usize = 64;
+
+pub const LINE_LENGTH: usize = LINE_CHARACTERS + 1;
+
+const LINE_BYTES: usize = 48;
+
 // Whether the 64 bytes from `at` on are all characters. No early exit, so that the loop is vectorised.
 fn sixty_four(text: &[u8], at: usize) -> bool
     requires { ⌜ at + 64 ≤ length (now text) ⌝ }
@@ -24,7 +31,7 @@ fn sixty_four(text: &[u8], at: usize) -> bool
 {
     let mut good = true;
     let mut j: usize = 0;
-    while j < 64 {
+    while j < LINE_CHARACTERS {
         good = good & is_character(text[at + j]);
         j += 1;
     }
@@ -39,14 +46,14 @@ pub fn full_line(text: &[u8], at: usize) -> bool
     if n < at {
         return false;
     }
-    if n - at < 65 {
+    if n - at < LINE_LENGTH {
         return false;
     }
     if !sixty_four(text, at) {
         return false;
     }
-    let b = text[at + 64];
-    b == 10
+    let b = text[at + LINE_CHARACTERS];
+    b == b'\n'
 }
 
 // How many bytes the body of n bytes of lines has.
@@ -57,7 +64,7 @@ pub fn body_length(n: usize) -> usize
         return 0;
     }
     let m = n - 1;
-    let c = m - m / 65;
+    let c = m - m / LINE_LENGTH;
     c / 4 * 3 + c % 4 * 3 / 4
 }
 
@@ -85,18 +92,18 @@ fn body_into(table: &[u8; 256], lines: &[u8], out: &mut [u8])
     if n == 0 {
         return;
     }
-    let full = (n - 1) / 65;
+    let full = (n - 1) / LINE_LENGTH;
     let mut i: usize = 0;
     while i < full {
-        let a = 65 * i;
-        let e = a + 64;
-        let b = 48 * i;
+        let a = LINE_LENGTH * i;
+        let e = a + LINE_CHARACTERS;
+        let b = LINE_BYTES * i;
         decode_into(table, &lines[a..e], &mut out[b..]);
         i += 1;
     }
-    let a = 65 * full;
+    let a = LINE_LENGTH * full;
     let e = n - 1;
-    let b = 48 * full;
+    let b = LINE_BYTES * full;
     decode_into(table, &lines[a..e], &mut out[b..]);
 }
 
@@ -105,7 +112,7 @@ pub fn lines_length(body: &[u8]) -> usize
     ensures { λ r. ⌜ r ≡ length (linesOf (now (body .entry))) ⌝ }
 {
     let c = encoded_length(body);
-    c + c / 64 + 1
+    c + c / LINE_CHARACTERS + 1
 }
 
 // The lines of a body at the front of `out`: how many bytes, or 15 and nothing written.
@@ -128,19 +135,19 @@ fn lines_into(table: &[u8; 64], body: &[u8], out: &mut [u8])
     requires { ⌜ encodedSize (length (now body)) + encodedSize (length (now body)) / 64 + 1 ≤ length (now out) ⌝ }
     ensures { λ _. ⌜ now (out .exit) ≡ linesOf (now (body .entry)) ++ drop (length (linesOf (now (body .entry)))) (now (out .entry)) ⌝ }
 {
-    let full = body.len() / 48;
+    let full = body.len() / LINE_BYTES;
     let mut i: usize = 0;
     while i < full {
-        let a = 48 * i;
-        let e = a + 48;
-        let b = 65 * i;
+        let a = LINE_BYTES * i;
+        let e = a + LINE_BYTES;
+        let b = LINE_LENGTH * i;
         encode_into(table, &body[a..e], &mut out[b..]);
-        let end = b + 64;
-        out[end] = 10;
+        let end = b + LINE_CHARACTERS;
+        out[end] = b'\n';
         i += 1;
     }
-    let a = 48 * full;
-    let b = 65 * full;
+    let a = LINE_BYTES * full;
+    let b = LINE_LENGTH * full;
     last_line(table, &body[a..], &mut out[b..]);
 }
 
@@ -153,5 +160,5 @@ fn last_line(table: &[u8; 64], body: &[u8], out: &mut [u8])
 {
     let n = encoded_length(body);
     encode_into(table, body, out);
-    out[n] = 10;
+    out[n] = b'\n';
 }

@@ -2,3 +2,4 @@ pub mod Text
 pub mod Parsing
 pub mod Writing
 pub mod Human
+pub mod Calls

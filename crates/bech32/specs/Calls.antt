@@ -32,6 +32,11 @@ abbrev pub readBuffer : Parsed → List ℕ → List ℕ
 readBuffer none buffer = buffer
 readBuffer (parsed name payload) buffer = filled payload buffer
 
+-- what is to be written to the buffer
+abbrev pub payloadOf : Parsed → List ℕ
+payloadOf none = []
+payloadOf (parsed name payload) = payload
+
 -- the name handed back, empty where the call is refused
 abbrev pub readName : Parsed → List ℕ → List ℕ
 readName none buffer = []

@@ -1,9 +1,11 @@
 -- Recipients and identities as texts (document 01, "Recipients and identities").
-use Prim.Native.Nat.{ℕ, suc, _+_, _-_}
+use Prim.Native.Nat.{ℕ, suc, _+_, _-_, _≤_}
+use mathlib.Core.Path.{_≡_}
 use mathlib.Core.Bool.{Bool, true, false, _&&_, _||_, not}
 use mathlib.Core.List.{List, [], _∷_, _++_, map}
 use lib.Dec.{leb, ltb, eqb}
 use lib.ListN.{length, take, drop}
+use lib.Pow.{areBytes}
 use Rattle.refusal.specs.Pick.{pick}
 use Rattle.refusal.specs.Run.{all}
 use Rattle.refusal.specs.Same.{same}
@@ -111,3 +113,10 @@ isText k t =
 -- reading a text
 abbrev pub parse : Form → List ℕ → Parsed
 parse k t = pick (isText k t) (parsed (nameIn k (humanIn (map lower t))) (bytes (payloadIn (map lower t)))) none
+
+-- what a text that was read is: at most 1,024 characters, the text of its name and its payload
+pub record Read (k : Form) (t name payload : List ℕ) : Type 0 where
+  pub isNamed : isName name ≡ true
+  pub areRead : areBytes payload ≡ true
+  pub limit : length t ≤ 1024
+  pub text : textOf k name payload ≡ t

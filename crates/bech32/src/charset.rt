@@ -5,12 +5,10 @@ ghost use Rattle.symbols.specs.Charset.{characterOf};
 ghost use Rattle.bech32.specs.Calls.{formOf};
 ghost use Rattle.bech32.specs.Steps.{Characters, casedByte};
 use crate::TextKind;
+use symbols::ALPHABET;
+use symbols::CAPITALS;
+use symbols::CASE;
 use symbols::is_lower;
-
-// The character of each value, in lower and in upper case.
-const ALPHABET: [u8; 32] = *b"qpzry9x8gf2tvdw0s3jn54khce6mua7l";
-
-const CAPITALS: [u8; 32] = *b"QPZRY9X8GF2TVDW0S3JN54KHCE6MUA7L";
 
 // The table by value: a caller copies it once and lends it to each look-up.
 pub(crate) fn characters(kind: TextKind) -> [u8; 32]
@@ -45,7 +43,7 @@ pub(crate) fn cased(kind: TextKind, b: u8) -> u8
         TextKind::Recipient => b,
         TextKind::Identity => {
             if is_lower(b) {
-                return b - 32;
+                return b - CASE;
             }
             b
         }

@@ -13,9 +13,12 @@ use crate::TextKind;
 use crate::charset::cased;
 use symbols::lowered;
 
+// The longest name.
+pub const LONGEST_NAME: usize = 32;
+
 // A plugin's name by value: bytes[..length], zeros behind it. It is empty where there is none.
 pub struct Name {
-    pub bytes: [u8; 32],
+    pub bytes: [u8; LONGEST_NAME],
     pub length: usize,
 }
 
@@ -25,7 +28,7 @@ pub(crate) fn nameless() -> Name
     ensures length { λ r. ⌜ r .length ≡ 0 ⌝ }
 {
     Name {
-        bytes: [0; 32],
+        bytes: [0; LONGEST_NAME],
         length: 0,
     }
 }
@@ -33,12 +36,12 @@ pub(crate) fn nameless() -> Name
 fn is_name_byte(b: u8) -> bool
     ensures { λ r. ⌜ r ≡ isNameByte b ⌝ }
 {
-    ((97 <= b) & (b <= 122))
-        | ((48 <= b) & (b <= 57))
-        | (b == 43)
-        | (b == 45)
-        | (b == 46)
-        | (b == 95)
+    ((b'a' <= b) & (b <= b'z'))
+        | ((b'0' <= b) & (b <= b'9'))
+        | (b == b'+')
+        | (b == b'-')
+        | (b == b'.')
+        | (b == b'_')
 }
 
 fn are_name_bytes(text: &[u8]) -> bool
@@ -61,7 +64,7 @@ pub(crate) fn is_name(text: &[u8]) -> bool
     if text.len() == 0 {
         return false;
     }
-    if 32 < text.len() {
+    if LONGEST_NAME < text.len() {
         return false;
     }
     are_name_bytes(text)
@@ -91,10 +94,10 @@ fn lower_name(text: &[u8]) -> Name
     ensures length { λ r. ⌜ r .length ≡ length (shortened (map lower (now (text .entry)))) ⌝ }
 {
     let n = text.len();
-    if 32 < n {
+    if LONGEST_NAME < n {
         return nameless();
     }
-    let mut bytes: [u8; 32] = [0; 32];
+    let mut bytes: [u8; LONGEST_NAME] = [0; LONGEST_NAME];
     let mut i: usize = 0;
     while i < n {
         bytes[i] = lowered(text[i]);
@@ -158,14 +161,19 @@ pub(crate) fn name_in(kind: TextKind, human: &[u8]) -> Name
     }
 }
 
+// What a human part has besides the name: "age1", or "age-plugin-" and "-".
+const RECIPIENT_REST: usize = 4;
+
+const IDENTITY_REST: usize = 12;
+
 // How long the human part of a name of n bytes is.
 pub(crate) fn human_length(kind: TextKind, n: usize) -> usize
     requires { ⌜ n ≤ 32 ⌝ }
     ensures { λ r. ⌜ r ≡ n + length (humanPart (formOf kind) []) ⌝ }
 {
     match kind {
-        TextKind::Recipient => n + 4,
-        TextKind::Identity => n + 12,
+        TextKind::Recipient => n + RECIPIENT_REST,
+        TextKind::Identity => n + IDENTITY_REST,
     }
 }
 
@@ -184,7 +192,9 @@ fn put_word(kind: TextKind, word: &[u8], out: &mut [u8])
 // Three words, one behind the other.
 fn put_words(kind: TextKind, front: &[u8], name: &[u8], back: &[u8], out: &mut [u8])
     requires { ⌜ length (now front) + length (now name) + length (now back) ≤ length (now out) ⌝ }
-    ensures { λ _. ⌜ now (out .exit) ≡ inCase (formOf kind) (now (front .entry) ++ now (name .entry) ++ now (back .entry)) ++ drop (length (now (front .entry)) + length (now (name .entry)) + length (now (back .entry))) (now (out .entry)) ⌝ }
+    ensures { λ _. ⌜ now (out .exit) ≡
+        inCase (formOf kind) (now (front .entry) ++ now (name .entry) ++ now (back .entry)) ++ drop
+        (length (now (front .entry)) + length (now (name .entry)) + length (now (back .entry))) (now (out .entry)) ⌝ }
 {
     let a = front.len();
     let b = a + name.len();
@@ -196,7 +206,8 @@ fn put_words(kind: TextKind, front: &[u8], name: &[u8], back: &[u8], out: &mut [
 // The human part of a name at the front of `out`, which is long enough.
 pub(crate) fn put_human(kind: TextKind, name: &[u8], out: &mut [u8])
     requires { ⌜ length (humanPart (formOf kind) (now name)) ≤ length (now out) ⌝ }
-    ensures { λ _. ⌜ now (out .exit) ≡ inCase (formOf kind) (humanPart (formOf kind) (now (name .entry))) ++ drop (length (humanPart (formOf kind) (now (name .entry)))) (now (out .entry)) ⌝ }
+    ensures { λ _. ⌜ now (out .exit) ≡
+        inCase (formOf kind) (humanPart (formOf kind) (now (name .entry))) ++ drop (length (humanPart (formOf kind) (now (name .entry)))) (now (out .entry)) ⌝ }
 {
     match kind {
         TextKind::Recipient => put_words(kind, b"age1", name, b"", out),

@@ -11,6 +11,9 @@ ghost use Rattle.symbols.specs.Steps.{Values};
 ghost use Rattle.bech32.specs.Text.{noLower, noUpper, isCased, isNotOne, separator, isChecked, parse};
 ghost use Rattle.bech32.specs.Calls.{formOf, isSound, padded, readAnswer, readBuffer, readName, markOf};
 ghost use Rattle.bech32.specs.Steps.{nameOf};
+use crate::CHECKSUM;
+use crate::LONGEST;
+use crate::TAIL;
 use crate::TextKind;
 use crate::human::Name;
 use crate::human::is_lowered;
@@ -87,7 +90,7 @@ fn eight_without_one(text: &[u8], at: usize) -> bool
     let mut good = true;
     let mut j: usize = 0;
     while j < 8 {
-        good = good & (text[at + j] != 49);
+        good = good & (text[at + j] != b'1');
         j += 1;
     }
     good
@@ -106,7 +109,7 @@ fn find_separator(text: &[u8]) -> usize
     }
     while 0 < i {
         i -= 1;
-        if text[i] == 49 {
+        if text[i] == b'1' {
             return i;
         }
     }
@@ -119,7 +122,7 @@ fn is_checked(table: &[u8; 256], text: &[u8], at: usize) -> bool
     requires { ⌜ at ≡ separator (now text) ⌝ }
     ensures { λ r. ⌜ r ≡ isChecked (map lower (now (text .entry))) ⌝ }
 {
-    if text.len() - at < 7 {
+    if text.len() - at < TAIL {
         return false;
     }
     let from = at + 1;
@@ -145,7 +148,7 @@ fn examine(kind: TextKind, table: &[u8; 256], text: &[u8], at: usize) -> Name
     ensures length { λ r. ⌜ r .length ≡ length (nameOf (formOf kind) (now (text .entry))) ⌝ }
 {
     let n = text.len();
-    if 1024 < n {
+    if LONGEST < n {
         return nameless();
     }
     if !is_cased(kind, text) {
@@ -155,7 +158,7 @@ fn examine(kind: TextKind, table: &[u8; 256], text: &[u8], at: usize) -> Name
         return nameless();
     }
     let from = at + 1;
-    let end = n - 6;
+    let end = n - CHECKSUM;
     if !is_whole(table, &text[from..end]) {
         return nameless();
     }
@@ -176,7 +179,7 @@ pub fn read(kind: TextKind, text: &[u8], out: &mut [u8]) -> ReadText
         return refused(Refusal::NotBech32);
     }
     let from = at + 1;
-    let end = text.len() - 6;
+    let end = text.len() - CHECKSUM;
     let n = bytes_length(end - from);
     if out.len() < n {
         return refused(Refusal::ShortOutput);
@@ -200,6 +203,9 @@ fn refused(r: Refusal) -> ReadText
     }
 }
 
+// No refusal.
+const VALID: u8 = 0;
+
 // The reader's number for a text of the kind and of a plugin, by its name in either case: 0, or 16, also for another name.
 pub fn mark(kind: TextKind, text: &[u8], plugin: &[u8]) -> u8
     ensures { λ r. ⌜ r ≡ markOf (parse (formOf kind) (now (text .entry))) (now (plugin .entry)) ⌝ }
@@ -212,7 +218,7 @@ pub fn mark(kind: TextKind, text: &[u8], plugin: &[u8]) -> u8
         return refusal::number(Refusal::NotBech32);
     }
     if is_lowered(plugin, &bytes[..length]) {
-        return 0;
+        return VALID;
     }
     refusal::number(Refusal::NotBech32)
 }

@@ -11,6 +11,9 @@ ghost use Rattle.bech32.specs.Text.{inCase, humanPart, textOf, isName};
 ghost use Rattle.bech32.specs.Calls.{formOf, writeAnswer, writeBuffer};
 ghost use Rattle.bech32.specs.Steps.{Characters, withChecksum};
 ghost use Rattle.symbols.specs.Calls.{symbolsSize};
+use crate::CHECKSUM;
+use crate::LONGEST;
+use crate::TAIL;
 use crate::TextKind;
 use crate::charset::character;
 use crate::charset::characters;
@@ -22,7 +25,6 @@ use refusal::Written;
 use symbols::encode;
 use symbols::fold_human;
 use symbols::fold_symbols;
-use symbols::step;
 
 // How many symbols n bytes make.
 fn symbols_length(n: usize) -> usize
@@ -41,11 +43,11 @@ pub fn write(kind: TextKind, name: &[u8], payload: &[u8], out: &mut [u8]) -> Wri
     if !is_name(name) {
         return Written::Refused(Refusal::Unwritable);
     }
-    if 1024 < payload.len() {
+    if LONGEST < payload.len() {
         return Written::Refused(Refusal::Unwritable);
     }
-    let n = human_length(kind, name.len()) + symbols_length(payload.len()) + 7;
-    if 1024 < n {
+    let n = human_length(kind, name.len()) + symbols_length(payload.len()) + TAIL;
+    if LONGEST < n {
         return Written::Refused(Refusal::Unwritable);
     }
     if out.len() < n {
@@ -60,11 +62,13 @@ fn write_into(kind: TextKind, name: &[u8], payload: &[u8], out: &mut [u8])
     requires { ⌜ isName (now name) ≡ true ⌝ }
     requires { ⌜ length (now payload) ≤ 1024 ⌝ }
     requires { ⌜ length (humanPart (formOf kind) (now name)) + symbolsSize (length (now payload)) + 7 ≤ length (now out) ⌝ }
-    ensures { λ _. ⌜ now (out .exit) ≡ textOf (formOf kind) (now (name .entry)) (now (payload .entry)) ++ drop (length (textOf (formOf kind) (now (name .entry)) (now (payload .entry)))) (now (out .entry)) ⌝ }
+    ensures { λ _. ⌜ now (out .exit) ≡
+        textOf (formOf kind) (now (name .entry)) (now (payload .entry)) ++ drop (length (textOf (formOf kind) (now (name .entry)) (now (payload .entry))))
+        (now (out .entry)) ⌝ }
 {
     let h = human_length(kind, name.len());
     put_human(kind, name, out);
-    out[h] = 49;
+    out[h] = b'1';
     let state = fold_human(&out[..h]);
     let from = h + 1;
     put_characters(kind, payload, state, &mut out[from..]);
@@ -74,9 +78,11 @@ fn write_into(kind: TextKind, name: &[u8], payload: &[u8], out: &mut [u8])
 fn put_characters(kind: TextKind, payload: &[u8], from: u32, out: &mut [u8])
     requires { ⌜ length (now payload) ≤ 1024 ⌝ }
     requires { ⌜ symbolsSize (length (now payload)) + 6 ≤ length (now out) ⌝ }
-    ensures { λ _. ⌜ now (out .exit) ≡ inCase (formOf kind) (map characterOf (withChecksum from (now (payload .entry)))) ++ drop (symbolsSize (length (now (payload .entry))) + 6) (now (out .entry)) ⌝ }
+    ensures { λ _. ⌜ now (out .exit) ≡
+        inCase (formOf kind) (map characterOf (withChecksum from (now (payload .entry)))) ++ drop (symbolsSize (length (now (payload .entry))) + 6)
+        (now (out .entry)) ⌝ }
 {
-    let end = symbols_length(payload.len()) + 6;
+    let end = symbols_length(payload.len()) + CHECKSUM;
     put_symbols(payload, from, out);
     let table = characters(kind);
     translate(kind, &table, &mut out[..end]);
@@ -112,12 +118,8 @@ fn put_checksum(from: u32, out: &mut [u8])
 fn six_zeros(from: u32) -> u32
     ensures { λ r. ⌜ r ≡ polymod from (0 ∷ 0 ∷ 0 ∷ 0 ∷ 0 ∷ 0 ∷ []) ⌝ }
 {
-    let a = step(from, 0);
-    let b = step(a, 0);
-    let c = step(b, 0);
-    let d = step(c, 0);
-    let e = step(d, 0);
-    step(e, 0)
+    let zeros = [0u8; CHECKSUM];
+    fold_symbols(&zeros, from)
 }
 
 // Symbols to characters, in place.

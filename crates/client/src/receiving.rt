@@ -68,7 +68,12 @@ fn receive_stanza(
     returned: &mut [u8],
     out: &mut [u8],
 ) -> Received
-    ensures { λ r. ⌜ receivedSaid r (now (slots .exit)) (now («header_slots» .entry)) (now (errors .exit)) (now (stanzas .exit)) (now (returned .exit)) (now (out .exit)) ≡ receivedStanza (sessionOf session (now (slots .entry)) (now («header_slots» .entry))) (buffersOf (now (errors .entry)) (now (stanzas .entry)) (now (returned .entry))) (now (out .entry)) (argumentsIn (now (text .entry)) s) (bodyIn (now (text .entry)) s) (s .taken) ⌝ }
+    ensures outcome { λ r. ⌜ receivedSaid r (now (slots .exit)) (now («header_slots» .entry)) (now (errors .exit)) (now (stanzas .exit)) (now (returned .exit))
+        (now (out .exit)) ≡
+        receivedStanza (sessionOf session (now (slots .entry)) (now («header_slots» .entry)))
+        (buffersOf (now (errors .entry)) (now (stanzas .entry)) (now (returned .entry))) (now (out .entry)) (argumentsIn (now (text .entry)) s)
+        (bodyIn (now (text .entry)) s) (s .taken) ⌝ }
+    ensures name { λ r. ⌜ r .session .name ≡ session .name ⌝ }
 {
     let machine = session.machine;
     let before = session.phase;
@@ -119,7 +124,11 @@ pub fn receive(
     returned: &mut [u8],
     out: &mut [u8],
 ) -> Received
-    ensures { λ r. ⌜ receivedSaid r (now (slots .exit)) (now («header_slots» .entry)) (now (errors .exit)) (now (stanzas .exit)) (now (returned .exit)) (now (out .exit)) ≡ received (sessionOf session (now (slots .entry)) (now («header_slots» .entry))) (now (text .entry)) (buffersOf (now (errors .entry)) (now (stanzas .entry)) (now (returned .entry))) (now (out .entry)) ⌝ }
+    ensures outcome { λ r. ⌜ receivedSaid r (now (slots .exit)) (now («header_slots» .entry)) (now (errors .exit)) (now (stanzas .exit)) (now (returned .exit))
+        (now (out .exit)) ≡
+        received (sessionOf session (now (slots .entry)) (now («header_slots» .entry))) (now (text .entry))
+        (buffersOf (now (errors .entry)) (now (stanzas .entry)) (now (returned .entry))) (now (out .entry)) ⌝ }
+    ensures name { λ r. ⌜ r .session .name ≡ session .name ⌝ }
 {
     let phase = session.phase;
     let turn = phase_two::turn_two(phase);

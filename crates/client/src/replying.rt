@@ -26,7 +26,9 @@ fn reply_to(
     body: &[u8],
     out: &mut [u8],
 ) -> Replied
-    ensures { λ r. ⌜ ((xs hs : List (List ℕ)) → repliedSaid r xs hs (now (out .exit)) ≡ repliedTo word (sessionOf session xs hs) response (now (body .entry)) (now (out .entry))) ⌝ }
+    ensures outcome { λ r. ⌜ ((xs hs : List (List ℕ)) → repliedSaid r xs hs (now (out .exit)) ≡ repliedTo word (sessionOf session xs hs) response
+        (now (body .entry)) (now (out .entry))) ⌝ }
+    ensures name { λ r. ⌜ r .session .name ≡ session .name ⌝ }
 {
     if !responses::fits_whole(word, response, body.len()) {
         return Replied {
@@ -50,7 +52,9 @@ fn reply_to(
 // The host's answer to the command that awaits it, with a body where the response has one, written to the front of `out`: how many bytes, and the session. 13,
 // 14, 12, 17 or 15 where it is refused: then nothing changes. It needs no slots: whatever they hold, the tables stay.
 pub fn reply(session: Session, response: Response, body: &[u8], out: &mut [u8]) -> Replied
-    ensures { λ r. ⌜ ((xs hs : List (List ℕ)) → repliedSaid r xs hs (now (out .exit)) ≡ replied (sessionOf session xs hs) response (now (body .entry)) (now (out .entry))) ⌝ }
+    ensures outcome { λ r. ⌜ ((xs hs : List (List ℕ)) → repliedSaid r xs hs (now (out .exit)) ≡ replied (sessionOf session xs hs) response (now (body .entry))
+        (now (out .entry))) ⌝ }
+    ensures name { λ r. ⌜ r .session .name ≡ session .name ⌝ }
 {
     let phase = session.phase;
     let due = phase_two::answer_due(phase);

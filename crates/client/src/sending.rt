@@ -17,6 +17,11 @@ use session::Session;
 use session::front;
 use tables::Coding;
 
+// A short store for a line, and the arguments that have room there behind a command word and its space.
+const SHORT: usize = 128;
+
+const SHORT_ARGUMENTS: usize = 112;
+
 pub struct Sent {
     pub answer: Written,
     pub session: Session,
@@ -38,7 +43,12 @@ fn send_in(
     out: &mut [u8],
 ) -> Sent
     requires { ⌜ min (length (lineSent (wordSaid word) (now arguments))) 8192 ≤ length (now store) ⌝ }
-    ensures { λ r. ⌜ sentSaid r (now (slots .exit)) (now («header_slots» .exit)) (now (recipients .exit)) (now (identities .exit)) (now (keys .exit)) (now (headers .exit)) (now (out .exit)) ≡ sentLine (sessionOf session (now (slots .entry)) (now («header_slots» .entry))) (buffersOf (now (recipients .entry)) (now (identities .entry)) (now (keys .entry)) (now (headers .entry))) (lineSent (wordSaid word) (now (arguments .entry))) (now (body .entry)) (now (out .entry)) ⌝ }
+    ensures outcome { λ r. ⌜ sentSaid r (now (slots .exit)) (now («header_slots» .exit)) (now (recipients .exit)) (now (identities .exit)) (now (keys .exit))
+        (now (headers .exit)) (now (out .exit)) ≡
+        sentLine (sessionOf session (now (slots .entry)) (now («header_slots» .entry)))
+        (buffersOf (now (recipients .entry)) (now (identities .entry)) (now (keys .entry)) (now (headers .entry)))
+        (lineSent (wordSaid word) (now (arguments .entry))) (now (body .entry)) (now (out .entry)) ⌝ }
+    ensures name { λ r. ⌜ r .session .name ≡ session .name ⌝ }
 {
     let put = put_line(word, arguments, store);
     let composed = session::compose(put, store, body);
@@ -97,10 +107,15 @@ fn send_due(
     headers: &mut [u8],
     out: &mut [u8],
 ) -> Sent
-    ensures { λ r. ⌜ sentSaid r (now (slots .exit)) (now («header_slots» .exit)) (now (recipients .exit)) (now (identities .exit)) (now (keys .exit)) (now (headers .exit)) (now (out .exit)) ≡ sentLine (sessionOf session (now (slots .entry)) (now («header_slots» .entry))) (buffersOf (now (recipients .entry)) (now (identities .entry)) (now (keys .entry)) (now (headers .entry))) (lineSent (wordSaid word) (now (arguments .entry))) (now (body .entry)) (now (out .entry)) ⌝ }
+    ensures outcome { λ r. ⌜ sentSaid r (now (slots .exit)) (now («header_slots» .exit)) (now (recipients .exit)) (now (identities .exit)) (now (keys .exit))
+        (now (headers .exit)) (now (out .exit)) ≡
+        sentLine (sessionOf session (now (slots .entry)) (now («header_slots» .entry)))
+        (buffersOf (now (recipients .entry)) (now (identities .entry)) (now (keys .entry)) (now (headers .entry)))
+        (lineSent (wordSaid word) (now (arguments .entry))) (now (body .entry)) (now (out .entry)) ⌝ }
+    ensures name { λ r. ⌜ r .session .name ≡ session .name ⌝ }
 {
-    if arguments.len() < 112 {
-        let mut store = [0u8; 128];
+    if arguments.len() < SHORT_ARGUMENTS {
+        let mut store = [0u8; SHORT];
         return send_in(
             session,
             word,
@@ -116,7 +131,7 @@ fn send_due(
             out,
         );
     }
-    let mut store = [0u8; 8192];
+    let mut store = [0u8; stanza::LONGEST];
     send_in(
         session,
         word,
@@ -148,7 +163,11 @@ pub fn send(
     headers: &mut [u8],
     out: &mut [u8],
 ) -> Sent
-    ensures { λ r. ⌜ sentSaid r (now (slots .exit)) (now («header_slots» .exit)) (now (recipients .exit)) (now (identities .exit)) (now (keys .exit)) (now (headers .exit)) (now (out .exit)) ≡ sent (sessionOf session (now (slots .entry)) (now («header_slots» .entry))) (wordSaid word) (now (arguments .entry)) (now (body .entry)) (buffersOf (now (recipients .entry)) (now (identities .entry)) (now (keys .entry)) (now (headers .entry))) (now (out .entry)) ⌝ }
+    ensures outcome { λ r. ⌜ sentSaid r (now (slots .exit)) (now («header_slots» .exit)) (now (recipients .exit)) (now (identities .exit)) (now (keys .exit))
+        (now (headers .exit)) (now (out .exit)) ≡
+        sent (sessionOf session (now (slots .entry)) (now («header_slots» .entry))) (wordSaid word) (now (arguments .entry)) (now (body .entry))
+        (buffersOf (now (recipients .entry)) (now (identities .entry)) (now (keys .entry)) (now (headers .entry))) (now (out .entry)) ⌝ }
+    ensures name { λ r. ⌜ r .session .name ≡ session .name ⌝ }
 {
     let phase = session.phase;
     let turn = phase_one::turn_one(phase);

@@ -9,8 +9,6 @@ pub mod CommandsTwo
 pub mod ConditionsOne
 pub mod ConditionsTwo
 pub mod DecidedTwo
-pub mod Examples
-pub mod ExamplesTwo
 pub mod Firsts
 pub mod Given
 pub mod LeftTwo

@@ -172,3 +172,7 @@ lineSent FileKey arguments = lineWith fileKeyWord arguments
 lineSent Error arguments = lineWith errorWord arguments
 lineSent Done arguments = lineWith doneWord arguments
 lineSent Other arguments = arguments
+
+-- the text of a word, the command with nothing behind it; any other word has none of its own
+abbrev pub textOfWord : WordTwo → List ℕ
+textOfWord w = lineSent w []

@@ -18,3 +18,5 @@ pub mod WrittenRead
 pub mod Shapes
 pub mod Numbers
 pub mod SentOne
+pub mod Tables
+pub mod Agreement

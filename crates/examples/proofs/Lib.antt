@@ -1,1 +1,3 @@
+pub mod OrderOne
+pub mod OrderTwo
 pub mod Worked

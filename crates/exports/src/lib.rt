@@ -13,6 +13,7 @@ ghost use Rattle.exports.specs.Results.{numberIn, lengthOr, bodyAt};
 ghost use Rattle.exports.specs.Results.{readNumber, lineOr, bodyOr, takenOr};
 ghost use Rattle.exports.specs.Results.{indexNumber, valueOr};
 ghost use Rattle.exports.specs.Results.{nameOr, namedOr};
+use bech32::LONGEST_NAME;
 use bech32::TextKind;
 use refusal::Written;
 use stanza::First;
@@ -121,7 +122,7 @@ pub extern "C" fn flugremio_index(text: &[u8], value: &mut u32) -> u8
 #[no_mangle]
 pub extern "C" fn flugremio_read_recipient(
     text: &[u8],
-    name: &mut [u8; 32],
+    name: &mut [u8; LONGEST_NAME],
     named: &mut usize,
     out: &mut [u8],
     length: &mut usize,
@@ -139,7 +140,7 @@ pub extern "C" fn flugremio_read_recipient(
 #[no_mangle]
 pub extern "C" fn flugremio_read_identity(
     text: &[u8],
-    name: &mut [u8; 32],
+    name: &mut [u8; LONGEST_NAME],
     named: &mut usize,
     out: &mut [u8],
     length: &mut usize,
@@ -157,7 +158,7 @@ pub extern "C" fn flugremio_read_identity(
 fn read_text(
     kind: TextKind,
     text: &[u8],
-    name: &mut [u8; 32],
+    name: &mut [u8; LONGEST_NAME],
     named: &mut usize,
     out: &mut [u8],
     length: &mut usize,
@@ -193,7 +194,8 @@ pub extern "C" fn flugremio_write_recipient(
 ) -> u8
     ensures number { λ r. ⌜ r ≡ numberIn (writeAnswer recipient (now (name .entry)) (now (payload .entry)) (now (out .entry))) ⌝ }
     ensures buffer { λ _. ⌜ now (out .exit) ≡ writeBuffer recipient (now (name .entry)) (now (payload .entry)) (now (out .entry)) ⌝ }
-    ensures length { λ _. ⌜ now (length .exit) ≡ lengthOr (now (length .entry)) (writeAnswer recipient (now (name .entry)) (now (payload .entry)) (now (out .entry))) ⌝ }
+    ensures length { λ _. ⌜ now (length .exit) ≡
+        lengthOr (now (length .entry)) (writeAnswer recipient (now (name .entry)) (now (payload .entry)) (now (out .entry))) ⌝ }
 {
     write_text(TextKind::Recipient, name, payload, out, length)
 }
@@ -208,7 +210,8 @@ pub extern "C" fn flugremio_write_identity(
 ) -> u8
     ensures number { λ r. ⌜ r ≡ numberIn (writeAnswer identity (now (name .entry)) (now (payload .entry)) (now (out .entry))) ⌝ }
     ensures buffer { λ _. ⌜ now (out .exit) ≡ writeBuffer identity (now (name .entry)) (now (payload .entry)) (now (out .entry)) ⌝ }
-    ensures length { λ _. ⌜ now (length .exit) ≡ lengthOr (now (length .entry)) (writeAnswer identity (now (name .entry)) (now (payload .entry)) (now (out .entry))) ⌝ }
+    ensures length { λ _. ⌜ now (length .exit) ≡
+        lengthOr (now (length .entry)) (writeAnswer identity (now (name .entry)) (now (payload .entry)) (now (out .entry))) ⌝ }
 {
     write_text(TextKind::Identity, name, payload, out, length)
 }
@@ -217,7 +220,8 @@ pub extern "C" fn flugremio_write_identity(
 fn write_text(kind: TextKind, name: &[u8], payload: &[u8], out: &mut [u8], length: &mut usize) -> u8
     ensures number { λ r. ⌜ r ≡ numberIn (writeAnswer (formOf kind) (now (name .entry)) (now (payload .entry)) (now (out .entry))) ⌝ }
     ensures buffer { λ _. ⌜ now (out .exit) ≡ writeBuffer (formOf kind) (now (name .entry)) (now (payload .entry)) (now (out .entry)) ⌝ }
-    ensures length { λ _. ⌜ now (length .exit) ≡ lengthOr (now (length .entry)) (writeAnswer (formOf kind) (now (name .entry)) (now (payload .entry)) (now (out .entry))) ⌝ }
+    ensures length { λ _. ⌜ now (length .exit) ≡
+        lengthOr (now (length .entry)) (writeAnswer (formOf kind) (now (name .entry)) (now (payload .entry)) (now (out .entry))) ⌝ }
 {
     let w = bech32::write(kind, name, payload, out);
     match w {

@@ -111,7 +111,9 @@ fn judge_chunk(
     keys: &mut [u8],
 ) -> State
     requires { ⌜ end ≤ length (now window) ⌝ }
-    ensures cut { λ r. ⌜ Cut last (standingOf judging (now (slots .entry)) (now («header_slots» .entry))) (buffersIn (now (recipients .entry)) (now (identities .entry)) (now (keys .entry))) (take end (now (window .entry))) (turnSaid (r .judging) (now (slots .exit)) (now («header_slots» .exit)) (now (recipients .exit)) (now (identities .exit)) (now (keys .exit))) ⌝ }
+    ensures cut { λ r. ⌜ Cut last (standingOf judging (now (slots .entry)) (now («header_slots» .entry)))
+        (buffersIn (now (recipients .entry)) (now (identities .entry)) (now (keys .entry))) (take end (now (window .entry)))
+        (turnSaid (r .judging) (now (slots .exit)) (now («header_slots» .exit)) (now (recipients .exit)) (now (identities .exit)) (now (keys .exit))) ⌝ }
     ensures rest { λ r. ⌜ take (r .left) (now (window .exit)) ≡ drop (r .judging .taken) (take end (now (window .entry))) ⌝ }
     ensures short { λ r. ⌜ (r .left ≤ end) × (r .more ≡ true → r .left < 8192) ⌝ }
 {

@@ -6,6 +6,7 @@ ghost use lib.ListN.{length, drop};
 ghost use Rattle.refusal.specs.Number.{numberOf};
 ghost use Rattle.phase_one.specs.Commands.{wordSaid};
 ghost use Rattle.session.specs.Tables.{tablesIn, openedSlots, openedHeaderSlots};
+ghost use Rattle.session.specs.Opening.{held};
 ghost use Rattle.session.specs.Session.{sessionOf};
 ghost use Rattle.judging.specs.Judging.{counted, going, isDone, behindCommand, behindRefusal, turned, behind, judgedFrom, start, judgedText, numbersOf};
 ghost use Rattle.judging.specs.Windows.{Cut};
@@ -99,7 +100,10 @@ fn advance(
     keys: &mut [u8],
 ) -> Judging
     requires { ⌜ at ≤ length (now window) ⌝ }
-    ensures { λ r. ⌜ turnSaid r (now (slots .exit)) (now («header_slots» .exit)) (now (recipients .exit)) (now (identities .exit)) (now (keys .exit)) ≡ behind at (turned last (sessionOf session (now (slots .entry)) (now («header_slots» .entry))) (buffersIn (now (recipients .entry)) (now (identities .entry)) (now (keys .entry))) (drop at (now (window .entry)))) ⌝ }
+    ensures outcome { λ r. ⌜ turnSaid r (now (slots .exit)) (now («header_slots» .exit)) (now (recipients .exit)) (now (identities .exit)) (now (keys .exit)) ≡
+        behind at (turned last (sessionOf session (now (slots .entry)) (now («header_slots» .entry)))
+        (buffersIn (now (recipients .entry)) (now (identities .entry)) (now (keys .entry))) (drop at (now (window .entry)))) ⌝ }
+    ensures name { λ r. ⌜ r .session .name ≡ session .name ⌝ }
 {
     let mut headers = [0u8; 0];
     let received = plugin::receive(
@@ -134,7 +138,8 @@ fn advance(
 impl Judging {
     // Nothing judged yet: a session of recipient-v1 just opened. The plugin's name does not show in the numbers.
     pub fn open() -> Judging
-        ensures { λ r. ⌜ (standingOf r openedSlots openedHeaderSlots ≡ going start) × (r .taken ≡ 0) ⌝ }
+        ensures start { λ r. ⌜ (standingOf r openedSlots openedHeaderSlots ≡ going start) × (r .taken ≡ 0) ⌝ }
+        ensures name { λ r. ⌜ r .session .name ≡ held (start .name) ⌝ }
     {
         let opening = Session::open_plugin(b"recipient-v1", b"judge");
         let session = opening.session;
@@ -157,8 +162,14 @@ impl Judging {
         identities: &mut [u8],
         keys: &mut [u8],
     ) -> Judging
-        ensures exact { λ r. ⌜ turnSaid r (now (slots .exit)) (now («header_slots» .exit)) (now (recipients .exit)) (now (identities .exit)) (now (keys .exit)) ≡ judgedFrom last (standingOf self (now (slots .entry)) (now («header_slots» .entry))) (buffersIn (now (recipients .entry)) (now (identities .entry)) (now (keys .entry))) (now (window .entry)) ⌝ }
-        ensures any_cut { λ r. ⌜ Cut last (standingOf self (now (slots .entry)) (now («header_slots» .entry))) (buffersIn (now (recipients .entry)) (now (identities .entry)) (now (keys .entry))) (now (window .entry)) (turnSaid r (now (slots .exit)) (now («header_slots» .exit)) (now (recipients .exit)) (now (identities .exit)) (now (keys .exit))) ⌝ }
+        ensures exact { λ r. ⌜ turnSaid r (now (slots .exit)) (now («header_slots» .exit)) (now (recipients .exit)) (now (identities .exit)) (now (keys .exit))
+            ≡
+            judgedFrom last (standingOf self (now (slots .entry)) (now («header_slots» .entry)))
+            (buffersIn (now (recipients .entry)) (now (identities .entry)) (now (keys .entry))) (now (window .entry)) ⌝ }
+        ensures any_cut { λ r. ⌜ Cut last (standingOf self (now (slots .entry)) (now («header_slots» .entry)))
+            (buffersIn (now (recipients .entry)) (now (identities .entry)) (now (keys .entry))) (now (window .entry))
+            (turnSaid r (now (slots .exit)) (now («header_slots» .exit)) (now (recipients .exit)) (now (identities .exit)) (now (keys .exit))) ⌝ }
+        ensures name { λ r. ⌜ r .session .name ≡ self .session .name ⌝ }
     {
         let mut j = self;
         j.taken = 0;
@@ -199,8 +210,10 @@ impl Judging {
 
 // A whole text: the five numbers. The judging program lends 16,384, 16,384 and 1,024 bytes of zeros. Header stanzas need no buffer: recipient-v1 has none.
 pub fn judge(text: &[u8], recipients: &mut [u8], identities: &mut [u8], keys: &mut [u8]) -> Judged
-    ensures numbers { λ r. ⌜ judgedSaid r ≡ numbersOf (judgedText (buffersIn (now (recipients .entry)) (now (identities .entry)) (now (keys .entry))) (now (text .entry)) .standing) ⌝ }
-    ensures buffers { λ _. ⌜ buffersIn (now (recipients .exit)) (now (identities .exit)) (now (keys .exit)) ≡ judgedText (buffersIn (now (recipients .entry)) (now (identities .entry)) (now (keys .entry))) (now (text .entry)) .buffers ⌝ }
+    ensures numbers { λ r. ⌜ judgedSaid r ≡
+        numbersOf (judgedText (buffersIn (now (recipients .entry)) (now (identities .entry)) (now (keys .entry))) (now (text .entry)) .standing) ⌝ }
+    ensures buffers { λ _. ⌜ buffersIn (now (recipients .exit)) (now (identities .exit)) (now (keys .exit)) ≡
+        judgedText (buffersIn (now (recipients .entry)) (now (identities .entry)) (now (keys .entry))) (now (text .entry)) .buffers ⌝ }
 {
     let begun = Judging::open();
     let mut slots = Session::open_slots();

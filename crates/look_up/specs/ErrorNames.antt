@@ -11,15 +11,6 @@ use Rattle.session.specs.Session.{Session}
 use Rattle.conversation.specs.Calls.{Call, Brought, in-one, in-two, no-command, broughtBy, outcome}
 use Rattle.conversation.specs.CommandsTwo.{Named, internal, identity, recipient, header, errorWord, internalWord, identityWord, recipientWord, stanzaWord}
 use Rattle.conversation.specs.Kinds.{Buffers}
-use Rattle.look_up.specs.declared.look_up.ErrorNamed.{ErrorNamed}
-use Rattle.look_up.specs.declared.look_up.ErrorNamed.the-variants as the
-
--- what an error names, as a look-up gives it back: of a header stanza its file and its number
-abbrev pub nameOf : Named → ErrorNamed
-nameOf internal = the.Internal
-nameOf (identity i) = the.Identity i
-nameOf (recipient i) = the.Recipient i
-nameOf (header f i) = the.Header f i
 
 -- what its last argument says: the index that is written there
 abbrev pub nameRead : (ℕ → Named) → ReadIndex → List Named
@@ -53,8 +44,8 @@ namesIn s b (c ∷ cs) =
     let o = outcome s b c in
     pick (eqb (o .number) 0) (namesBrought (broughtBy c)) [] ++ namesIn (o .session) (o .buffers) cs
 
--- the one of a number; nothing beyond
-unfoldable pub nameAt : List Named → ℕ → ErrorNamed
-nameAt [] k = the.Nothing
-nameAt (n ∷ ns) zero = nameOf n
+-- the one of a number; none beyond
+unfoldable pub nameAt : List Named → ℕ → List Named
+nameAt [] k = []
+nameAt (n ∷ ns) zero = n ∷ []
 nameAt (n ∷ ns) (suc k) = nameAt ns k

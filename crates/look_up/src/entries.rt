@@ -25,7 +25,7 @@ pub fn count_entries(table: Table, span: Span, slots: &[[usize; 4]]) -> usize
 }
 
 // How many entries are of a file.
-pub fn count_file(table: Table, span: Span, file: usize, slots: &[[usize; 4]]) -> usize
+pub(crate) fn count_file(table: Table, span: Span, file: usize, slots: &[[usize; 4]]) -> usize
     ensures { λ r. ⌜ r ≡ howMany (isFile file) (labels (tableIn span table (now (slots .entry)))) ⌝ }
 {
     let mut n = 0;

@@ -3,7 +3,6 @@ mod entries;
 mod look_up;
 
 pub use entries::count_entries;
-pub use entries::count_file;
 pub use entries::has_file;
 pub use look_up::Awaited;
 pub use look_up::ErrorNamed;

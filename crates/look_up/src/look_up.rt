@@ -3,15 +3,16 @@
 ghost use mathlib.Core.Path.{_≡_};
 ghost use mathlib.Core.List.{List};
 ghost use Prim.Native.Nat.{ℕ};
-ghost use Rattle.tables.specs.Tables.{tableIn, found as foundIn};
+ghost use Rattle.tables.specs.Tables.{tableIn, foundSaid, found as foundIn};
 ghost use Rattle.session.specs.Tables.{spanOf, tablesIn};
 ghost use Rattle.conversation.specs.PhaseTwo.{labels, isFile, stanzasFor, hasKey};
-ghost use Rattle.look_up.specs.LookUp.{tableOf, entryText, awaitedIn, headerNamed, namedBy, errorNamed, numberOf, messageOf, stanzaOf, keyOf};
+ghost use Rattle.look_up.specs.LookUp.{tableOf, entryText, awaitedSaid, awaitedIn, nameSaid, headerNamed, namedBy, errorNamed, numberOf, messageOf, stanzaOf, keyOf};
 use crate::entries::count_entries;
 use crate::entries::count_file;
 use crate::entries::has_file;
 use bech32::TextKind;
 use session::Kind;
+use session::Mark;
 use session::Phase;
 use session::Tables;
 use session::WordTwo;
@@ -31,7 +32,7 @@ pub fn find(
     slots: &[[usize; 4]],
     header_slots: &[[usize; 4]],
 ) -> Found
-    ensures { λ r. ⌜ r ≡ foundIn (tableOf kind (tablesIn tables (now (slots .entry)) (now («header_slots» .entry)))) n ⌝ }
+    ensures { λ r. ⌜ foundSaid r ≡ foundIn (tableOf kind (tablesIn tables (now (slots .entry)) (now («header_slots» .entry)))) n ⌝ }
 {
     let span = span_of(kind);
     match kind {
@@ -54,7 +55,8 @@ pub fn entry<'a>(
     recipients: &'a [u8],
     identities: &'a [u8],
 ) -> &'a [u8]
-    ensures { λ r. ⌜ ((hs : List (List ℕ)) → now r ≡ entryText (tablesIn tables (now (slots .entry)) hs) kind n (now (recipients .entry)) (now (identities .entry))) ⌝ }
+    ensures { λ r. ⌜ ((hs : List (List ℕ)) → now r ≡ entryText (tablesIn tables (now (slots .entry)) hs) kind n (now (recipients .entry))
+        (now (identities .entry))) ⌝ }
 {
     match kind {
         TextKind::Recipient => payload(
@@ -76,7 +78,7 @@ pub enum Awaited {
 
 // Which command awaits an answer.
 pub fn awaited_command(phase: Phase) -> Awaited
-    ensures { λ r. ⌜ r ≡ awaitedIn phase ⌝ }
+    ensures { λ r. ⌜ awaitedSaid r ≡ awaitedIn phase ⌝ }
 {
     match phase {
         Phase::One => Awaited::Nothing,
@@ -119,7 +121,7 @@ pub fn has_key(tables: Tables, file: usize, slots: &[[usize; 4]]) -> bool
 
 // A header stanza, with its file.
 fn header_named(headers: Table, i: usize, header_slots: &[[usize; 4]]) -> ErrorNamed
-    ensures { λ r. ⌜ r ≡ headerNamed i (foundIn (tableIn (spanOf Kind.Headers) headers (now («header_slots» .entry))) i) ⌝ }
+    ensures { λ r. ⌜ nameSaid r ≡ headerNamed i (foundIn (tableIn (spanOf Kind.Headers) headers (now («header_slots» .entry))) i) ⌝ }
 {
     let header = headers.find(span_of(Kind::Headers), i, header_slots);
     match header {
@@ -130,20 +132,20 @@ fn header_named(headers: Table, i: usize, header_slots: &[[usize; 4]]) -> ErrorN
 
 // What an error names, by its mark and its index.
 fn named_by(headers: Table, e: Entry, header_slots: &[[usize; 4]]) -> ErrorNamed
-    ensures { λ r. ⌜ r ≡ namedBy (tableIn (spanOf Kind.Headers) headers (now («header_slots» .entry))) e ⌝ }
+    ensures { λ r. ⌜ nameSaid r ≡ namedBy (tableIn (spanOf Kind.Headers) headers (now («header_slots» .entry))) e ⌝ }
 {
     let mark = e.mark;
     let index = e.index;
-    if mark == 0 {
+    if mark == Mark::INTERNAL {
         return ErrorNamed::Internal;
     }
-    if mark == 1 {
+    if mark == Mark::IDENTITY {
         return ErrorNamed::Identity(index);
     }
-    if mark == 2 {
+    if mark == Mark::RECIPIENT {
         return ErrorNamed::Recipient(index);
     }
-    if mark == 3 {
+    if mark == Mark::STANZA {
         return header_named(headers, index, header_slots);
     }
     ErrorNamed::Nothing
@@ -156,7 +158,7 @@ pub fn error_named(
     slots: &[[usize; 4]],
     header_slots: &[[usize; 4]],
 ) -> ErrorNamed
-    ensures { λ r. ⌜ r ≡ errorNamed (tablesIn tables (now (slots .entry)) (now («header_slots» .entry))) k ⌝ }
+    ensures { λ r. ⌜ nameSaid r ≡ errorNamed (tablesIn tables (now (slots .entry)) (now («header_slots» .entry))) k ⌝ }
 {
     let error = tables.errors.find(span_of(Kind::Errors), k, slots);
     match error {

@@ -153,6 +153,10 @@ lineSent recipient-stanza arguments = lineWith recipientStanza arguments
 lineSent done-word arguments = lineWith doneWord arguments
 lineSent other-word arguments = arguments
 
+-- the text of a word, the command with nothing behind it; any other word has none of its own
+abbrev pub textOfWord : WordOne → List ℕ
+textOfWord w = lineSent w []
+
 -- an entry's payload: the argument, the key, or for a header stanza the rest of its first line, the LF, and its body
 abbrev pub payloadOf : CommandOne → List ℕ → List ℕ → List ℕ
 payloadOf (recipient m) line body = argumentOf line 1

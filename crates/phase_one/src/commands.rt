@@ -95,7 +95,7 @@ fn after_space<'a>(text: &'a [u8]) -> &'a [u8]
     let n = text.len();
     let mut i: usize = 0;
     while i < n {
-        if text[i] == 32 {
+        if text[i] == b' ' {
             let from = i + 1;
             return &text[from..];
         }

@@ -1,14 +1,21 @@
 // Phase one: what a command comes to. It is parsed, judged, and kept where nothing refuses it.
 ghost use mathlib.Core.Path.{_≡_};
+ghost use mathlib.Core.Bool.{true};
+ghost use mathlib.Core.List.{_∷_, _++_};
+ghost use lib.Dec.{eqb};
 ghost use lib.ListN.{length};
+ghost use Rattle.refusal.specs.Pick.{pick};
 ghost use Rattle.refusal.specs.Verdict.{verdictSaid};
+ghost use Rattle.stanza.specs.Arguments.{argumentOf};
 ghost use Rattle.bech32.specs.Text.{parse};
 ghost use Rattle.bech32.specs.Calls.{formOf, markOf};
 ghost use Rattle.profile.specs.Profile.{checked};
 ghost use Rattle.tables.specs.Bodies.{bodyFrom};
-ghost use Rattle.tables.specs.Tables.{tableIn};
+ghost use Rattle.tables.specs.Slots.{areApart, slotsOf};
+ghost use Rattle.tables.specs.declared.slots.Span.{Span as AnySpan};
+ghost use Rattle.tables.specs.Tables.{tableIn, storing, entered, kept};
 ghost use Rattle.session.specs.Tables.{spanOf, tablesIn};
-ghost use Rattle.phase_one.specs.Commands.{findingMark, commandSaid};
+ghost use Rattle.phase_one.specs.Commands.{findingMark, commandSaid, restOf};
 ghost use Rattle.phase_one.specs.PhaseOne.{falls, buffersOf, commandIn, numberOne, tablesOne, buffersOne};
 use crate::commands::CommandOne;
 use crate::commands::parse_one;
@@ -19,10 +26,13 @@ use refusal::Refusal;
 use refusal::Verdict;
 use session::Kind;
 use session::Machine;
+use session::Mark;
 use session::Session;
 use session::Tables;
 use session::span_of;
 use tables::Coding;
+use tables::Span;
+use tables::Stored;
 use tables::Table;
 use tables::entry_at;
 
@@ -53,9 +63,9 @@ fn header_mark(plugin: &[u8], rest: &[u8], body: usize) -> usize
 {
     let found = profile::check(plugin, rest, body);
     match found {
-        Conformity::Conforming => 0,
-        Conformity::Nonconforming => 1,
-        Conformity::Unknown => 2,
+        Conformity::Conforming => Mark::CONFORMING,
+        Conformity::Nonconforming => Mark::NONCONFORMING,
+        Conformity::Unknown => Mark::UNKNOWN,
     }
 }
 
@@ -74,11 +84,194 @@ fn is_falling(headers: Table, index: u32, slots: &[[usize; 4]]) -> bool
     wide(index) < last.index
 }
 
+// A recipient or an identity kept: its text is the command's one argument. Nothing changes where it is refused.
+fn keep_text(
+    kind: TextKind,
+    table: Table,
+    span: Span,
+    plugin: &[u8],
+    late: Verdict,
+    line: &[u8],
+    slots: &mut [[usize; 4]],
+    buffer: &mut [u8],
+) -> Stored
+    ensures number { λ r. ⌜ verdictSaid (r .verdict) ≡
+        storing (tableIn span table (now (slots .entry))) (length (argumentOf (now (line .entry)) 1)) (length (now (buffer .entry))) (verdictSaid late) ⌝ }
+    ensures table { λ r. ⌜ tableIn span (r .table) (now (slots .exit)) ≡
+        pick (eqb (verdictSaid (r .verdict)) 0) (entered (tableIn span table (now (slots .entry))) (length (argumentOf (now (line .entry)) 1)) 0
+        (markOf (parse (formOf kind) (argumentOf (now (line .entry)) 1)) (now (plugin .entry))) (length (now (buffer .entry))))
+        (tableIn span table (now (slots .entry))) ⌝ }
+    ensures others { λ r. ⌜ ((k : AnySpan) → areApart span k ≡ true → slotsOf k (now (slots .exit)) ≡ slotsOf k (now (slots .entry))) ⌝ }
+    ensures buffer { λ r. ⌜ now (buffer .exit) ≡
+        pick (eqb (verdictSaid (r .verdict)) 0) (kept (tableIn span table (now (slots .entry))) (argumentOf (now (line .entry)) 1) (now (buffer .entry)))
+        (now (buffer .entry)) ⌝ }
+{
+    let text = stanza::argument(line, 1);
+    let mark = text_mark(kind, text, plugin);
+    table.store(span, late, Coding::Bytes, text, 0, mark, slots, buffer)
+}
+
+// A header stanza kept: its payload is its tag and arguments, an LF and its body, of `n` bytes. 7 before 8.
+fn keep_header(
+    table: Table,
+    plugin: &[u8],
+    late: Verdict,
+    line: &[u8],
+    coding: Coding,
+    source: &[u8],
+    n: usize,
+    index: u32,
+    slots: &mut [[usize; 4]],
+    buffer: &mut [u8],
+) -> Stored
+    ensures number { λ r. ⌜ verdictSaid (r .verdict) ≡
+        pick (falls (tableIn (spanOf Kind.Headers) table (now (slots .entry))) index) 7
+        (storing (tableIn (spanOf Kind.Headers) table (now (slots .entry))) (length (restOf (now (line .entry)) ++ 10 ∷ bodyFrom coding (now (source .entry))))
+        (length (now (buffer .entry))) (verdictSaid late)) ⌝ }
+    ensures table { λ r. ⌜ tableIn (spanOf Kind.Headers) (r .table) (now (slots .exit)) ≡
+        pick (eqb (verdictSaid (r .verdict)) 0) (entered (tableIn (spanOf Kind.Headers) table (now (slots .entry)))
+        (length (restOf (now (line .entry)) ++ 10 ∷ bodyFrom coding (now (source .entry)))) index
+        (findingMark (checked (now (plugin .entry)) (restOf (now (line .entry))) n)) (length (now (buffer .entry))))
+        (tableIn (spanOf Kind.Headers) table (now (slots .entry))) ⌝ }
+    ensures buffer { λ r. ⌜ now (buffer .exit) ≡
+        pick (eqb (verdictSaid (r .verdict)) 0) (kept (tableIn (spanOf Kind.Headers) table (now (slots .entry)))
+        (restOf (now (line .entry)) ++ 10 ∷ bodyFrom coding (now (source .entry))) (now (buffer .entry))) (now (buffer .entry)) ⌝ }
+{
+    if is_falling(table, index, slots) {
+        return Stored {
+            verdict: Verdict::Refused(Refusal::FallingIndex),
+            table: table,
+        };
+    }
+    let rest = rest_of(line);
+    let mark = header_mark(plugin, rest, n);
+    table.store_lines(
+        span_of(Kind::Headers),
+        late,
+        rest,
+        coding,
+        source,
+        wide(index),
+        mark,
+        slots,
+        buffer,
+    )
+}
+
 // What a command of phase one came to: the command, the number if it is refused, and the tables.
 pub struct StepOne {
     pub command: CommandOne,
     pub verdict: Verdict,
     pub tables: Tables,
+}
+
+// What a command came to, by what storing it came to: its kind's table has changed, and no other.
+fn stepped_recipients(command: CommandOne, tables: Tables, stored: Stored) -> StepOne
+    ensures { λ r. ⌜ r ≡
+        record {
+          command = command;
+          verdict = stored .verdict;
+          tables = record {
+            recipients = stored .table;
+            identities = tables .identities;
+            keys = tables .keys;
+            headers = tables .headers;
+            errors = tables .errors;
+            stanzas = tables .stanzas;
+            returned = tables .returned;
+          };
+        } ⌝ }
+{
+    let verdict = stored.verdict;
+    let after = stored.table;
+    let mut all = tables;
+    all.recipients = after;
+    StepOne {
+        command: command,
+        verdict: verdict,
+        tables: all,
+    }
+}
+
+fn stepped_identities(command: CommandOne, tables: Tables, stored: Stored) -> StepOne
+    ensures { λ r. ⌜ r ≡
+        record {
+          command = command;
+          verdict = stored .verdict;
+          tables = record {
+            recipients = tables .recipients;
+            identities = stored .table;
+            keys = tables .keys;
+            headers = tables .headers;
+            errors = tables .errors;
+            stanzas = tables .stanzas;
+            returned = tables .returned;
+          };
+        } ⌝ }
+{
+    let verdict = stored.verdict;
+    let after = stored.table;
+    let mut all = tables;
+    all.identities = after;
+    StepOne {
+        command: command,
+        verdict: verdict,
+        tables: all,
+    }
+}
+
+fn stepped_keys(command: CommandOne, tables: Tables, stored: Stored) -> StepOne
+    ensures { λ r. ⌜ r ≡
+        record {
+          command = command;
+          verdict = stored .verdict;
+          tables = record {
+            recipients = tables .recipients;
+            identities = tables .identities;
+            keys = stored .table;
+            headers = tables .headers;
+            errors = tables .errors;
+            stanzas = tables .stanzas;
+            returned = tables .returned;
+          };
+        } ⌝ }
+{
+    let verdict = stored.verdict;
+    let after = stored.table;
+    let mut all = tables;
+    all.keys = after;
+    StepOne {
+        command: command,
+        verdict: verdict,
+        tables: all,
+    }
+}
+
+fn stepped_headers(command: CommandOne, tables: Tables, stored: Stored) -> StepOne
+    ensures { λ r. ⌜ r ≡
+        record {
+          command = command;
+          verdict = stored .verdict;
+          tables = record {
+            recipients = tables .recipients;
+            identities = tables .identities;
+            keys = tables .keys;
+            headers = stored .table;
+            errors = tables .errors;
+            stanzas = tables .stanzas;
+            returned = tables .returned;
+          };
+        } ⌝ }
+{
+    let verdict = stored.verdict;
+    let after = stored.table;
+    let mut all = tables;
+    all.headers = after;
+    StepOne {
+        command: command,
+        verdict: verdict,
+        tables: all,
+    }
 }
 
 // One command of phase one, by its arguments' text and its body. Where it is refused tables, slots and buffers stay as they were. `late` is a fault that is
@@ -98,106 +291,75 @@ pub fn step_one(
     keys: &mut [u8],
     headers: &mut [u8],
 ) -> StepOne
-    ensures command { λ r. ⌜ commandSaid (now (plugin .entry)) (now (line .entry)) (length (bodyFrom coding (now (source .entry)))) (r .command) ≡ commandIn machine (now (plugin .entry)) (now (line .entry)) (bodyFrom coding (now (source .entry))) ⌝ }
-    ensures number { λ r. ⌜ verdictSaid (r .verdict) ≡ numberOne machine (now (plugin .entry)) (tablesIn tables (now (slots .entry)) (now («header_slots» .entry))) (buffersOf (now (recipients .entry)) (now (identities .entry)) (now (keys .entry)) (now (headers .entry))) (verdictSaid late) (now (line .entry)) (bodyFrom coding (now (source .entry))) ⌝ }
-    ensures tables { λ r. ⌜ tablesIn (r .tables) (now (slots .exit)) (now («header_slots» .exit)) ≡ tablesOne machine (now (plugin .entry)) (tablesIn tables (now (slots .entry)) (now («header_slots» .entry))) (buffersOf (now (recipients .entry)) (now (identities .entry)) (now (keys .entry)) (now (headers .entry))) (verdictSaid late) (now (line .entry)) (bodyFrom coding (now (source .entry))) ⌝ }
-    ensures buffers { λ _. ⌜ buffersOf (now (recipients .exit)) (now (identities .exit)) (now (keys .exit)) (now (headers .exit)) ≡ buffersOne machine (now (plugin .entry)) (tablesIn tables (now (slots .entry)) (now («header_slots» .entry))) (buffersOf (now (recipients .entry)) (now (identities .entry)) (now (keys .entry)) (now (headers .entry))) (verdictSaid late) (now (line .entry)) (bodyFrom coding (now (source .entry))) ⌝ }
+    ensures command { λ r. ⌜ commandSaid (now (plugin .entry)) (now (line .entry)) (length (bodyFrom coding (now (source .entry)))) (r .command) ≡
+        commandIn machine (now (plugin .entry)) (now (line .entry)) (bodyFrom coding (now (source .entry))) ⌝ }
+    ensures number { λ r. ⌜ verdictSaid (r .verdict) ≡
+        numberOne machine (now (plugin .entry)) (tablesIn tables (now (slots .entry)) (now («header_slots» .entry)))
+        (buffersOf (now (recipients .entry)) (now (identities .entry)) (now (keys .entry)) (now (headers .entry))) (verdictSaid late) (now (line .entry))
+        (bodyFrom coding (now (source .entry))) ⌝ }
+    ensures tables { λ r. ⌜ tablesIn (r .tables) (now (slots .exit)) (now («header_slots» .exit)) ≡
+        tablesOne machine (now (plugin .entry)) (tablesIn tables (now (slots .entry)) (now («header_slots» .entry)))
+        (buffersOf (now (recipients .entry)) (now (identities .entry)) (now (keys .entry)) (now (headers .entry))) (verdictSaid late) (now (line .entry))
+        (bodyFrom coding (now (source .entry))) ⌝ }
+    ensures buffers { λ _. ⌜ buffersOf (now (recipients .exit)) (now (identities .exit)) (now (keys .exit)) (now (headers .exit)) ≡
+        buffersOne machine (now (plugin .entry)) (tablesIn tables (now (slots .entry)) (now («header_slots» .entry)))
+        (buffersOf (now (recipients .entry)) (now (identities .entry)) (now (keys .entry)) (now (headers .entry))) (verdictSaid late) (now (line .entry))
+        (bodyFrom coding (now (source .entry))) ⌝ }
 {
     let n = tables::body_size(coding, source);
     let command = parse_one(machine, line, n);
     match command {
         CommandOne::Recipient => {
-            let text = stanza::argument(line, 1);
-            let mark = text_mark(TextKind::Recipient, text, plugin);
             let t = tables.recipients;
-            let stored = t.store(
-                span_of(Kind::Recipients),
+            let span = span_of(Kind::Recipients);
+            let stored = keep_text(
+                TextKind::Recipient,
+                t,
+                span,
+                plugin,
                 late,
-                Coding::Bytes,
-                text,
-                0,
-                mark,
+                line,
                 slots,
                 recipients,
             );
-            let verdict = stored.verdict;
-            let after = stored.table;
-            let mut all = tables;
-            all.recipients = after;
-            StepOne {
-                command: command,
-                verdict: verdict,
-                tables: all,
-            }
+            stepped_recipients(command, tables, stored)
         }
         CommandOne::Identity => {
-            let text = stanza::argument(line, 1);
-            let mark = text_mark(TextKind::Identity, text, plugin);
             let t = tables.identities;
-            let stored = t.store(
-                span_of(Kind::Identities),
+            let span = span_of(Kind::Identities);
+            let stored = keep_text(
+                TextKind::Identity,
+                t,
+                span,
+                plugin,
                 late,
-                Coding::Bytes,
-                text,
-                0,
-                mark,
+                line,
                 slots,
                 identities,
             );
-            let verdict = stored.verdict;
-            let after = stored.table;
-            let mut all = tables;
-            all.identities = after;
-            StepOne {
-                command: command,
-                verdict: verdict,
-                tables: all,
-            }
+            stepped_identities(command, tables, stored)
         }
         CommandOne::Key => {
             let t = tables.keys;
-            let stored = t.store(span_of(Kind::Keys), late, coding, source, 0, 0, slots, keys);
-            let verdict = stored.verdict;
-            let after = stored.table;
-            let mut all = tables;
-            all.keys = after;
-            StepOne {
-                command: command,
-                verdict: verdict,
-                tables: all,
-            }
+            let span = span_of(Kind::Keys);
+            let stored = t.store(span, late, coding, source, 0, Mark::NONE, slots, keys);
+            stepped_keys(command, tables, stored)
         }
         CommandOne::Header(index) => {
             let t = tables.headers;
-            if is_falling(t, index, header_slots) {
-                return StepOne {
-                    command: command,
-                    verdict: Verdict::Refused(Refusal::FallingIndex),
-                    tables: tables,
-                };
-            }
-            let rest = rest_of(line);
-            let mark = header_mark(plugin, rest, n);
-            let stored = t.store_lines(
-                span_of(Kind::Headers),
+            let stored = keep_header(
+                t,
+                plugin,
                 late,
-                rest,
+                line,
                 coding,
                 source,
-                wide(index),
-                mark,
+                n,
+                index,
                 header_slots,
                 headers,
             );
-            let verdict = stored.verdict;
-            let after = stored.table;
-            let mut all = tables;
-            all.headers = after;
-            StepOne {
-                command: command,
-                verdict: verdict,
-                tables: all,
-            }
+            stepped_headers(command, tables, stored)
         }
         CommandOne::Done => StepOne {
             command: command,

@@ -266,7 +266,8 @@ fn parse_stanza(line: &[u8]) -> CommandTwo
 
 // A key for a file: an index, and a body of 16 bytes.
 fn parse_key(line: &[u8], body: usize) -> CommandTwo
-    ensures { λ r. ⌜ commandSaid r ≡ pick (eqb (countOf (now (line .entry))) 2 && eqb body 16) (keyAt (readIndex (argumentOf (now (line .entry)) 1))) (bad 4) ⌝ }
+    ensures { λ r. ⌜ commandSaid r ≡
+        pick (eqb (countOf (now (line .entry))) 2 && eqb body 16) (keyAt (readIndex (argumentOf (now (line .entry)) 1))) (bad 4) ⌝ }
 {
     if stanza::count(line) != 2 {
         return CommandTwo::Refused(Refusal::BadCommand);

@@ -24,6 +24,7 @@ use phase_two_commands::Named;
 use refusal::Refusal;
 use refusal::Verdict;
 use session::Kind;
+use session::Mark;
 use session::Tables;
 use session::span_of;
 
@@ -190,7 +191,9 @@ fn is_key_held_back(
     slots: &[[usize; 4]],
     header_slots: &[[usize; 4]],
 ) -> bool
-    ensures { λ r. ⌜ r ≡ (anyInvalid (tablesIn tables (now (slots .entry)) (now («header_slots» .entry))) || hasNonconforming (tablesIn tables (now (slots .entry)) (now («header_slots» .entry))) file) ⌝ }
+    ensures { λ r. ⌜ r ≡
+        (anyInvalid (tablesIn tables (now (slots .entry)) (now («header_slots» .entry))) || hasNonconforming
+        (tablesIn tables (now (slots .entry)) (now («header_slots» .entry))) file) ⌝ }
 {
     if has_invalid(tables, slots) {
         return true;
@@ -198,7 +201,7 @@ fn is_key_held_back(
     has_labelled(
         tables.headers,
         span_of(Kind::Headers),
-        1,
+        Mark::NONCONFORMING,
         file,
         header_slots,
     )

@@ -7,6 +7,7 @@ ghost use Rattle.session.specs.Tables.{spanOf, tablesIn};
 ghost use Rattle.conversation.specs.PhaseTwo.{labelOf, labels, isAny, passes, isFile, isNaming, isAbout, isInvalid, isNonconforming, isUnknown, areReported, allReported};
 use look_up::count_entries;
 use session::Kind;
+use session::Mark;
 use session::Tables;
 use session::span_of;
 use tables::Entry;
@@ -15,7 +16,7 @@ use tables::Table;
 use tables::entry_at;
 
 // Whether the header stanza of a number is of a file.
-pub fn belongs_to(headers: Table, file: usize, i: usize, header_slots: &[[usize; 4]]) -> bool
+pub(crate) fn belongs_to(headers: Table, file: usize, i: usize, header_slots: &[[usize; 4]]) -> bool
     ensures { λ r. ⌜ r ≡ passes (isFile file) (labels (tableIn (spanOf Kind.Headers) headers (now («header_slots» .entry)))) i ⌝ }
 {
     let span = span_of(Kind::Headers);
@@ -27,7 +28,7 @@ pub fn belongs_to(headers: Table, file: usize, i: usize, header_slots: &[[usize;
 }
 
 // Whether the header stanza of a number is unknown.
-pub fn is_unknown_at(headers: Table, i: usize, header_slots: &[[usize; 4]]) -> bool
+pub(crate) fn is_unknown_at(headers: Table, i: usize, header_slots: &[[usize; 4]]) -> bool
     ensures { λ r. ⌜ r ≡ passes isUnknown (labels (tableIn (spanOf Kind.Headers) headers (now («header_slots» .entry)))) i ⌝ }
 {
     let span = span_of(Kind::Headers);
@@ -35,28 +36,30 @@ pub fn is_unknown_at(headers: Table, i: usize, header_slots: &[[usize; 4]]) -> b
         return false;
     }
     let e = entry_at(span, i, header_slots);
-    e.mark == 2
+    e.mark == Mark::UNKNOWN
 }
 
 // Whether an entry is an error for a header stanza of a file.
 fn is_about(headers: Table, file: usize, e: Entry, header_slots: &[[usize; 4]]) -> bool
     ensures { λ r. ⌜ r ≡ isAbout (labels (tableIn (spanOf Kind.Headers) headers (now («header_slots» .entry)))) file (labelOf e) ⌝ }
 {
-    if e.mark != 3 {
+    if e.mark != Mark::STANZA {
         return false;
     }
     belongs_to(headers, file, e.index, header_slots)
 }
 
 // Whether there is an error for a header stanza of a file.
-pub fn has_error_for(
+pub(crate) fn has_error_for(
     headers: Table,
     errors: Table,
     file: usize,
     slots: &[[usize; 4]],
     header_slots: &[[usize; 4]],
 ) -> bool
-    ensures { λ r. ⌜ r ≡ isAny (isAbout (labels (tableIn (spanOf Kind.Headers) headers (now («header_slots» .entry)))) file) (labels (tableIn (spanOf Kind.Errors) errors (now (slots .entry)))) ⌝ }
+    ensures { λ r. ⌜ r ≡
+        isAny (isAbout (labels (tableIn (spanOf Kind.Headers) headers (now («header_slots» .entry)))) file)
+        (labels (tableIn (spanOf Kind.Errors) errors (now (slots .entry)))) ⌝ }
 {
     let span = span_of(Kind::Errors);
     let mut i = 0;
@@ -71,13 +74,13 @@ pub fn has_error_for(
 }
 
 // Whether a recipient or an identity is invalid.
-pub fn any_invalid(table: Table, span: Span, slots: &[[usize; 4]]) -> bool
+pub(crate) fn any_invalid(table: Table, span: Span, slots: &[[usize; 4]]) -> bool
     ensures { λ r. ⌜ r ≡ isAny isInvalid (labels (tableIn span table (now (slots .entry)))) ⌝ }
 {
     let mut i = 0;
     while i < count_entries(table, span, slots) {
         let e = entry_at(span, i, slots);
-        if e.mark != 0 {
+        if e.mark != Mark::VALID {
             return true;
         }
         i += 1;
@@ -96,7 +99,7 @@ fn is_labelled(mark: usize, index: usize, e: Entry) -> bool
 }
 
 // Whether an entry of a table has a mark and an index: an error that names a number, a nonconforming header stanza of a file.
-pub fn has_labelled(
+pub(crate) fn has_labelled(
     table: Table,
     span: Span,
     mark: usize,
@@ -121,9 +124,9 @@ fn is_owing(header: bool, e: Entry) -> bool
     ensures { λ r. ⌜ r ≡ pick header isNonconforming isInvalid (labelOf e) ⌝ }
 {
     if header {
-        return e.mark == 1;
+        return e.mark == Mark::NONCONFORMING;
     }
-    e.mark != 0
+    e.mark != Mark::VALID
 }
 
 // Whether an entry owes no error, or has had it.
@@ -146,7 +149,9 @@ fn are_reported(
     mark: usize,
     slots: &[[usize; 4]],
 ) -> bool
-    ensures { λ r. ⌜ r ≡ areReported (pick header isNonconforming isInvalid) mark 0 (labels (tableIn span table (now (own .entry)))) (labels (tableIn (spanOf Kind.Errors) errors (now (slots .entry)))) ⌝ }
+    ensures { λ r. ⌜ r ≡
+        areReported (pick header isNonconforming isInvalid) mark 0 (labels (tableIn span table (now (own .entry))))
+        (labels (tableIn (spanOf Kind.Errors) errors (now (slots .entry)))) ⌝ }
 {
     let mut i = 0;
     while i < count_entries(table, span, own) {
@@ -160,7 +165,11 @@ fn are_reported(
 }
 
 // Whether all that is invalid or nonconforming has had its error.
-pub fn all_reported(tables: Tables, slots: &[[usize; 4]], header_slots: &[[usize; 4]]) -> bool
+pub(crate) fn all_reported(
+    tables: Tables,
+    slots: &[[usize; 4]],
+    header_slots: &[[usize; 4]],
+) -> bool
     ensures { λ r. ⌜ r ≡ allReported (tablesIn tables (now (slots .entry)) (now («header_slots» .entry))) ⌝ }
 {
     let errors = tables.errors;
@@ -171,7 +180,7 @@ pub fn all_reported(tables: Tables, slots: &[[usize; 4]], header_slots: &[[usize
         recipients,
         slots,
         errors,
-        2,
+        Mark::RECIPIENT,
         slots,
     ) {
         return false;
@@ -183,7 +192,7 @@ pub fn all_reported(tables: Tables, slots: &[[usize; 4]], header_slots: &[[usize
         identities,
         slots,
         errors,
-        1,
+        Mark::IDENTITY,
         slots,
     ) {
         return false;
@@ -195,7 +204,7 @@ pub fn all_reported(tables: Tables, slots: &[[usize; 4]], header_slots: &[[usize
         headers,
         header_slots,
         errors,
-        3,
+        Mark::STANZA,
         slots,
     )
 }

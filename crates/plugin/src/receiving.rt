@@ -53,7 +53,12 @@ fn receive_stanza(
     keys: &mut [u8],
     headers: &mut [u8],
 ) -> Received
-    ensures { λ r. ⌜ receivedSaid r (now (slots .exit)) (now («header_slots» .exit)) (now (recipients .exit)) (now (identities .exit)) (now (keys .exit)) (now (headers .exit)) ≡ receivedStanza (sessionOf session (now (slots .entry)) (now («header_slots» .entry))) (buffersOf (now (recipients .entry)) (now (identities .entry)) (now (keys .entry)) (now (headers .entry))) (argumentsIn (now (text .entry)) s) (bodyIn (now (text .entry)) s) (s .taken) ⌝ }
+    ensures outcome { λ r. ⌜ receivedSaid r (now (slots .exit)) (now («header_slots» .exit)) (now (recipients .exit)) (now (identities .exit))
+        (now (keys .exit)) (now (headers .exit)) ≡
+        receivedStanza (sessionOf session (now (slots .entry)) (now («header_slots» .entry)))
+        (buffersOf (now (recipients .entry)) (now (identities .entry)) (now (keys .entry)) (now (headers .entry))) (argumentsIn (now (text .entry)) s)
+        (bodyIn (now (text .entry)) s) (s .taken) ⌝ }
+    ensures name { λ r. ⌜ r .session .name ≡ session .name ⌝ }
 {
     let machine = session.machine;
     let before = session.phase;
@@ -98,7 +103,11 @@ pub fn receive(
     keys: &mut [u8],
     headers: &mut [u8],
 ) -> Received
-    ensures { λ r. ⌜ receivedSaid r (now (slots .exit)) (now («header_slots» .exit)) (now (recipients .exit)) (now (identities .exit)) (now (keys .exit)) (now (headers .exit)) ≡ received (sessionOf session (now (slots .entry)) (now («header_slots» .entry))) (now (text .entry)) (buffersOf (now (recipients .entry)) (now (identities .entry)) (now (keys .entry)) (now (headers .entry))) ⌝ }
+    ensures outcome { λ r. ⌜ receivedSaid r (now (slots .exit)) (now («header_slots» .exit)) (now (recipients .exit)) (now (identities .exit))
+        (now (keys .exit)) (now (headers .exit)) ≡
+        received (sessionOf session (now (slots .entry)) (now («header_slots» .entry))) (now (text .entry))
+        (buffersOf (now (recipients .entry)) (now (identities .entry)) (now (keys .entry)) (now (headers .entry))) ⌝ }
+    ensures name { λ r. ⌜ r .session .name ≡ session .name ⌝ }
 {
     let phase = session.phase;
     let turn = phase_one::turn_one(phase);

@@ -32,7 +32,8 @@ pub struct Responded {
 
 // A session closed by a response that does not fit.
 fn unfit(session: Session) -> Responded
-    ensures { λ r. ⌜ ((xs hs : List (List ℕ)) (out : List ℕ) → respondedSaid r xs hs out ≡ refusedResponse 12 (sessionOf session xs hs) out) ⌝ }
+    ensures outcome { λ r. ⌜ ((xs hs : List (List ℕ)) (out : List ℕ) → respondedSaid r xs hs out ≡ refusedResponse 12 (sessionOf session xs hs) out) ⌝ }
+    ensures name { λ r. ⌜ r .session .name ≡ session .name ⌝ }
 {
     Responded {
         answer: Answering::Refused(Refusal::UnfitResponse),
@@ -50,7 +51,9 @@ fn receive_fitting(
     out: &mut [u8],
 ) -> Responded
     requires { ⌜ readFirst (now text) ≡ stanza (s .line) (s .body) (s .taken) ⌝ }
-    ensures { λ r. ⌜ ((xs hs : List (List ℕ)) → respondedSaid r xs hs (now (out .exit)) ≡ respondedAs word (sessionOf session xs hs) (response found) (bodyIn (now (text .entry)) s) (s .taken) (now (out .entry))) ⌝ }
+    ensures outcome { λ r. ⌜ ((xs hs : List (List ℕ)) → respondedSaid r xs hs (now (out .exit)) ≡ respondedAs word (sessionOf session xs hs) (response found)
+        (bodyIn (now (text .entry)) s) (s .taken) (now (out .entry))) ⌝ }
+    ensures name { λ r. ⌜ r .session .name ≡ session .name ⌝ }
 {
     if !responses::fits_whole(word, found, s.body) {
         return unfit(session);
@@ -77,7 +80,9 @@ fn receive_stanza(
     out: &mut [u8],
 ) -> Responded
     requires { ⌜ readFirst (now text) ≡ stanza (s .line) (s .body) (s .taken) ⌝ }
-    ensures { λ r. ⌜ ((xs hs : List (List ℕ)) → respondedSaid r xs hs (now (out .exit)) ≡ respondedAs word (sessionOf session xs hs) (responseOf (argumentsIn (now (text .entry)) s)) (bodyIn (now (text .entry)) s) (s .taken) (now (out .entry))) ⌝ }
+    ensures outcome { λ r. ⌜ ((xs hs : List (List ℕ)) → respondedSaid r xs hs (now (out .exit)) ≡ respondedAs word (sessionOf session xs hs)
+        (responseOf (argumentsIn (now (text .entry)) s)) (bodyIn (now (text .entry)) s) (s .taken) (now (out .entry))) ⌝ }
+    ensures name { λ r. ⌜ r .session .name ≡ session .name ⌝ }
 {
     let reading = responses::read_line(stanza::arguments_of(text, s));
     match reading {
@@ -88,7 +93,9 @@ fn receive_stanza(
 
 // A text while a command awaits its response.
 fn receive_awaited(session: Session, word: WordTwo, text: &[u8], out: &mut [u8]) -> Responded
-    ensures { λ r. ⌜ ((xs hs : List (List ℕ)) → respondedSaid r xs hs (now (out .exit)) ≡ respondedText (readFirst (now (text .entry))) word (sessionOf session xs hs) (now (text .entry)) (now (out .entry))) ⌝ }
+    ensures outcome { λ r. ⌜ ((xs hs : List (List ℕ)) → respondedSaid r xs hs (now (out .exit)) ≡ respondedText (readFirst (now (text .entry))) word
+        (sessionOf session xs hs) (now (text .entry)) (now (out .entry))) ⌝ }
+    ensures name { λ r. ⌜ r .session .name ≡ session .name ⌝ }
 {
     let phase = session.phase;
     let first = stanza::read(text);
@@ -104,7 +111,9 @@ fn receive_awaited(session: Session, word: WordTwo, text: &[u8], out: &mut [u8])
 // A response at the front of a text: which it was, its body at the front of `out`, and the session. 13, 14, 1 to 3, 12 or 15 where it is refused: then `out`
 // stays as it was. It needs no slots: whatever they hold, the tables stay.
 pub fn receive_response(session: Session, text: &[u8], out: &mut [u8]) -> Responded
-    ensures { λ r. ⌜ ((xs hs : List (List ℕ)) → respondedSaid r xs hs (now (out .exit)) ≡ responded (sessionOf session xs hs) (now (text .entry)) (now (out .entry))) ⌝ }
+    ensures outcome { λ r. ⌜ ((xs hs : List (List ℕ)) → respondedSaid r xs hs (now (out .exit)) ≡ responded (sessionOf session xs hs) (now (text .entry))
+        (now (out .entry))) ⌝ }
+    ensures name { λ r. ⌜ r .session .name ≡ session .name ⌝ }
 {
     let phase = session.phase;
     let due = phase_two::answer_due(phase);

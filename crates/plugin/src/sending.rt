@@ -17,6 +17,11 @@ use session::WordTwo;
 use session::front;
 use tables::Coding;
 
+// A short store for a line, and the arguments that have room there behind a command word and its space.
+const SHORT: usize = 128;
+
+const SHORT_ARGUMENTS: usize = 112;
+
 pub struct Sent {
     pub answer: Written,
     pub session: Session,
@@ -37,7 +42,12 @@ fn send_in(
     out: &mut [u8],
 ) -> Sent
     requires { ⌜ min (length (lineSent word (now arguments))) 8192 ≤ length (now store) ⌝ }
-    ensures { λ r. ⌜ sentSaid r (now (slots .exit)) (now («header_slots» .entry)) (now (errors .exit)) (now (stanzas .exit)) (now (returned .exit)) (now (out .exit)) ≡ sentLine (sessionOf session (now (slots .entry)) (now («header_slots» .entry))) (buffersOf (now (errors .entry)) (now (stanzas .entry)) (now (returned .entry))) (lineSent word (now (arguments .entry))) (now (body .entry)) (now (out .entry)) ⌝ }
+    ensures outcome { λ r. ⌜ sentSaid r (now (slots .exit)) (now («header_slots» .entry)) (now (errors .exit)) (now (stanzas .exit)) (now (returned .exit))
+        (now (out .exit)) ≡
+        sentLine (sessionOf session (now (slots .entry)) (now («header_slots» .entry)))
+        (buffersOf (now (errors .entry)) (now (stanzas .entry)) (now (returned .entry))) (lineSent word (now (arguments .entry))) (now (body .entry))
+        (now (out .entry)) ⌝ }
+    ensures name { λ r. ⌜ r .session .name ≡ session .name ⌝ }
 {
     let put = put_line_two(word, arguments, store);
     let composed = session::compose(put, store, body);
@@ -92,10 +102,15 @@ fn send_due(
     returned: &mut [u8],
     out: &mut [u8],
 ) -> Sent
-    ensures { λ r. ⌜ sentSaid r (now (slots .exit)) (now («header_slots» .entry)) (now (errors .exit)) (now (stanzas .exit)) (now (returned .exit)) (now (out .exit)) ≡ sentLine (sessionOf session (now (slots .entry)) (now («header_slots» .entry))) (buffersOf (now (errors .entry)) (now (stanzas .entry)) (now (returned .entry))) (lineSent word (now (arguments .entry))) (now (body .entry)) (now (out .entry)) ⌝ }
+    ensures outcome { λ r. ⌜ sentSaid r (now (slots .exit)) (now («header_slots» .entry)) (now (errors .exit)) (now (stanzas .exit)) (now (returned .exit))
+        (now (out .exit)) ≡
+        sentLine (sessionOf session (now (slots .entry)) (now («header_slots» .entry)))
+        (buffersOf (now (errors .entry)) (now (stanzas .entry)) (now (returned .entry))) (lineSent word (now (arguments .entry))) (now (body .entry))
+        (now (out .entry)) ⌝ }
+    ensures name { λ r. ⌜ r .session .name ≡ session .name ⌝ }
 {
-    if arguments.len() < 112 {
-        let mut store = [0u8; 128];
+    if arguments.len() < SHORT_ARGUMENTS {
+        let mut store = [0u8; SHORT];
         return send_in(
             session,
             word,
@@ -110,7 +125,7 @@ fn send_due(
             out,
         );
     }
-    let mut store = [0u8; 8192];
+    let mut store = [0u8; stanza::LONGEST];
     send_in(
         session,
         word,
@@ -140,7 +155,11 @@ pub fn send(
     returned: &mut [u8],
     out: &mut [u8],
 ) -> Sent
-    ensures { λ r. ⌜ sentSaid r (now (slots .exit)) (now («header_slots» .entry)) (now (errors .exit)) (now (stanzas .exit)) (now (returned .exit)) (now (out .exit)) ≡ sent (sessionOf session (now (slots .entry)) (now («header_slots» .entry))) word (now (arguments .entry)) (now (body .entry)) (buffersOf (now (errors .entry)) (now (stanzas .entry)) (now (returned .entry))) (now (out .entry)) ⌝ }
+    ensures outcome { λ r. ⌜ sentSaid r (now (slots .exit)) (now («header_slots» .entry)) (now (errors .exit)) (now (stanzas .exit)) (now (returned .exit))
+        (now (out .exit)) ≡
+        sent (sessionOf session (now (slots .entry)) (now («header_slots» .entry))) word (now (arguments .entry)) (now (body .entry))
+        (buffersOf (now (errors .entry)) (now (stanzas .entry)) (now (returned .entry))) (now (out .entry)) ⌝ }
+    ensures name { λ r. ⌜ r .session .name ≡ session .name ⌝ }
 {
     let phase = session.phase;
     let turn = phase_two::turn_two(phase);

@@ -12,6 +12,13 @@ pub enum Conformity {
     Unknown,
 }
 
+// How many bytes the first two arguments and the body have.
+const SALT: usize = 32;
+
+const NONCE: usize = 12;
+
+const BODY: usize = 32;
+
 // Whether a text is base64 of n bytes.
 fn is_bytes(n: usize, text: &[u8]) -> bool
     ensures { λ r. ⌜ r ≡ isBytes n (now (text .entry)) ⌝ }
@@ -39,11 +46,11 @@ fn are_two(line: &[u8]) -> bool
     ensures { λ r. ⌜ r ≡ (isBytes 32 (argumentOf (now (line .entry)) 1) && isBytes 12 (argumentOf (now (line .entry)) 2)) ⌝ }
 {
     let salt = stanza::argument(line, 1);
-    if !is_bytes(32, salt) {
+    if !is_bytes(SALT, salt) {
         return false;
     }
     let nonce = stanza::argument(line, 2);
-    is_bytes(12, nonce)
+    is_bytes(NONCE, nonce)
 }
 
 // Whether the arguments behind the tag are those of a fido2-hmac stanza.
@@ -85,7 +92,7 @@ pub fn check(plugin: &[u8], line: &[u8], body: usize) -> Conformity
     if !are_arguments(line) {
         return Conformity::Nonconforming;
     }
-    if body == 32 {
+    if body == BODY {
         return Conformity::Conforming;
     }
     Conformity::Nonconforming

@@ -4,6 +4,7 @@ pub mod Booleans
 pub mod Lists
 pub mod Number
 pub mod Output
+pub mod Pick
 pub mod Run
 pub mod Same
 pub mod Bytes

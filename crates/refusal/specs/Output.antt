@@ -1,6 +1,8 @@
 -- A call that writes to a lent buffer (the paper's output room): what it answers, and what the buffer then holds.
-use Prim.Native.Nat.{ℕ}
+use Prim.Native.Nat.{ℕ, _<_, _≤_}
+use mathlib.Core.Path.{_≡_}
 use mathlib.Core.List.{List, _++_}
+use mathlib.Core.Logic.{_↔_}
 use mathlib.Core.Bool.{Bool}
 use lib.Dec.{ltb}
 use lib.ListN.{length, drop}
@@ -30,3 +32,12 @@ answered content buffer = pick (overflows content buffer) (refused 15) (bytes (l
 -- the buffer afterwards: the content at its front, or as it was where the content does not fit
 abbrev pub filled : List ℕ → List ℕ → List ℕ
 filled content buffer = pick (overflows content buffer) buffer (content ++ drop (length content) buffer)
+
+-- "Outside a session: .. 16 or 17, then 15": `number` exactly where the call is bad; else 15 exactly where the content is longer than the buffer; else all of it is
+-- written. "A refusal writes nothing"; else the content stands at the buffer's front
+pub record WritingJudged (number : ℕ) (IsBad : Type 0) (content buffer : List ℕ) (answer : Answer) (after : List ℕ) : Type 0 where
+  pub bad : (answer ≡ refused number) ↔ IsBad
+  pub short : (answer ≡ refused 15) ↔ ((IsBad → ⊥) × (length buffer < length content))
+  pub whole : (n : ℕ) → (answer ≡ bytes n) ↔ ((IsBad → ⊥) × (length content ≤ length buffer) × (n ≡ length content))
+  pub kept : (n : ℕ) → answer ≡ refused n → after ≡ buffer
+  pub front : (n : ℕ) → answer ≡ bytes n → after ≡ content ++ drop (length content) buffer

@@ -2,7 +2,6 @@
 // No crate of the library knows a refusal by anything but this enum; 0, no refusal, is no variant of it.
 ghost use mathlib.Core.Path.{_≡_};
 ghost use Rattle.refusal.specs.Number.{numberOf};
-ghost use Rattle.refusal.specs.Verdict.{verdictSaid, firstOf};
 
 pub enum Refusal {
     // 1: not a stanza
@@ -55,16 +54,6 @@ pub enum Written {
 pub enum Verdict {
     Accepted,
     Refused(Refusal),
-}
-
-// The first of two faults.
-pub fn first_of(verdict: Verdict, late: Verdict) -> Verdict
-    ensures { λ r. ⌜ verdictSaid r ≡ firstOf (verdictSaid verdict) (verdictSaid late) ⌝ }
-{
-    match verdict {
-        Verdict::Refused(_) => verdict,
-        Verdict::Accepted => late,
-    }
 }
 
 // The paper's number of a refusal.

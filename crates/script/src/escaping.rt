@@ -9,29 +9,32 @@ ghost use Rattle.script.specs.Escape.{hexDigit, letterOf, printed, spell
 use refusal::Refusal;
 use refusal::Written;
 
+// How far a hex digit that is a letter stands over its value, from 10 on.
+pub(crate) const LETTER_OVER: u8 = b'a' - 10;
+
 // A hex digit of a value below 16.
 fn hex_digit(v: u8) -> u8
     requires { ⌜ v < 16 ⌝ }
     ensures { λ r. ⌜ r ≡ hexDigit v ⌝ }
 {
     if v < 10 {
-        return 48 + v;
+        return b'0' + v;
     }
-    87 + v
+    LETTER_OVER + v
 }
 
 // The letter of a byte that has one, 0 for another.
 fn letter_of(b: u8) -> u8
     ensures { λ r. ⌜ r ≡ letterOf b ⌝ }
 {
-    if b == 32 {
-        return 115;
+    if b == b' ' {
+        return b's';
     }
-    if b == 10 {
-        return 110;
+    if b == b'\n' {
+        return b'n';
     }
-    if b == 92 {
-        return 92;
+    if b == b'\\' {
+        return b'\\';
     }
     0
 }
@@ -43,7 +46,7 @@ fn width(b: u8) -> usize
     if 0 < letter_of(b) {
         return 2;
     }
-    if (33 <= b) & (b <= 126) {
+    if (b'!' <= b) & (b <= b'~') {
         return 1;
     }
     4
@@ -57,16 +60,16 @@ fn put(b: u8, out: &mut [u8], at: usize) -> usize
 {
     let l = letter_of(b);
     if 0 < l {
-        out[at] = 92;
+        out[at] = b'\\';
         out[at + 1] = l;
         return at + 2;
     }
-    if (33 <= b) & (b <= 126) {
+    if (b'!' <= b) & (b <= b'~') {
         out[at] = b;
         return at + 1;
     }
-    out[at] = 92;
-    out[at + 1] = 120;
+    out[at] = b'\\';
+    out[at + 1] = b'x';
     out[at + 2] = hex_digit(b / 16);
     out[at + 3] = hex_digit(b % 16);
     at + 4
@@ -111,8 +114,8 @@ pub fn escape(bytes: &[u8], out: &mut [u8]) -> Written
         if out.len() < 2 {
             return Written::Refused(Refusal::ShortOutput);
         }
-        out[0] = 92;
-        out[1] = 101;
+        out[0] = b'\\';
+        out[1] = b'e';
         return Written::Bytes(2);
     }
     let w = spelled_length(bytes, out.len());

@@ -25,13 +25,13 @@ pub fn read_number(text: &[u8], limit: u64) -> Number
     let mut i: usize = 0;
     while i < text.len() {
         let b = text[i];
-        if b < 48 {
+        if b < b'0' {
             return Number::Bad;
         }
-        if 57 < b {
+        if b'9' < b {
             return Number::Bad;
         }
-        let d = wide(b - 48);
+        let d = wide(b - b'0');
         if limit / 10 < v {
             return Number::Bad;
         }

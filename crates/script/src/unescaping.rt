@@ -3,6 +3,7 @@
 ghost use mathlib.Core.Path.{_≡_};
 ghost use mathlib.Core.Bool.{true};
 ghost use Rattle.script.specs.Escape.{hexValue, plain, letter, digit, effect, stepSaid, unescaped, measured, sizeSaid, fits, unescapedSaid, answeredBy, filledBy};
+use crate::escaping::LETTER_OVER;
 use refusal::Refusal;
 use refusal::Written;
 
@@ -25,30 +26,45 @@ pub enum Unescaped {
     Bad,
 }
 
+// The states of a reader: between two escapes, behind a backslash, behind "\x"; behind that and a digit it is this and the digit's value.
+const PLAIN: u8 = 0;
+
+const ESCAPE: u8 = 1;
+
+const HEX: u8 = 2;
+
+const DIGIT: u8 = 16;
+
+// How far a hex digit that is a capital stands over its value, from 10 on.
+const CAPITAL_OVER: u8 = b'A' - 10;
+
+// The value of a byte that is no hex digit.
+const NO_DIGIT: u8 = 16;
+
 // The value of a hex digit of either case, 16 for another byte.
 fn hex_value(b: u8) -> u8
     ensures { λ r. ⌜ r ≡ hexValue b ⌝ }
 {
-    if (48 <= b) & (b <= 57) {
-        return b - 48;
+    if (b'0' <= b) & (b <= b'9') {
+        return b - b'0';
     }
-    if (97 <= b) & (b <= 102) {
-        return b - 87;
+    if (b'a' <= b) & (b <= b'f') {
+        return b - LETTER_OVER;
     }
-    if (65 <= b) & (b <= 70) {
-        return b - 55;
+    if (b'A' <= b) & (b <= b'F') {
+        return b - CAPITAL_OVER;
     }
-    16
+    NO_DIGIT
 }
 
 // A byte between two escapes.
 fn read_plain(b: u8) -> Step
     ensures { λ r. ⌜ stepSaid r ≡ plain b ⌝ }
 {
-    if b == 92 {
-        return Step::Moves(1);
+    if b == b'\\' {
+        return Step::Moves(ESCAPE);
     }
-    if (33 <= b) & (b <= 126) {
+    if (b'!' <= b) & (b <= b'~') {
         return Step::Gives(b);
     }
     Step::Stops
@@ -58,20 +74,20 @@ fn read_plain(b: u8) -> Step
 fn read_letter(b: u8) -> Step
     ensures { λ r. ⌜ stepSaid r ≡ letter b ⌝ }
 {
-    if b == 115 {
-        return Step::Gives(32);
+    if b == b's' {
+        return Step::Gives(b' ');
     }
-    if b == 110 {
-        return Step::Gives(10);
+    if b == b'n' {
+        return Step::Gives(b'\n');
     }
-    if b == 92 {
-        return Step::Gives(92);
+    if b == b'\\' {
+        return Step::Gives(b'\\');
     }
-    if b == 101 {
-        return Step::Moves(0);
+    if b == b'e' {
+        return Step::Moves(PLAIN);
     }
-    if b == 120 {
-        return Step::Moves(2);
+    if b == b'x' {
+        return Step::Moves(HEX);
     }
     Step::Stops
 }
@@ -81,11 +97,11 @@ fn read_digit(state: u8, b: u8) -> Step
     ensures { λ r. ⌜ stepSaid r ≡ digit state b ⌝ }
 {
     let v = hex_value(b);
-    if 16 <= v {
+    if NO_DIGIT <= v {
         return Step::Stops;
     }
-    if state == 2 {
-        return Step::Moves(16 + v);
+    if state == HEX {
+        return Step::Moves(DIGIT + v);
     }
     Step::Gives(state % 16 * 16 + v)
 }
@@ -94,10 +110,10 @@ fn read_digit(state: u8, b: u8) -> Step
 fn read_byte(state: u8, b: u8) -> Step
     ensures { λ r. ⌜ stepSaid r ≡ effect state b ⌝ }
 {
-    if state == 0 {
+    if state == PLAIN {
         return read_plain(b);
     }
-    if state == 1 {
+    if state == ESCAPE {
         return read_letter(b);
     }
     read_digit(state, b)
@@ -107,7 +123,7 @@ fn read_byte(state: u8, b: u8) -> Step
 fn measure(word: &[u8]) -> Size
     ensures { λ r. ⌜ sizeSaid r ≡ measured (unescaped (now (word .entry))) ⌝ }
 {
-    let mut state: u8 = 0;
+    let mut state: u8 = PLAIN;
     let mut n: usize = 0;
     let mut i: usize = 0;
     while i < word.len() {
@@ -118,7 +134,7 @@ fn measure(word: &[u8]) -> Size
                 state = next;
             }
             Step::Gives(_) => {
-                state = 0;
+                state = PLAIN;
                 n += 1;
             }
             Step::Stops => {
@@ -126,7 +142,7 @@ fn measure(word: &[u8]) -> Size
             }
         }
     }
-    if state == 0 {
+    if state == PLAIN {
         return Size::Bytes(n);
     }
     Size::Bad
@@ -137,7 +153,7 @@ fn unescape_into(word: &[u8], out: &mut [u8])
     requires { ⌜ fits (unescaped (now word)) (now out) ≡ true ⌝ }
     ensures { λ _. ⌜ now (out .exit) ≡ filledBy (unescaped (now (word .entry))) (now (out .entry)) ⌝ }
 {
-    let mut state: u8 = 0;
+    let mut state: u8 = PLAIN;
     let mut n: usize = 0;
     let mut i: usize = 0;
     while i < word.len() {
@@ -148,7 +164,7 @@ fn unescape_into(word: &[u8], out: &mut [u8])
                 state = next;
             }
             Step::Gives(b) => {
-                state = 0;
+                state = PLAIN;
                 out[n] = b;
                 n += 1;
             }

@@ -1,9 +1,13 @@
 -- Openings: the machine by its name, byte for byte, and the plugin's name (document 01, "Numbers given back": 18, "neither machine's name", then 17).
 use Prim.Native.Nat.{ℕ}
+use mathlib.Core.Path.{_≡_}
+use mathlib.Core.Bool.{true, false}
 use mathlib.Core.List.{List, [], _∷_}
+use mathlib.Core.Logic.{_⊎_, _↔_}
 use Rattle.refusal.specs.Pick.{pick}
 use Rattle.refusal.specs.Same.{same}
-use lib.ListN.{take}
+use lib.ListN.{length, take}
+use Rattle.bech32.specs.Calls.{padded}
 use Rattle.bech32.specs.Text.{isName}
 use Rattle.bech32.specs.declared.human.Name.{Name}
 use Rattle.refusal.specs.Verdict.{verdictSaid}
@@ -41,6 +45,10 @@ machineNamed t = pick (same t recipientV1) (named RecipientV1) (pick (same t ide
 abbrev pub nameOf : Name → List ℕ
 nameOf n = take (n .length) (n .bytes)
 
+-- and the value that holds a name: zeros stand behind its bytes
+abbrev pub held : List ℕ → Name
+held name = record { bytes = padded name; length = length name }
+
 -- the number, 0 where nothing is refused; the machine and the name
 pub record Settings : Type 0 where
   pub number : ℕ
@@ -66,3 +74,15 @@ settingsOf nameless name = refusedSettings 18
 -- No. 18 first
 abbrev pub settings : List ℕ → List ℕ → Settings
 settings machine name = settingsOf (machineNamed machine) name
+
+-- ---- when an opening is refused
+
+-- a machine's name
+abbrev pub IsMachine : List ℕ → Type 0
+IsMachine t = (t ≡ recipientV1) ⊎ (t ≡ identityV1)
+
+-- the number of an opening: 18 exactly where the machine's name is neither; else 17 exactly where the plugin's name is none in lower case; else 0
+pub record OpenedWith (machine name : List ℕ) (number : ℕ) : Type 0 where
+  pub no-machine : (number ≡ 18) ↔ (IsMachine machine → ⊥)
+  pub no-name : (number ≡ 17) ↔ (IsMachine machine × (isName name ≡ false))
+  pub accepted : (number ≡ 0) ↔ (IsMachine machine × (isName name ≡ true))

@@ -1,6 +1,7 @@
 // What both phases and both ends share: machines and phases, the kinds with their tables, slots and limits, the session and its opening, and what an end writes
 // of a stanza that it judged.
 mod kinds;
+mod marks;
 mod opening;
 mod output;
 mod phases;
@@ -10,6 +11,7 @@ mod words;
 pub use kinds::Kind;
 pub use kinds::Tables;
 pub use kinds::span_of;
+pub use marks::Mark;
 pub use opening::Machine;
 pub use output::Composed;
 pub use output::check_output;

@@ -1,6 +1,6 @@
 // The machines, and what an opening is given: a machine and a plugin by their names.
 ghost use mathlib.Core.Path.{_≡_};
-ghost use Rattle.session.specs.Opening.{machineNamed, namedSaid, settingsSaid, settingsNamed, settings};
+ghost use Rattle.session.specs.Opening.{machineNamed, namedSaid, held, settingsSaid, settingsNamed, settings};
 use bech32::Name;
 use refusal::Refusal;
 use refusal::Verdict;
@@ -41,7 +41,8 @@ pub(crate) struct Settings {
 
 // 18, then 17.
 pub(crate) fn read_settings(machine: &[u8], name: &[u8]) -> Settings
-    ensures { λ r. ⌜ settingsSaid r ≡ settings (now (machine .entry)) (now (name .entry)) ⌝ }
+    ensures settings { λ r. ⌜ settingsSaid r ≡ settings (now (machine .entry)) (now (name .entry)) ⌝ }
+    ensures name { λ r. ⌜ r .name ≡ held (settings (now (machine .entry)) (now (name .entry)) .name) ⌝ }
 {
     let named = machine_named(machine);
     match named {
@@ -56,7 +57,8 @@ pub(crate) fn read_settings(machine: &[u8], name: &[u8]) -> Settings
 
 // The plugin's name for a machine.
 fn read_name(machine: Machine, text: &[u8]) -> Settings
-    ensures { λ r. ⌜ settingsSaid r ≡ settingsNamed machine (now (text .entry)) ⌝ }
+    ensures settings { λ r. ⌜ settingsSaid r ≡ settingsNamed machine (now (text .entry)) ⌝ }
+    ensures name { λ r. ⌜ r .name ≡ held (settingsNamed machine (now (text .entry)) .name) ⌝ }
 {
     let name = bech32::name_of(text);
     if name.length == 0 {

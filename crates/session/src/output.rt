@@ -23,8 +23,10 @@ pub fn check_output(n: usize, capacity: usize) -> Verdict
 
 // Writes a stanza that was accepted.
 pub fn write_judged(verdict: Verdict, line: &[u8], body: &[u8], out: &mut [u8]) -> Written
-    ensures answer { λ r. ⌜ said r ≡ pick (eqb (verdictSaid verdict) 0) (written (now (line .entry)) (now (body .entry)) (now (out .entry))) (refused (verdictSaid verdict)) ⌝ }
-    ensures output { λ r. ⌜ now (out .exit) ≡ pick (eqb (verdictSaid verdict) 0) (bufferAfter (now (line .entry)) (now (body .entry)) (now (out .entry))) (now (out .entry)) ⌝ }
+    ensures answer { λ r. ⌜ said r ≡
+        pick (eqb (verdictSaid verdict) 0) (written (now (line .entry)) (now (body .entry)) (now (out .entry))) (refused (verdictSaid verdict)) ⌝ }
+    ensures output { λ r. ⌜ now (out .exit) ≡
+        pick (eqb (verdictSaid verdict) 0) (bufferAfter (now (line .entry)) (now (body .entry)) (now (out .entry))) (now (out .entry)) ⌝ }
 {
     match verdict {
         Verdict::Accepted => stanza::write(line, body, out),

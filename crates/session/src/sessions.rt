@@ -1,6 +1,7 @@
 // The session that an end keeps between calls, and its opening. It goes by value: payloads and entries lie in buffers and slots that each call is lent.
 ghost use mathlib.Core.Path.{_≡_};
 ghost use mathlib.Core.Bool.{true, false};
+ghost use Rattle.session.specs.Opening.{held};
 ghost use Rattle.session.specs.Session.{opened, openingSaid};
 use crate::kinds::Tables;
 use crate::kinds::open_tables;
@@ -55,14 +56,16 @@ impl Session {
 
     // A client session in phase one with empty tables.
     pub fn open(machine: &[u8], name: &[u8]) -> Opening
-        ensures { λ r. ⌜ openingSaid r ≡ opened (now (machine .entry)) (now (name .entry)) true ⌝ }
+        ensures opening { λ r. ⌜ openingSaid r ≡ opened (now (machine .entry)) (now (name .entry)) true ⌝ }
+        ensures name { λ r. ⌜ r .session .name ≡ held (opened (now (machine .entry)) (now (name .entry)) true .session .name) ⌝ }
     {
         Session::open_with(machine, name, Session::SCREEN)
     }
 
     // The same, told whether there is a screen.
     pub fn open_with(machine: &[u8], name: &[u8], screen: bool) -> Opening
-        ensures { λ r. ⌜ openingSaid r ≡ opened (now (machine .entry)) (now (name .entry)) screen ⌝ }
+        ensures opening { λ r. ⌜ openingSaid r ≡ opened (now (machine .entry)) (now (name .entry)) screen ⌝ }
+        ensures name { λ r. ⌜ r .session .name ≡ held (opened (now (machine .entry)) (now (name .entry)) screen .session .name) ⌝ }
     {
         let given = read_settings(machine, name);
         let verdict = given.verdict;
@@ -84,7 +87,8 @@ impl Session {
 
     // A plugin session: it has no screen.
     pub fn open_plugin(machine: &[u8], name: &[u8]) -> Opening
-        ensures { λ r. ⌜ openingSaid r ≡ opened (now (machine .entry)) (now (name .entry)) false ⌝ }
+        ensures opening { λ r. ⌜ openingSaid r ≡ opened (now (machine .entry)) (now (name .entry)) false ⌝ }
+        ensures name { λ r. ⌜ r .session .name ≡ held (opened (now (machine .entry)) (now (name .entry)) false .session .name) ⌝ }
     {
         Session::open_with(machine, name, false)
     }

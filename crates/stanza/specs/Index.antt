@@ -1,10 +1,11 @@
 -- An index (document 01, "Phase one"): "0" or digits without a leading zero, at most 4,294,967,295. Anything else is No. 5.
 use Prim.Native.Nat.{ℕ, zero, suc, _+_, _-_, _*_, _/_, _%_}
-use mathlib.Core.Bool.{Bool, _&&_}
+use mathlib.Core.Bool.{Bool, true, false, _&&_, not}
 use mathlib.Core.List.{List, [], _∷_, _++_}
 use lib.Dec.{leb, ltb, eqb}
 use Rattle.refusal.specs.Number.{numberOf}
 use Rattle.refusal.specs.Pick.{pick}
+use Rattle.refusal.specs.Run.{all}
 use Rattle.stanza.specs.declared.indices.Index.{Index}
 use Rattle.stanza.specs.declared.indices.Index.the-variants.{Number, Refused}
 
@@ -37,6 +38,16 @@ readIndex (b ∷ c ∷ t) = pick (eqb b 48) (refused 5) (digits 0 (b ∷ c ∷ t
 unfoldable pub valueFrom : ℕ → List ℕ → ℕ
 valueFrom v [] = v
 valueFrom v (b ∷ t) = valueFrom (v * 10 + (b - 48)) t
+
+-- "0", or no leading zero
+abbrev pub isPlain : List ℕ → Bool
+isPlain [] = false
+isPlain (b ∷ []) = true
+isPlain (b ∷ c ∷ t) = not (eqb b 48)
+
+-- "0" or digits without a leading zero, at most 4,294,967,295
+abbrev pub isIndex : List ℕ → Bool
+isIndex t = isPlain t && all isDigit t && leb (valueFrom 0 t) 4294967295
 
 -- the decimal digits of a number, with fuel for as many digits: the last digit stands behind those of the tenth part
 unfoldable pub decimalWith : ℕ → ℕ → List ℕ

@@ -8,11 +8,11 @@ ghost use Rattle.refusal.specs.Same.{same};
 ghost use Rattle.stanza.specs.Arguments.{isGraphic, isWordByte, isLine, countOf, argumentOf};
 use crate::parts::least;
 
-// A byte from 33 to 126.
+// A byte from 33, "!", to 126, "~".
 fn is_graphic(b: u8) -> bool
     ensures { λ r. ⌜ r ≡ isGraphic b ⌝ }
 {
-    (33 <= b) & (b <= 126)
+    (b'!' <= b) & (b <= b'~')
 }
 
 // Whether the 8 bytes from `at` on are all from 33 to 126. No early exit, so that the loop is vectorised.
@@ -55,7 +55,7 @@ pub(crate) fn graphic_end(text: &[u8], from: usize) -> usize
 fn is_word_byte(b: u8) -> bool
     ensures { λ r. ⌜ r ≡ isWordByte b ⌝ }
 {
-    b != 32
+    b != b' '
 }
 
 // Whether none of the 8 bytes from `at` on is a space. No early exit, so that the loop is vectorised.
@@ -95,7 +95,7 @@ fn word_end(text: &[u8], from: usize) -> usize
 }
 
 // Whether a text is one or more arguments separated by single spaces.
-pub fn is_line(line: &[u8]) -> bool
+pub(crate) fn is_line(line: &[u8]) -> bool
     ensures { λ r. ⌜ r ≡ isLine (now (line .entry)) ⌝ }
 {
     let mut at: usize = 0;
@@ -107,7 +107,7 @@ pub fn is_line(line: &[u8]) -> bool
         if end == line.len() {
             return true;
         }
-        if line[end] != 32 {
+        if line[end] != b' ' {
             return false;
         }
         at = end + 1;

@@ -3,6 +3,9 @@ ghost use mathlib.Core.Path.{_≡_};
 ghost use Rattle.stanza.specs.Index.{digits, indexSaid, readIndex};
 use refusal::Refusal;
 
+// The largest index.
+const LARGEST: u64 = 4294967295;
+
 // What reading an index gives: its number, or 5.
 pub enum Index {
     Number(u32),
@@ -17,14 +20,14 @@ fn read_digits(text: &[u8]) -> Index
     let mut i: usize = 0;
     while i < text.len() {
         let b = text[i];
-        if b < 48 {
+        if b < b'0' {
             return Index::Refused(Refusal::BadIndex);
         }
-        if 57 < b {
+        if b'9' < b {
             return Index::Refused(Refusal::BadIndex);
         }
-        v = v * 10 + wide(b - 48);
-        if 4294967295 < v {
+        v = v * 10 + wide(b - b'0');
+        if LARGEST < v {
             return Index::Refused(Refusal::BadIndex);
         }
         i += 1;
@@ -42,7 +45,7 @@ pub fn read_index(text: &[u8]) -> Index
     if text.len() == 1 {
         return read_digits(text);
     }
-    if text[0] == 48 {
+    if text[0] == b'0' {
         return Index::Refused(Refusal::BadIndex);
     }
     read_digits(text)

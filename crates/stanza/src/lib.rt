@@ -7,7 +7,6 @@ mod writing;
 
 pub use arguments::argument;
 pub use arguments::count;
-pub use arguments::is_line;
 pub use arguments::is_same;
 pub use indices::Index;
 pub use indices::read_index;
@@ -17,6 +16,15 @@ pub use parts::lines_of;
 pub use reading::First;
 pub use reading::Stanza;
 pub use reading::read;
+pub use writing::copy;
 pub use writing::join;
 pub use writing::size;
 pub use writing::write;
+
+// The longest stanza.
+pub const LONGEST: usize = 8192;
+
+// What stands before the arguments, "-> ", and with the LF behind them.
+pub(crate) const FRONT: usize = 3;
+
+pub(crate) const AROUND: usize = FRONT + 1;

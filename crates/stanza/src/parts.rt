@@ -5,6 +5,7 @@ ghost use Prim.Native.Nat.{_+_, min};
 ghost use lib.ListN.{take, drop};
 ghost use Rattle.refusal.specs.Output.{said, answered, filled};
 ghost use Rattle.stanza.specs.Parts.{argumentsIn, linesIn, bodyIn};
+use crate::FRONT;
 use crate::reading::Stanza;
 use refusal::Written;
 
@@ -14,7 +15,7 @@ pub fn arguments_of<'a>(text: &'a [u8], s: Stanza) -> &'a [u8]
 {
     let line = s.line;
     let end = least(line, text.len());
-    let from = least(3, end);
+    let from = least(FRONT, end);
     &text[from..end]
 }
 

@@ -10,6 +10,8 @@ ghost use Rattle.base64.specs.Lines.{isFull};
 ghost use Rattle.stanza.specs.Automaton.{scan, start, gap, line};
 ghost use Rattle.stanza.specs.Reading.{readSaid, readFirst, found, lineEnd};
 ghost use Rattle.stanza.specs.Steps.{goesOn, EndsAt, bodySaid};
+use crate::FRONT;
+use crate::LONGEST;
 use crate::arguments::graphic_end;
 use refusal::Refusal;
 
@@ -28,14 +30,14 @@ pub enum First {
 }
 
 // The first line: where its LF stands.
-pub enum FirstLine {
+enum FirstLine {
     Bad,
     Short,
     Ends(usize),
 }
 
 // The body: where it ends, behind its last LF.
-pub enum Body {
+enum Body {
     Bad,
     Short,
     Ends(usize),
@@ -80,14 +82,14 @@ fn read_body(w: &[u8], e: usize) -> First
 fn window(n: usize) -> usize
     ensures { λ r. ⌜ r ≡ min 8192 n ⌝ }
 {
-    if 8192 < n { 8192 } else { n }
+    if LONGEST < n { LONGEST } else { n }
 }
 
 // The fault of n bytes in which the stanza has not ended.
 fn unfinished(n: usize) -> Refusal
     ensures { λ r. ⌜ numberOf r ≡ pick (ltb n 8192) 2 3 ⌝ }
 {
-    if n < 8192 {
+    if n < LONGEST {
         return Refusal::Unfinished;
     }
     Refusal::TooLong
@@ -101,22 +103,22 @@ fn first_line(text: &[u8]) -> FirstLine
     if text.len() == 0 {
         return FirstLine::Short;
     }
-    if text[0] != 45 {
+    if text[0] != b'-' {
         return FirstLine::Bad;
     }
     if text.len() == 1 {
         return FirstLine::Short;
     }
-    if text[1] != 62 {
+    if text[1] != b'>' {
         return FirstLine::Bad;
     }
     if text.len() == 2 {
         return FirstLine::Short;
     }
-    if text[2] != 32 {
+    if text[2] != b' ' {
         return FirstLine::Bad;
     }
-    words(text, 3)
+    words(text, FRONT)
 }
 
 // The arguments from `from` on, up to their LF.
@@ -135,10 +137,10 @@ fn words(text: &[u8], from: usize) -> FirstLine
             return FirstLine::Short;
         }
         let b = text[e];
-        if b == 10 {
+        if b == b'\n' {
             return FirstLine::Ends(e);
         }
-        if b != 32 {
+        if b != b' ' {
             return FirstLine::Bad;
         }
         i = e + 1;
@@ -153,7 +155,7 @@ fn body_end(text: &[u8], from: usize) -> Body
 {
     let mut i = from;
     while base64::full_line(text, i) {
-        i += 65;
+        i += base64::LINE_LENGTH;
     }
     last_line(text, i)
 }
@@ -166,13 +168,13 @@ fn last_line(text: &[u8], from: usize) -> Body
 {
     let e = base64::characters(text, from);
     let k = e - from;
-    if 64 < k {
+    if base64::LINE_CHARACTERS < k {
         return Body::Bad;
     }
     if e == text.len() {
         return Body::Short;
     }
-    if text[e] != 10 {
+    if text[e] != b'\n' {
         return Body::Bad;
     }
     if k == 0 {

@@ -7,6 +7,9 @@ ghost use Rattle.refusal.specs.Output.{said, answered, filled};
 ghost use Rattle.stanza.specs.Arguments.{lineWith};
 ghost use Rattle.stanza.specs.Grammar.{firstLine, stanzaText};
 ghost use Rattle.stanza.specs.Writing.{sized, written, bufferAfter};
+use crate::AROUND;
+use crate::FRONT;
+use crate::LONGEST;
 use crate::arguments::is_line;
 use refusal::Refusal;
 use refusal::Written;
@@ -19,14 +22,14 @@ pub fn size(line: &[u8], body: &[u8]) -> Written
         return Written::Refused(Refusal::Unwritable);
     }
     // No sum below can wrap then.
-    if 8192 < line.len() {
+    if LONGEST < line.len() {
         return Written::Refused(Refusal::Unwritable);
     }
-    if 8192 < body.len() {
+    if LONGEST < body.len() {
         return Written::Refused(Refusal::Unwritable);
     }
-    let n = line.len() + 4 + base64::lines_length(body);
-    if 8192 < n {
+    let n = line.len() + AROUND + base64::lines_length(body);
+    if LONGEST < n {
         return Written::Refused(Refusal::Unwritable);
     }
     Written::Bytes(n)
@@ -53,10 +56,11 @@ pub fn write(line: &[u8], body: &[u8], out: &mut [u8]) -> Written
 // The same where the buffer is long enough.
 fn write_into(line: &[u8], body: &[u8], out: &mut [u8])
     requires { ⌜ length (stanzaText (now line) (now body)) ≤ length (now out) ⌝ }
-    ensures { λ _. ⌜ now (out .exit) ≡ stanzaText (now (line .entry)) (now (body .entry)) ++ drop (length (stanzaText (now (line .entry)) (now (body .entry)))) (now (out .entry)) ⌝ }
+    ensures { λ _. ⌜ now (out .exit) ≡
+        stanzaText (now (line .entry)) (now (body .entry)) ++ drop (length (stanzaText (now (line .entry)) (now (body .entry)))) (now (out .entry)) ⌝ }
 {
     write_line(line, out);
-    let at = line.len() + 4;
+    let at = line.len() + AROUND;
     base64::encode_lines(body, &mut out[at..]);
 }
 
@@ -68,8 +72,8 @@ fn write_line(line: &[u8], out: &mut [u8])
     out[0] = b'-';
     out[1] = b'>';
     out[2] = b' ';
-    copy(line, &mut out[3..]);
-    let at = line.len() + 3;
+    copy(line, &mut out[FRONT..]);
+    let at = line.len() + FRONT;
     out[at] = b'\n';
 }
 
@@ -99,7 +103,9 @@ pub fn join(command: &[u8], arguments: &[u8], out: &mut [u8]) -> Written
 // The two with a space between them at the front of `out`, which is long enough.
 fn join_into(command: &[u8], arguments: &[u8], out: &mut [u8])
     requires { ⌜ length (now command) + 1 + length (now arguments) ≤ length (now out) ⌝ }
-    ensures { λ _. ⌜ now (out .exit) ≡ (now (command .entry) ++ 32 ∷ now (arguments .entry)) ++ drop (length (now (command .entry)) + 1 + length (now (arguments .entry))) (now (out .entry)) ⌝ }
+    ensures { λ _. ⌜ now (out .exit) ≡
+        (now (command .entry) ++ 32 ∷ now (arguments .entry)) ++ drop (length (now (command .entry)) + 1 + length (now (arguments .entry))) (now (out .entry))
+        ⌝ }
 {
     let n = command.len();
     copy(command, out);
@@ -108,15 +114,16 @@ fn join_into(command: &[u8], arguments: &[u8], out: &mut [u8])
     copy(arguments, &mut out[from..]);
 }
 
-// All of src at the front of `out`, which is long enough.
-fn copy(src: &[u8], out: &mut [u8])
-    requires { ⌜ length (now src) ≤ length (now out) ⌝ }
-    ensures { λ _. ⌜ now (out .exit) ≡ now (src .entry) ++ drop (length (now (src .entry))) (now (out .entry)) ⌝ }
+// A part at the front of `out`; nothing where it is too short.
+pub fn copy(part: &[u8], out: &mut [u8])
+    ensures { λ _. ⌜ now (out .exit) ≡ filled (now (part .entry)) (now (out .entry)) ⌝ }
 {
-    let n = src.len();
+    if out.len() < part.len() {
+        return;
+    }
     let mut i: usize = 0;
-    while i < n {
-        out[i] = src[i];
+    while i < part.len() {
+        out[i] = part[i];
         i += 1;
     }
 }

@@ -1,7 +1,21 @@
-// Values of characters, and letters by case.
+// The constants of Bech32, those of the checksum and the alphabet; values of characters, and letters by case.
 ghost use mathlib.Core.Path.{_≡_};
 ghost use Rattle.symbols.specs.Charset.{isUpper, isLower, lower};
 ghost use Rattle.symbols.specs.Steps.{Values, valueIn};
+
+// What the five top bits of the checksum's state fold in.
+pub(crate) const CONSTANTS: [u32; 5] = [0x3b6a57b2, 0x26508e6d, 0x1ea119fa, 0x3d4233dd, 0x2a1462b3];
+
+// The character of each value, in lower and in upper case.
+pub const ALPHABET: [u8; 32] = *b"qpzry9x8gf2tvdw0s3jn54khce6mua7l";
+
+pub const CAPITALS: [u8; 32] = *b"QPZRY9X8GF2TVDW0S3JN54KHCE6MUA7L";
+
+// The largest value.
+pub(crate) const LAST_SYMBOL: u8 = 31;
+
+// How far a letter in lower case stands over its capital.
+pub const CASE: u8 = b'a' - b'A';
 
 // The value of each byte, a letter's in either case; 32 for one outside the alphabet.
 const VALUES: [u8; 256] = [
@@ -286,13 +300,13 @@ pub(crate) fn look_up(table: &[u8; 256], b: u8) -> u8
 pub fn is_upper(b: u8) -> bool
     ensures { λ r. ⌜ r ≡ isUpper b ⌝ }
 {
-    (65 <= b) & (b <= 90)
+    (b'A' <= b) & (b <= b'Z')
 }
 
 pub fn is_lower(b: u8) -> bool
     ensures { λ r. ⌜ r ≡ isLower b ⌝ }
 {
-    (97 <= b) & (b <= 122)
+    (b'a' <= b) & (b <= b'z')
 }
 
 // A byte in lower case.
@@ -300,7 +314,7 @@ pub fn lowered(b: u8) -> u8
     ensures { λ r. ⌜ r ≡ lower b ⌝ }
 {
     if is_upper(b) {
-        return b + 32;
+        return b + CASE;
     }
     b
 }

@@ -6,11 +6,13 @@ ghost use Rattle.symbols.specs.Charset.{lower};
 ghost use Rattle.symbols.specs.Checksum.{taken, stepped, polymod, expanded};
 ghost use Rattle.symbols.specs.Calls.{closes};
 ghost use Rattle.symbols.specs.Steps.{valueIn};
+use crate::charset::CONSTANTS;
+use crate::charset::LAST_SYMBOL;
 use crate::charset::look_up;
 use crate::charset::lowered;
 
-// What the five top bits of the state fold in.
-const CONSTANTS: [u32; 5] = [0x3b6a57b2, 0x26508e6d, 0x1ea119fa, 0x3d4233dd, 0x2a1462b3];
+// 2 to the 25th: the state's five top bits stand from there on.
+const TOP: u32 = 33554432;
 
 // The constant where its bit is set.
 fn take_if(bit: u32, constant: u32) -> u32
@@ -23,12 +25,12 @@ fn take_if(bit: u32, constant: u32) -> u32
 }
 
 // The state after one symbol.
-pub fn step(state: u32, symbol: u32) -> u32
+fn step(state: u32, symbol: u32) -> u32
     ensures { λ r. ⌜ r ≡ stepped state symbol ⌝ }
 {
     let constants = CONSTANTS;
-    let mut bits = state / 33554432;
-    let mut r = (state % 33554432 * 32) ^ symbol;
+    let mut bits = state / TOP;
+    let mut r = (state % TOP * 32) ^ symbol;
     let mut i: usize = 0;
     while i < 5 {
         r = r ^ take_if(bits % 2, constants[i]);
@@ -100,7 +102,7 @@ pub fn is_closed(table: &[u8; 256], text: &[u8], from: u32) -> bool
     let mut i: usize = 0;
     while i < text.len() {
         let v = look_up(table, text[i]);
-        if 31 < v {
+        if LAST_SYMBOL < v {
             return false;
         }
         state = step(state, wide(v));

@@ -3,6 +3,9 @@ mod charset;
 mod checksum;
 mod regroup;
 
+pub use charset::ALPHABET;
+pub use charset::CAPITALS;
+pub use charset::CASE;
 pub use charset::is_lower;
 pub use charset::is_upper;
 pub use charset::lowered;
@@ -10,7 +13,6 @@ pub use charset::values;
 pub use checksum::fold_human;
 pub use checksum::fold_symbols;
 pub use checksum::is_closed;
-pub use checksum::step;
 pub use regroup::bytes_length;
 pub use regroup::decode;
 pub use regroup::encode;

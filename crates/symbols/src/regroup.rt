@@ -110,7 +110,9 @@ pub fn decode(table: &[u8; 256], text: &[u8], out: &mut [u8])
 // The same where it is long enough.
 fn decode_into(table: &[u8; 256], text: &[u8], out: &mut [u8])
     requires { ⌜ bytesSize (length (now text)) ≤ length (now out) ⌝ }
-    ensures { λ _. ⌜ now (out .exit) ≡ bytes (map (symbolIn (now (table .entry))) (now (text .entry))) ++ drop (length (bytes (map (symbolIn (now (table .entry))) (now (text .entry))))) (now (out .entry)) ⌝ }
+    ensures { λ _. ⌜ now (out .exit) ≡
+        bytes (map (symbolIn (now (table .entry))) (now (text .entry))) ++ drop (length (bytes (map (symbolIn (now (table .entry))) (now (text .entry)))))
+        (now (out .entry)) ⌝ }
 {
     let n = text.len() / 8;
     let mut i: usize = 0;
@@ -151,7 +153,9 @@ fn decode_group(table: &[u8; 256], text: &[u8], out: &mut [u8])
 fn decode_rest(table: &[u8; 256], text: &[u8], out: &mut [u8])
     requires { ⌜ length (now text) < 8 ⌝ }
     requires { ⌜ bytesSize (length (now text)) ≤ length (now out) ⌝ }
-    ensures { λ _. ⌜ now (out .exit) ≡ bytes (map (symbolIn (now (table .entry))) (now (text .entry))) ++ drop (length (bytes (map (symbolIn (now (table .entry))) (now (text .entry))))) (now (out .entry)) ⌝ }
+    ensures { λ _. ⌜ now (out .exit) ≡
+        bytes (map (symbolIn (now (table .entry))) (now (text .entry))) ++ drop (length (bytes (map (symbolIn (now (table .entry))) (now (text .entry)))))
+        (now (out .entry)) ⌝ }
 {
     let n = text.len();
     if n < 2 {

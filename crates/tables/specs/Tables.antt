@@ -1,5 +1,7 @@
 -- The tables (document 01, "Phase one": "Each kind has its own numbering from 0 and its own lent room", there called places and rooms).
-use Prim.Native.Nat.{ℕ, _+_}
+use Prim.Native.Nat.{ℕ, _+_, _<_, _≤_}
+use mathlib.Core.Path.{_≡_}
+use mathlib.Core.Logic.{_⊎_, _↔_}
 use mathlib.Core.Bool.{Bool, _&&_}
 use mathlib.Core.List.{List, [], _++_, map}
 use lib.Dec.{ltb, leb}
@@ -10,7 +12,7 @@ use Rattle.tables.specs.declared.slots.Entry.{Entry}
 use Rattle.tables.specs.Slots.{slotsOf}
 use Rattle.tables.specs.declared.slots.Span.{Span}
 use Rattle.tables.specs.declared.tables.Table.{Table as CodeTable}
-use Rattle.tables.specs.declared.tables.Found.{Found}
+use Rattle.tables.specs.declared.tables.Found.{Found as CodeFound}
 use Rattle.tables.specs.declared.tables.Found.the-variants as the
 
 -- `width` slots, of which the first `count` are entries; their payloads take the first `used` bytes of the kind's buffer
@@ -79,9 +81,19 @@ kept t payload buffer = pick (fits t (length payload) (length buffer)) (placed t
 
 -- ---- look-up: "If there is none, or the room lent is too short for it, the part is empty"
 
+-- an entry's start, length, index and mark, or nothing
+pub data Found : Type 0 where
+  entry : Entry → Found
+  nothing : Found
+
+-- what the code's answer stands for
+abbrev pub foundSaid : CodeFound → Found
+foundSaid (the.Entry e) = entry e
+foundSaid the.Nothing = nothing
+
 -- the entry of a number
 abbrev pub found : Table → ℕ → Found
-found t n = pick (ltb n (t .count) && ltb n (t .width)) (the.Entry (getD (t .slots) n empty)) the.Nothing
+found t n = pick (ltb n (t .count) && ltb n (t .width)) (entry (getD (t .slots) n empty)) nothing
 
 -- `n` bytes of the buffer from `start` on, none where it is too short for them
 abbrev pub partOf : ℕ → ℕ → List ℕ → List ℕ
@@ -89,5 +101,19 @@ partOf start n buffer = pick (leb (start + n) (length buffer)) (take n (drop sta
 
 -- the entry's payload as a part of the buffer
 abbrev pub shown : Found → List ℕ → List ℕ
-shown the.Nothing buffer = []
-shown (the.Entry e) buffer = partOf (e .start) (e .length) buffer
+shown nothing buffer = []
+shown (entry e) buffer = partOf (e .start) (e .length) buffer
+
+-- where the payload of the entry of a number ends in the buffer
+abbrev pub endOf : Table → ℕ → ℕ
+endOf t n = let e = getD (t .slots) n empty in e .start + e .length
+
+-- the payload of a row, empty where there is none of that number
+abbrev pub payloadAt : List Row → ℕ → List ℕ
+payloadAt rows n = getD rows n (record { payload = []; index = 0; mark = 0 }) .payload
+
+-- a look-up that shows `part` of a buffer for number n: the payload of row n where the buffer is long enough for it; empty exactly if there is no row n or the buffer
+-- is too short for it
+pub record Looked (part : List ℕ) (t : Table) (buffer : List ℕ) (n : ℕ) : Type 0 where
+  pub there : n < length (view t buffer) → endOf t n ≤ length buffer → part ≡ payloadAt (view t buffer) n
+  pub empty-iff : (part ≡ []) ↔ ((length (view t buffer) ≤ n) ⊎ (length buffer < endOf t n))

@@ -21,25 +21,13 @@ pub fn body_size(coding: Coding, source: &[u8]) -> usize
     }
 }
 
-// A part at the front of `out`, which is long enough.
-fn copy(part: &[u8], out: &mut [u8])
-    requires { ⌜ length (now part) ≤ length (now out) ⌝ }
-    ensures { λ _. ⌜ now (out .exit) ≡ now (part .entry) ++ drop (length (now (part .entry))) (now (out .entry)) ⌝ }
-{
-    let mut i: usize = 0;
-    while i < part.len() {
-        out[i] = part[i];
-        i += 1;
-    }
-}
-
 // A body at the front of `out`, which is long enough.
 pub(crate) fn put_body(coding: Coding, source: &[u8], out: &mut [u8])
     requires { ⌜ length (bodyFrom coding (now source)) ≤ length (now out) ⌝ }
     ensures { λ _. ⌜ now (out .exit) ≡ bodyFrom coding (now (source .entry)) ++ drop (length (bodyFrom coding (now (source .entry)))) (now (out .entry)) ⌝ }
 {
     match coding {
-        Coding::Bytes => copy(source, out),
+        Coding::Bytes => stanza::copy(source, out),
         Coding::Lines => {
             base64::decode_lines(source, out);
         }
@@ -49,10 +37,12 @@ pub(crate) fn put_body(coding: Coding, source: &[u8], out: &mut [u8])
 // A line, an LF and a body at the front of `out`, which is long enough.
 pub(crate) fn put_lines(line: &[u8], coding: Coding, source: &[u8], out: &mut [u8])
     requires { ⌜ length (now line) + 1 + length (bodyFrom coding (now source)) ≤ length (now out) ⌝ }
-    ensures { λ _. ⌜ now (out .exit) ≡ (now (line .entry) ++ 10 ∷ bodyFrom coding (now (source .entry))) ++ drop (length (now (line .entry)) + 1 + length (bodyFrom coding (now (source .entry)))) (now (out .entry)) ⌝ }
+    ensures { λ _. ⌜ now (out .exit) ≡
+        (now (line .entry) ++ 10 ∷ bodyFrom coding (now (source .entry))) ++ drop
+        (length (now (line .entry)) + 1 + length (bodyFrom coding (now (source .entry)))) (now (out .entry)) ⌝ }
 {
     let n = line.len();
-    copy(line, out);
+    stanza::copy(line, out);
     out[n] = b'\n';
     let from = n + 1;
     put_body(coding, source, &mut out[from..]);

@@ -11,7 +11,7 @@ ghost use Rattle.refusal.specs.Verdict.{verdictSaid};
 ghost use Rattle.tables.specs.Bodies.{bodyFrom};
 ghost use Rattle.tables.specs.Slots.{areApart, slotsOf};
 ghost use Rattle.tables.specs.declared.slots.Span.{Span as AnySpan};
-ghost use Rattle.tables.specs.Tables.{tableIn, storing, entered, kept, found, shown, partOf};
+ghost use Rattle.tables.specs.Tables.{tableIn, storing, entered, kept, foundSaid, found, shown, partOf};
 use crate::copying::Coding;
 use crate::copying::body_size;
 use crate::copying::put_body;
@@ -64,7 +64,7 @@ impl Table {
 
     // What stands at a number.
     pub fn find(self, span: Span, n: usize, slots: &[[usize; 4]]) -> Found
-        ensures { λ r. ⌜ r ≡ found (tableIn span self (now (slots .entry))) n ⌝ }
+        ensures { λ r. ⌜ foundSaid r ≡ found (tableIn span self (now (slots .entry))) n ⌝ }
     {
         if self.count <= n {
             return Found::Nothing;
@@ -87,7 +87,9 @@ impl Table {
         slots: &mut [[usize; 4]],
     ) -> Stored
         ensures number { λ r. ⌜ verdictSaid (r .verdict) ≡ storing (tableIn span self (now (slots .entry))) n capacity (verdictSaid late) ⌝ }
-        ensures table { λ r. ⌜ tableIn span (r .table) (now (slots .exit)) ≡ pick (eqb (storing (tableIn span self (now (slots .entry))) n capacity (verdictSaid late)) 0) (entered (tableIn span self (now (slots .entry))) n index mark capacity) (tableIn span self (now (slots .entry))) ⌝ }
+        ensures table { λ r. ⌜ tableIn span (r .table) (now (slots .exit)) ≡
+            pick (eqb (storing (tableIn span self (now (slots .entry))) n capacity (verdictSaid late)) 0)
+            (entered (tableIn span self (now (slots .entry))) n index mark capacity) (tableIn span self (now (slots .entry))) ⌝ }
         ensures others { λ r. ⌜ ((k : AnySpan) → areApart span k ≡ true → slotsOf k (now (slots .exit)) ≡ slotsOf k (now (slots .entry))) ⌝ }
     {
         let count = self.count;
@@ -134,10 +136,18 @@ impl Table {
         slots: &mut [[usize; 4]],
         buffer: &mut [u8],
     ) -> Stored
-        ensures number { λ r. ⌜ verdictSaid (r .verdict) ≡ storing (tableIn span self (now (slots .entry))) (length (bodyFrom coding (now (source .entry)))) (length (now (buffer .entry))) (verdictSaid late) ⌝ }
-        ensures table { λ r. ⌜ tableIn span (r .table) (now (slots .exit)) ≡ pick (eqb (storing (tableIn span self (now (slots .entry))) (length (bodyFrom coding (now (source .entry)))) (length (now (buffer .entry))) (verdictSaid late)) 0) (entered (tableIn span self (now (slots .entry))) (length (bodyFrom coding (now (source .entry)))) index mark (length (now (buffer .entry)))) (tableIn span self (now (slots .entry))) ⌝ }
+        ensures number { λ r. ⌜ verdictSaid (r .verdict) ≡
+            storing (tableIn span self (now (slots .entry))) (length (bodyFrom coding (now (source .entry)))) (length (now (buffer .entry))) (verdictSaid late)
+            ⌝ }
+        ensures table { λ r. ⌜ tableIn span (r .table) (now (slots .exit)) ≡
+            pick (eqb (storing (tableIn span self (now (slots .entry))) (length (bodyFrom coding (now (source .entry)))) (length (now (buffer .entry)))
+            (verdictSaid late)) 0) (entered (tableIn span self (now (slots .entry))) (length (bodyFrom coding (now (source .entry)))) index mark
+            (length (now (buffer .entry)))) (tableIn span self (now (slots .entry))) ⌝ }
         ensures others { λ r. ⌜ ((k : AnySpan) → areApart span k ≡ true → slotsOf k (now (slots .exit)) ≡ slotsOf k (now (slots .entry))) ⌝ }
-        ensures buffer { λ r. ⌜ now (buffer .exit) ≡ pick (eqb (storing (tableIn span self (now (slots .entry))) (length (bodyFrom coding (now (source .entry)))) (length (now (buffer .entry))) (verdictSaid late)) 0) (kept (tableIn span self (now (slots .entry))) (bodyFrom coding (now (source .entry))) (now (buffer .entry))) (now (buffer .entry)) ⌝ }
+        ensures buffer { λ r. ⌜ now (buffer .exit) ≡
+            pick (eqb (storing (tableIn span self (now (slots .entry))) (length (bodyFrom coding (now (source .entry)))) (length (now (buffer .entry)))
+            (verdictSaid late)) 0) (kept (tableIn span self (now (slots .entry))) (bodyFrom coding (now (source .entry))) (now (buffer .entry)))
+            (now (buffer .entry)) ⌝ }
     {
         let used = self.used;
         let n = body_size(coding, source);
@@ -165,10 +175,20 @@ impl Table {
         slots: &mut [[usize; 4]],
         buffer: &mut [u8],
     ) -> Stored
-        ensures number { λ r. ⌜ verdictSaid (r .verdict) ≡ storing (tableIn span self (now (slots .entry))) (length (now (line .entry) ++ 10 ∷ bodyFrom coding (now (source .entry)))) (length (now (buffer .entry))) (verdictSaid late) ⌝ }
-        ensures table { λ r. ⌜ tableIn span (r .table) (now (slots .exit)) ≡ pick (eqb (storing (tableIn span self (now (slots .entry))) (length (now (line .entry) ++ 10 ∷ bodyFrom coding (now (source .entry)))) (length (now (buffer .entry))) (verdictSaid late)) 0) (entered (tableIn span self (now (slots .entry))) (length (now (line .entry) ++ 10 ∷ bodyFrom coding (now (source .entry)))) index mark (length (now (buffer .entry)))) (tableIn span self (now (slots .entry))) ⌝ }
+        ensures number { λ r. ⌜ verdictSaid (r .verdict) ≡
+            storing (tableIn span self (now (slots .entry))) (length (now (line .entry) ++ 10 ∷ bodyFrom coding (now (source .entry))))
+            (length (now (buffer .entry))) (verdictSaid late) ⌝ }
+        ensures table { λ r. ⌜ tableIn span (r .table) (now (slots .exit)) ≡
+            pick (eqb (storing (tableIn span self (now (slots .entry))) (length (now (line .entry) ++ 10 ∷ bodyFrom coding (now (source .entry))))
+            (length (now (buffer .entry))) (verdictSaid late)) 0)
+            (entered (tableIn span self (now (slots .entry))) (length (now (line .entry) ++ 10 ∷ bodyFrom coding (now (source .entry)))) index mark
+            (length (now (buffer .entry)))) (tableIn span self (now (slots .entry))) ⌝ }
         ensures others { λ r. ⌜ ((k : AnySpan) → areApart span k ≡ true → slotsOf k (now (slots .exit)) ≡ slotsOf k (now (slots .entry))) ⌝ }
-        ensures buffer { λ r. ⌜ now (buffer .exit) ≡ pick (eqb (storing (tableIn span self (now (slots .entry))) (length (now (line .entry) ++ 10 ∷ bodyFrom coding (now (source .entry)))) (length (now (buffer .entry))) (verdictSaid late)) 0) (kept (tableIn span self (now (slots .entry))) (now (line .entry) ++ 10 ∷ bodyFrom coding (now (source .entry))) (now (buffer .entry))) (now (buffer .entry)) ⌝ }
+        ensures buffer { λ r. ⌜ now (buffer .exit) ≡
+            pick (eqb (storing (tableIn span self (now (slots .entry))) (length (now (line .entry) ++ 10 ∷ bodyFrom coding (now (source .entry))))
+            (length (now (buffer .entry))) (verdictSaid late)) 0)
+            (kept (tableIn span self (now (slots .entry))) (now (line .entry) ++ 10 ∷ bodyFrom coding (now (source .entry))) (now (buffer .entry)))
+            (now (buffer .entry)) ⌝ }
     {
         let used = self.used;
         let n = line.len() + 1 + body_size(coding, source);
@@ -186,7 +206,7 @@ impl Table {
 
 // The payload of what was found, a part of its kind's buffer; empty where there is no entry, or the buffer is too short for it.
 pub fn payload<'a>(found: Found, buffer: &'a [u8]) -> &'a [u8]
-    ensures { λ r. ⌜ now r ≡ shown found (now (buffer .entry)) ⌝ }
+    ensures { λ r. ⌜ now r ≡ shown (foundSaid found) (now (buffer .entry)) ⌝ }
 {
     let capacity = buffer.len();
     match found {

@@ -10,7 +10,7 @@ use native.Mathlib.Omega.{arith}
 use Rattle.refusal.proofs.Laws.Booleans.{cases}
 use Rattle.refusal.proofs.Laws.Lists.{drop-one, part-rest, put-rest, overwrite-part}
 use Rattle.base64.specs.Alphabet.{valueOf, characterOf}
-use Rattle.base64.specs.Code.{encoded, decoded, isBase64, base64, notBase64, measured}
+use Rattle.base64.specs.Code.{encoded, decoded, isBase64, Judged, base64, notBase64, measured}
 
 pub decoded-length : (t : List ℕ) → length (decoded t) ≡ decodedSize (length t)
 unfolding decoded
@@ -139,12 +139,15 @@ encoded-two (a ∷ []) h = absurd (omega arith)
 encoded-two (a ∷ b ∷ []) h = refl
 encoded-two (a ∷ b ∷ c ∷ t) h = absurd (omega arith)
 
--- what measuring tells
-pub measured-size : (t : List ℕ) (n : ℕ) → base64 n ≡ measured t → (isBase64 t ≡ true) × (n ≡ length (decoded t))
-measured-size t n e =
-    cases (isBase64 t) (λ h. let e′ : base64 n ≡ base64 (length (decoded t)) = rw h at e in (h, (cc)))
-    (λ h. let e′ : base64 n ≡ notBase64 = rw h at e in let z : _≡_ {A = ℕ} 0 1 = cc in absurd (omega arith))
+-- what measuring says of a text
+pub measured-is : (t : List ℕ) (m : ℕ) → measured t ≡ base64 m → (isBase64 t ≡ true) × (length (decoded t) ≡ m)
+measured-is t m e =
+    cases (isBase64 t)
+    (λ i. let q : base64 (length (decoded t)) ≡ base64 m = rw i at e in let n : length (decoded t) ≡ m = cc in (i, n))
+    (λ i. let q : _≡_ {A = Judged ℕ} notBase64 (base64 m) = rw i at e in let z : _≡_ {A = ℕ} 0 1 = cc in absurd (omega arith))
 
-pub measured-none : (t : List ℕ) → notBase64 ≡ measured t → isBase64 t ≡ false
-measured-none t e =
-    cases (isBase64 t) (λ h. let e′ : notBase64 ≡ base64 (length (decoded t)) = rw h at e in let z : _≡_ {A = ℕ} 0 1 = cc in absurd (omega arith)) (λ h. h)
+pub measured-not : (t : List ℕ) → measured t ≡ notBase64 → isBase64 t ≡ false
+measured-not t e =
+    cases (isBase64 t)
+    (λ i. let q : _≡_ {A = Judged ℕ} (base64 (length (decoded t))) notBase64 = rw i at e in let z : _≡_ {A = ℕ} 0 1 = cc in absurd (omega arith))
+    (λ i. i)

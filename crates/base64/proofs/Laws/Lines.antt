@@ -102,6 +102,13 @@ lines-drop (suc i) b h =
 pub lines-last : (b : List ℕ) → length b < 48 → linesOf b ≡ encoded b ++ (10 ∷ [])
 lines-last b h = wrapped-last 0 (encoded b) (omega (arith, encoded-length b))
 
+-- a full line has 64 characters, the last fewer
+pub full-length : (b : List ℕ) → 48 ≤ length b → length (encoded (take 48 b)) ≡ 64
+full-length b h = simp (encoded-length (take 48 b), length-take-le 48 b h)
+
+pub last-length : (b : List ℕ) → length b < 48 → length (encoded b) < 64
+last-length b h = omega (arith, encoded-length b)
+
 -- the buffer behind i full lines has space for the next, and for the last
 decoded-size : (i r : ℕ) → decodedSize (64 * i + r) ≡ 48 * i + decodedSize r
 decoded-size i r =

@@ -20,7 +20,7 @@ use Rattle.refusal.proofs.Laws.Same.{same-refl, same-eq}
 use Rattle.symbols.specs.Charset.{valueOf, characterOf, isUpper, isLower, lower, upper}
 use Rattle.symbols.specs.Checksum.{areSymbols, polymod, checksum, expanded}
 use Rattle.symbols.specs.Regroup.{symbols, bytes, isWhole}
-use Rattle.bech32.specs.Text.{recipient, identity, isNameByte, isName, Form, humanPart, plainText, textOf, isCased, inCase, noUpper, isNotOne, separator, nameIn, parsed, none, humanIn, valuesIn, payloadIn, isChecked, isHuman, isText, parse}
+use Rattle.bech32.specs.Text.{recipient, identity, isNameByte, isName, Form, humanPart, plainText, textOf, isCased, inCase, noUpper, isNotOne, separator, nameIn, parsed, none, humanIn, valuesIn, payloadIn, isChecked, isHuman, isText, parse, Read}
 use Rattle.bech32.specs.Calls.{formOf}
 use Rattle.bech32.specs.declared.TextKind.{TextKind}
 use Rattle.bech32.specs.declared.TextKind.the-variants.{Recipient, Identity}
@@ -289,13 +289,6 @@ payload-symbols l e =
     let n : ℕ = length (valuesIn l) - 6 in
     and-true (areSymbols (take n (valuesIn l))) (areSymbols (drop n (valuesIn l))) (sym (all-append (λ d. ltb d 32) (take n (valuesIn l)) (drop n (valuesIn l))) ∙ ap areSymbols (take-append-drop n (valuesIn l)) ∙ b .1) .0
 
--- what a text that was read is
-pub record Read (k : Form) (t name payload : List ℕ) : Type 0 where
-  pub isNamed : isName name ≡ true
-  pub areRead : areBytes payload ≡ true
-  pub limit : length t ≤ 1024
-  pub text : textOf k name payload ≡ t
-
 read-is : (k : Form) (t : List ℕ) → isText k t ≡ true → Read k t (nameIn k (humanIn (map lower t))) (bytes (payloadIn (map lower t)))
 unfolding isText isHuman
 read-is k t e =
@@ -330,6 +323,13 @@ pub parse-iff : (k : Form) → Plain k → (t name payload : List ℕ) → (pars
 parse-iff k pl t name payload = (
   text-parse k t name payload,
   λ r. ap (parse k) (sym (r .text)) ∙ parse-text k pl name payload (r .isNamed) (r .areRead) (rw (r .text) (r .limit)),
+)
+
+-- and every other text as none
+pub none-iff : (k : Form) → Plain k → (t : List ℕ) → (parse k t ≡ none) ↔ ((name payload : List ℕ) → Read k t name payload → ⊥)
+none-iff k pl t = (
+  λ e name payload r. let f : parse k t ≡ parsed name payload = parse-iff k pl t name payload .1 r in let z : _≡_ {A = ℕ} 0 1 = cc in omega arith,
+  λ h. cases (isText k t) (λ i. absurd (h (nameIn k (humanIn (map lower t))) (bytes (payloadIn (map lower t))) (read-is k t i))) (λ i. rw i),
 )
 
 -- for recipients, and for identities

@@ -22,23 +22,17 @@ use Rattle.session.specs.Tables.{Tables}
 use Rattle.phase_one.specs.PhaseOne.{BuffersOne, commandIn, payloadIn, falls, decided, applied, numberOne}
 use Rattle.refusal.specs.Verdict.{firstOf}
 use Rattle.phase_one.specs.Turns.{turnOne}
-use Rattle.phase_one.specs.Views.{KindOne, recipients, identities, keys, headers, tableOf, bufferOf, viewOf, rowsOf}
+use Rattle.phase_one.specs.Views.{KindOne, recipients, identities, keys, headers, tableOf, bufferOf, rowsOf}
 use Rattle.session.specs.declared.phases.Phase.the-variants.{One}
 use Rattle.phase_one.proofs.Laws.Views.{Reached, space, header-space}
-use Rattle.session.specs.Session.{Session}
+use Rattle.session.specs.Session.{Session, opened}
+use Rattle.conversation.specs.Agreement.{Alike, Agreed, SameViews}
 use Rattle.conversation.specs.Receiving.{took, Received, refusedReceipt, receivedStanza, receivedAs, received}
 use Rattle.conversation.specs.Sending.{Sent, sent}
 use Rattle.conversation.specs.Kinds as kinds
 use Rattle.conversation.specs.PhaseTwo as two
 use Rattle.conversation.specs.Calls.{sentNumber, sentSize, sentOutcome, send}
 use Rattle.conversation.proofs.Laws.Accepted.{Applied, AppliedOne, applied-rows, one-applied, accepted}
-
--- the two ends' sessions, but for the screen
-pub record Alike (s s′ : Session) : Type 0 where
-  pub machine : s .machine ≡ s′ .machine
-  pub name : s .name ≡ s′ .name
-  pub phase : s .phase ≡ s′ .phase
-  pub tables : s .tables ≡ s′ .tables
 
 -- ---- the decision again, with other buffers that are long enough
 
@@ -104,13 +98,10 @@ module _ (s : Session) (b : BuffersOne) (line body : List ℕ) where
 abbrev lent : BuffersOne → kinds.Buffers
 lent b = kinds.buffersOf b (two.buffersOf [] [] [])
 
--- a sending r by the client's session s, and a receipt r′ by the plugin's s′: n bytes are written, the stanza's text; all of them are taken, as the same
--- command; the sessions are alike again, and views that were equal are equal again
-pub record Agreed (s s′ : Session) (b b′ : BuffersOne) (line body : List ℕ) (n : ℕ) (r : Sent) (r′ : Received) : Type 0 where
-  pub written : take n (r .output) ≡ stanzaText line body
-  pub answer : r′ .answer ≡ took (wordOf (commandIn (s .machine) (s .name) line body)) n
-  pub alike : Alike (r .session) (r′ .session)
-  pub views : Reached (s .tables) → ((k : KindOne) → viewOf k (s .tables) b ≡ viewOf k (s′ .tables) b′) → (k : KindOne) → viewOf k (r .session .tables) (r .buffers) ≡ viewOf k (r′ .session .tables) (r′ .buffers)
+-- a sending and its receipt agree; and where the client's tables are reached, views that were equal are equal again
+record Both (s s′ : Session) (b b′ : BuffersOne) (line body : List ℕ) (n : ℕ) (r : Sent) (r′ : Received) : Type 0 where
+  agreed : Agreed s line body n r r′
+  views : Reached (s .tables) → SameViews s b s′ b′ → SameViews (r .session) (r .buffers) (r′ .session) (r′ .buffers)
 
 -- the plugin's session is the client's with a screen of its own
 alike-is : (s s′ : Session) → Alike s s′ → _≡_ {A = Session} (record { machine = s .machine; name = s .name; screen = s′ .screen; phase = s .phase; tables = s .tables }) s′
@@ -124,7 +115,7 @@ module _ (s : Session) (b b′ : BuffersOne) (line body out : List ℕ) (n : ℕ
   agreed-like : (screen : Bool) (rest : List ℕ) → areBytes body ≡ true → AppliedOne s (lent b) line body (stanzaText line body) out (sentOutcome (lent b .second) r) → r .answer ≡ bytes n →
       ((k : KindOne) → tableOf k (r .session .tables) .used ≤ length (bufferOf k b′)) →
       let s′ : Session = record { machine = s .machine; name = s .name; screen = screen; phase = s .phase; tables = s .tables } in
-      Agreed s s′ b b′ line body n r (received s′ (stanzaText line body ++ rest) b′)
+      Both s s′ b b′ line body n r (received s′ (stanzaText line body ++ rest) b′)
   agreed-like screen rest a w q l =
       let s′ : Session = record { machine = s .machine; name = s .name; screen = screen; phase = s .phase; tables = s .tables } in
       let r′ : Received = received s′ (stanzaText line body ++ rest) b′ in
@@ -135,28 +126,41 @@ module _ (s : Session) (b b′ : BuffersOne) (line body out : List ℕ) (n : ℕ
       subst (TookAs s′ b′ line body (length (stanzaText line body))) (sym (text-received s′ b′ line body rest (p .turn) (w .writable) a)) (stanza-took s′ b′ line body (length (stanzaText line body)) (p .turn) (p .argued) (g .0)) in
       let p′ = h .1 in
       record {
-        written = ap₂ take m (w .written .output) ∙ front (stanzaText line body) out (w .written .fits);
-        answer = h .0 ∙ ap (took (wordOf (commandIn (s .machine) (s .name) line body))) (sym m);
-        alike = record {
-          machine = ap (λ x. x .machine) (p .session) ∙ sym (ap (λ x. x .machine) (p′ .session));
-          name = ap (λ x. x .name) (p .session) ∙ sym (ap (λ x. x .name) (p′ .session));
-          phase = ap (λ x. x .phase) (p .session) ∙ sym (ap (λ x. x .phase) (p′ .session));
-          tables = ap (λ x. x .tables) (p .session) ∙ sym (g .1) ∙ sym (ap (λ x. x .tables) (p′ .session));
+        agreed = record {
+          written = ap₂ take m (w .written .output) ∙ front (stanzaText line body) out (w .written .fits);
+          answer = h .0 ∙ ap (took (wordOf (commandIn (s .machine) (s .name) line body))) (sym m);
+          alike = record {
+            machine = ap (λ x. x .machine) (p .session) ∙ sym (ap (λ x. x .machine) (p′ .session));
+            name = ap (λ x. x .name) (p .session) ∙ sym (ap (λ x. x .name) (p′ .session));
+            phase = ap (λ x. x .phase) (p .session) ∙ sym (ap (λ x. x .phase) (p′ .session));
+            tables = ap (λ x. x .tables) (p .session) ∙ sym (g .1) ∙ sym (ap (λ x. x .tables) (p′ .session));
+          };
         };
         views = λ j v k.
             applied-rows s b line body (r .session) (r .buffers) p j k ∙ ap (λ l. l ++ rowsOf (commandIn (s .machine) (s .name) line body) k (payloadIn (s .machine) (s .name) line body)) (v k)
             ∙ sym (applied-rows s′ b′ line body (r′ .session) (r′ .buffers) p′ j k);
       }
 
--- what the client sends the plugin accepts, at the front of any text that begins with it, where each of its buffers is long enough for what the client's table takes
-pub agreement : (s s′ : Session) (b b′ : BuffersOne) (word : WordOne) (arguments body out text : List ℕ) (n : ℕ) → Alike s s′ → areBytes body ≡ true →
-    sent s word arguments body b out .answer ≡ bytes n →
-    take n text ≡ take n (sent s word arguments body b out .output) →
-    ((k : KindOne) → tableOf k (sent s word arguments body b out .session .tables) .used ≤ length (bufferOf k b′)) →
-    Agreed s s′ b b′ (lineSent word arguments) body n (sent s word arguments body b out) (received s′ text b′)
-agreement s s′ b b′ word arguments body out text n a y q e l =
-    let r = sent s word arguments body b out in
-    let line = lineSent word arguments in
-    let g = agreed-like s b b′ line body out n r (s′ .screen) (drop n text) y (accepted s (lent b) (send word arguments body out) (ap sentNumber q)) q l in
-    let f : stanzaText line body ++ drop n text ≡ text = ap (λ x. x ++ drop n text) (sym (e ∙ g .written)) ∙ take-append-drop n text in
-    subst (λ x. Agreed s s′ b b′ line body n r (received s′ x b′)) f (subst (λ x. Agreed s x b b′ line body n r (received x (stanzaText line body ++ drop n text) b′)) (alike-is s s′ a) g)
+module _ (s s′ : Session) (b b′ : BuffersOne) (word : WordOne) (arguments body out text : List ℕ) (n : ℕ) (a : Alike s s′) (y : areBytes body ≡ true)
+    (q : sent s word arguments body b out .answer ≡ bytes n) (e : take n text ≡ take n (sent s word arguments body b out .output))
+    (l : (k : KindOne) → tableOf k (sent s word arguments body b out .session .tables) .used ≤ length (bufferOf k b′)) where
+  both : Both s s′ b b′ (lineSent word arguments) body n (sent s word arguments body b out) (received s′ text b′)
+  both =
+      let r = sent s word arguments body b out in
+      let line = lineSent word arguments in
+      let g = agreed-like s b b′ line body out n r (s′ .screen) (drop n text) y (accepted s (lent b) (send word arguments body out) (ap sentNumber q)) q l in
+      let f : stanzaText line body ++ drop n text ≡ text = ap (λ x. x ++ drop n text) (sym (e ∙ g .agreed .written)) ∙ take-append-drop n text in
+      subst (λ x. Both s s′ b b′ line body n r (received s′ x b′)) f (subst (λ x. Both s x b b′ line body n r (received x (stanzaText line body ++ drop n text) b′)) (alike-is s s′ a) g)
+
+  -- what the client sends the plugin accepts, at the front of any text that begins with it, where each of its buffers is long enough for what the client's table takes
+  pub agreement : Agreed s (lineSent word arguments) body n (sent s word arguments body b out) (received s′ text b′)
+  agreement = both .agreed
+
+  -- and their tables show the same, where they did before
+  pub views-agree : Reached (s .tables) → SameViews s b s′ b′ →
+      SameViews (sent s word arguments body b out .session) (sent s word arguments body b out .buffers) (received s′ text b′ .session) (received s′ text b′ .buffers)
+  views-agree = both .views
+
+-- the two ends open alike
+pub opened-alike : (machine name : List ℕ) (screen screen′ : Bool) → Alike (opened machine name screen .session) (opened machine name screen′ .session)
+opened-alike machine name screen screen′ = record { machine = refl; name = refl; phase = refl; tables = refl }

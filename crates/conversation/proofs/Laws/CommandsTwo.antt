@@ -9,6 +9,7 @@ use lib.ListN.{length}
 use native.Mathlib.Omega.{arith}
 use Rattle.refusal.specs.Pick.{pick}
 use Rattle.refusal.specs.Same.{same}
+use Rattle.refusal.proofs.Laws.Same.{same-eq}
 use Rattle.stanza.specs.Arguments.{countOf, argumentOf}
 use Rattle.stanza.specs.Index.{readIndex, ReadIndex, number, refused}
 use Rattle.stanza.proofs.Laws.Index.{read-index}
@@ -19,7 +20,7 @@ use Rattle.session.specs.declared.words.WordTwo.the-variants.{Msg, Confirm, Req
 use Rattle.phase_one.specs.Commands.{recipientStanza, doneWord, isBare}
 use Rattle.session.specs.declared.opening.Machine.{Machine}
 use Rattle.session.specs.declared.opening.Machine.the-variants.{RecipientV1, IdentityV1}
-use Rattle.conversation.specs.CommandsTwo.{Named, internal, identity, recipient, CommandTwo, ask, stanza, key, error, done, other, bad, areLabels, msgWord, confirmWord, requestPublic, requestSecret, fileKeyWord, errorWord, internalWord, identityWord, recipientWord, stanzaWord, stanzaAt, keyAt, errorAt, headerAt, errorOf, rowTwo, workWord, wordTwo, commandTwo}
+use Rattle.conversation.specs.CommandsTwo.{Named, internal, identity, recipient, CommandTwo, ask, stanza, key, error, done, other, bad, areLabels, msgWord, confirmWord, requestPublic, requestSecret, fileKeyWord, errorWord, internalWord, identityWord, recipientWord, stanzaWord, stanzaAt, keyAt, errorAt, headerAt, errorOf, rowTwo, workWord, wordTwo, commandTwo, textOfWord}
 
 -- d says whether the word is done
 abbrev pub Proper : Bool → CommandTwo → Type 0
@@ -114,3 +115,21 @@ named-done m w =
 pub command-proper : (m : Machine) (line body : List ℕ) → Proper (same (argumentOf line 0) doneWord) (commandTwo m line body)
 unfolding commandTwo
 command-proper m line body = row-proper (same (argumentOf line 0) doneWord) line (wordTwo m (argumentOf line 0)) m (length body) (named-done m (argumentOf line 0))
+
+-- ---- the text of a word that a text names for a machine is that text
+
+pub word-text : (machine : Machine) (w : List ℕ) → (wordTwo machine w ≡ Other → ⊥) → textOfWord (wordTwo machine w) ≡ w
+word-text machine w =
+    one (same w msgWord) Msg _ msgWord refl refl
+    (one (same w confirmWord) Confirm _ confirmWord refl refl
+    (one (same w requestPublic) RequestPublic _ requestPublic refl refl
+    (one (same w requestSecret) RequestSecret _ requestSecret refl refl
+    (one (same w errorWord) Error _ errorWord refl refl (one (same w doneWord) Done _ doneWord refl refl (work machine))))))
+  where
+    one : (f : Bool) (v rest : WordTwo) (x : List ℕ) → same w x ≡ f → textOfWord v ≡ x → ((rest ≡ Other → ⊥) → textOfWord rest ≡ w) → (pick f v rest ≡ Other → ⊥) → textOfWord (pick f v rest) ≡ w
+    one true v rest x e q h n = q ∙ sym (same-eq w x e)
+    one false v rest x e q h n = h n
+
+    work : (m : Machine) → (workWord m w ≡ Other → ⊥) → textOfWord (workWord m w) ≡ w
+    work RecipientV1 = one (same w recipientStanza) RecipientStanza Other recipientStanza refl refl (λ n. absurd (n refl))
+    work IdentityV1 = one (same w fileKeyWord) FileKey Other fileKeyWord refl refl (λ n. absurd (n refl))

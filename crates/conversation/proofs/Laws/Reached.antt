@@ -178,7 +178,7 @@ module _ (t : Tables) (b : two.BuffersTwo) (p : List ℕ) where
 -- ---- calls
 
 -- no call of phase two leads back
-received-on : (screen : Bool) (c : CommandTwo) → phaseReceived screen c ≡ One → ⊥
+pub received-on : (screen : Bool) (c : CommandTwo) → phaseReceived screen c ≡ One → ⊥
 received-on true (two-command.ask w) e = let z : _≡_ {A = ℕ} 0 1 = cc in omega arith
 received-on false (two-command.ask w) e = let z : _≡_ {A = ℕ} 0 1 = cc in omega arith
 received-on screen (two-command.stanza f) e = let z : _≡_ {A = ℕ} 0 1 = cc in omega arith

@@ -123,6 +123,13 @@ lasts : {X : Type 0} (x : X) (xs : List X) → (ys : List X) × (y : X) × (x �
 lasts x [] = ([], x, refl)
 lasts x (z ∷ zs) = let v = lasts z zs in (x ∷ v .0, v .1, ap (λ l. x ∷ l) (v .2))
 
+-- what holds of each value holds of each value of equal ones
+all-same : {X C : Type 0} (f : X → C) (r : C → Bool) (g : X → X) → ((x : X) → f (g x) ≡ f x) → (xs : List X) → All (λ x. r (f x) ≡ true) (map g xs) ↔ All (λ x. r (f x) ≡ true) xs
+all-same f r g e xs = (
+  λ a. all-weaker (λ x h. ap r (sym (e x)) ∙ h) xs (all-map g (λ x. r (f x) ≡ true) xs .0 a),
+  λ a. all-map g (λ x. r (f x) ≡ true) xs .1 (all-weaker (λ x h. ap r (e x) ∙ h) xs a),
+)
+
 module _ (machine : Machine) (name : List ℕ) where
   first-command : (t : List ℕ) → commandOf machine name (firstOfText t) ≡ commandOf machine name t
   first-command t = ap₂ (one.commandIn machine name) (first-line t) (first-body t)
@@ -133,10 +140,13 @@ module _ (machine : Machine) (name : List ℕ) where
   first-rows k (t ∷ ts) =
       ap₂ (λ a b. a ++ b) (ap₂ (λ l y. one-kind.rowsOf (one.commandIn machine name l y) k (one.payloadIn machine name l y)) (first-line t) (first-body t)) (first-rows k ts)
 
+  first-right : (ts : List (List ℕ)) → All (λ t. isRight (commandOf machine name t) ≡ true) (firsts ts) ↔ All (λ t. isRight (commandOf machine name t) ≡ true) ts
+  first-right = all-same (commandOf machine name) isRight firstOfText first-command
+
   module _ (b : one.BuffersOne) (ts : List (List ℕ)) where
     allowed-first : Allowed machine name b (firsts ts) → Allowed machine name b ts
     allowed-first a = record {
-      right = all-weaker (λ t e. ap isRight (sym (first-command t)) ∙ e) ts (all-map firstOfText (λ t. isRight (commandOf machine name t) ≡ true) ts .0 (a .right));
+      right = first-right ts .0 (a .right);
       slots = λ k. subst (λ r. length r ≤ slotsOf k) (first-rows k ts) (a .slots k);
       bytes = λ k. subst (λ r. bytesOf r ≤ length (one-kind.bufferOf k b)) (first-rows k ts) (a .bytes k);
       rising = subst Rising (first-rows headers ts) (a .rising);
@@ -144,7 +154,7 @@ module _ (machine : Machine) (name : List ℕ) where
 
     first-allowed : Allowed machine name b ts → Allowed machine name b (firsts ts)
     first-allowed a = record {
-      right = all-map firstOfText (λ t. isRight (commandOf machine name t) ≡ true) ts .1 (all-weaker (λ t e. ap isRight (first-command t) ∙ e) ts (a .right));
+      right = first-right ts .1 (a .right);
       slots = λ k. subst (λ r. length r ≤ slotsOf k) (sym (first-rows k ts)) (a .slots k);
       bytes = λ k. subst (λ r. bytesOf r ≤ length (one-kind.bufferOf k b)) (sym (first-rows k ts)) (a .bytes k);
       rising = subst Rising (sym (first-rows headers ts)) (a .rising);

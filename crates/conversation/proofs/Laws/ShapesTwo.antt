@@ -33,7 +33,7 @@ use Rattle.conversation.proofs.Laws.CommandsTwo.{Proper, command-proper
 use Rattle.conversation.proofs.Laws.DecidedTwo.{decided-iff}
 use Rattle.conversation.proofs.Laws.Lists.{all-append, all-map, all-weaker}
 use Rattle.conversation.proofs.Laws.OrderTwo.{begins, two-session, fitting-all, accepted-two-iff}
-use Rattle.conversation.proofs.Laws.Reached.{JustReached}
+use Rattle.conversation.proofs.Laws.Reached.{JustReached, received-on}
 use Rattle.conversation.proofs.Laws.Runs.{accepted-append, after-append, enough-append}
 use Rattle.conversation.proofs.Laws.Shapes.{begins-whole, firstOfText, first-whole, first-line, first-body, alone-call, same-numbers, same-after, same-enough, ended-none, append-none, lentFirst, lent-one, lent-more, skip-none}
 use Rattle.conversation.proofs.Laws.StepsTwo.{at, judged, tablesWith, buffersWith, text-iff, text-session, Settled, block-from, block-to}
@@ -71,16 +71,6 @@ parsed-text t out cs p =
           ap (λ l. receive-two t out ∷ l) (p .calls ∙ sym (ap (λ o. replyCalls o (p .replies) ++ callsOf two-part (skip (length (p .replies)) o) (p .blocks)) (lent-one out (p .outs))))
           ∙ ap (λ o. callsOf two-part o (x ∷ p .blocks)) (sym (skip-none outs));
     }
-
-received-on : (screen : Bool) (c : CommandTwo) → phaseReceived screen c ≡ One → ⊥
-received-on true (ask w) e = let z : _≡_ {A = ℕ} 0 1 = cc in omega arith
-received-on false (ask w) e = let z : _≡_ {A = ℕ} 0 1 = cc in omega arith
-received-on screen (stanza f) e = let z : _≡_ {A = ℕ} 0 1 = cc in omega arith
-received-on screen (key f) e = let z : _≡_ {A = ℕ} 0 1 = cc in omega arith
-received-on screen (error n) e = let z : _≡_ {A = ℕ} 0 1 = cc in omega arith
-received-on screen done e = let z : _≡_ {A = ℕ} 0 1 = cc in omega arith
-received-on screen other e = let z : _≡_ {A = ℕ} 0 1 = cc in omega arith
-received-on screen (bad n) e = let z : _≡_ {A = ℕ} 0 1 = cc in omega arith
 
 parsed : (s : Session) (b : Buffers) (cs : List Call) → (s .phase ≡ One → ⊥) → All (λ c. isClient c ≡ true) cs → Accepted s b cs → Parsed cs
 unfolding All AllZero numbers

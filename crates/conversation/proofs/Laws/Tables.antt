@@ -10,7 +10,6 @@ use borrow.Author.Tests.{eqb-true, eqb-false, eq-eqb, ne-eqb}
 use Rattle.refusal.specs.Pick.{pick}
 use Rattle.refusal.proofs.Laws.Booleans.{cases}
 use Rattle.stanza.specs.Reading.{readFirst}
-use Rattle.session.specs.declared.words.WordTwo.the-variants.{Other}
 use Rattle.tables.specs.Tables.{Row, view}
 use Rattle.tables.proofs.Laws.Tables.{view-count}
 use Rattle.phase_one.specs.Commands.{CommandOne, recipient, identity, key, header, done, other, bad}
@@ -21,7 +20,6 @@ use Rattle.phase_one.specs.Turns.{phaseAfter}
 use Rattle.phase_one.specs.Views as one-kind
 use Rattle.phase_one.specs.Views.{recipients, identities, keys, headers}
 use Rattle.session.specs.declared.phases.Phase.{Phase}
-use Rattle.session.specs.declared.phases.Phase.the-variants.{Awaiting}
 use Rattle.phase_one.proofs.Laws.Views.{Reached}
 use Rattle.session.specs.Session.{Session, moved, opened}
 use Rattle.conversation.specs.Kinds.{AnyKind, first, second, Buffers, buffersOf, tableOf, viewOf, ofFile}
@@ -31,9 +29,11 @@ use Rattle.conversation.specs.PhaseTwo as two
 use Rattle.conversation.specs.PhaseTwo.{errors, stanzas, returned}
 use Rattle.conversation.specs.ReceivingTwo.{phaseReceived}
 use Rattle.conversation.specs.SendingTwo.{phaseSent}
-use Rattle.conversation.specs.Calls.{Call, receive, send, receive-two, reply, send-two, respond, Outcome, outcome, after, lineRead, bodyRead, Brought, in-one, in-two, no-command, broughtBy, rowsOne, rowsTwo, rowsBrought, acceptedRows}
+use Rattle.conversation.specs.Numbers.{bufferFor}
+use Rattle.conversation.specs.Tables.{Numbered, NumberedInFile, Ignored, phaseIgnored}
+use Rattle.conversation.specs.Calls.{Call, receive, send, receive-two, reply, send-two, respond, Outcome, outcome, after, lineRead, bodyRead, broughtBy, rowsOne, rowsTwo, rowsBrought, acceptedRows}
 use Rattle.conversation.proofs.Laws.Accepted.{AppliedOne, AppliedTwo, commandAt, payloadAt, applied-rows, AcceptedBy, accepted}
-use Rattle.conversation.proofs.Laws.Reached.{ReachedSession, empty-reached, opening-tables, call-reached, after-reached}
+use Rattle.conversation.proofs.Laws.Reached.{ReachedSession, empty-reached, opening-tables, opening-reached, call-reached, after-reached}
 use Rattle.conversation.proofs.Laws.Refusals.{refusal}
 use Rattle.conversation.proofs.Laws.ViewsTwo.{kept-two, applied-view-two, one-leaves, two-leaves}
 
@@ -113,11 +113,6 @@ tables-opened k machine name screen b cs = tables-from-empty k (opened machine n
 
 -- ---- counts and numbers
 
--- a kind's buffer
-abbrev pub bufferOf : AnyKind → Buffers → List ℕ
-bufferOf (first k) b = one-kind.bufferOf k (b .first)
-bufferOf (second k) b = two.bufferOf k (b .second)
-
 -- a kind's count is the number of its rows, whatever the buffers
 pub count-rows : (k : AnyKind) (s : Session) (b : Buffers) → ReachedSession s → tableOf k (s .tables) .count ≡ length (viewOf k (s .tables) b)
 unfolding Reached
@@ -130,12 +125,14 @@ count-after k s b cs r =
     count-rows k (after s b cs .session) (after s b cs .buffers) (after-reached s b cs r) ∙ ap length (tables-after k s b cs r) ∙ length-append (viewOf k (s .tables) b) (acceptedRows k s b cs)
     ∙ ap (λ n. n + length (acceptedRows k s b cs)) (sym (count-rows k s b r))
 
--- an accepted command of a kind: its number is the count before, and its row stands there
-pub record Numbered (s : Session) (b : Buffers) (c : Call) (k : AnyKind) (row : Row) : Type 0 where
-  pub count : tableOf k (outcome s b c .session .tables) .count ≡ tableOf k (s .tables) .count + 1
-  pub entry : (d : Row) → getD (viewOf k (outcome s b c .session .tables) (outcome s b c .buffers)) (tableOf k (s .tables) .count) d ≡ row
-  pub rows : viewOf k (outcome s b c .session .tables) (outcome s b c .buffers) ≡ viewOf k (s .tables) b ++ (row ∷ [])
+-- from an opening on it is that number
+pub count-opened : (k : AnyKind) (machine name : List ℕ) (screen : Bool) (b : Buffers) (cs : List Call) →
+    tableOf k (after (opened machine name screen .session) b cs .session .tables) .count ≡ length (acceptedRows k (opened machine name screen .session) b cs)
+count-opened k machine name screen b cs =
+    let s = opened machine name screen .session in
+    count-rows k (after s b cs .session) (after s b cs .buffers) (after-reached s b cs (opening-reached machine name screen)) ∙ ap length (tables-opened k machine name screen b cs)
 
+-- an accepted command's number and row
 pub numbered : (s : Session) (b : Buffers) (c : Call) (k : AnyKind) (row : Row) → ReachedSession s → outcome s b c .number ≡ 0 → rowsBrought s (broughtBy c) k ≡ row ∷ [] → Numbered s b c k row
 numbered s b c k row r z q =
     let v : viewOf k (outcome s b c .session .tables) (outcome s b c .buffers) ≡ viewOf k (s .tables) b ++ (row ∷ []) = accepted-view s b r c (accepted s b c z) k ∙ ap (λ l. viewOf k (s .tables) b ++ l) q in
@@ -159,11 +156,7 @@ own-file : (f : ℕ) (row : Row) → row .index ≡ f → ofFile f (row ∷ []) 
 unfolding ofFile
 own-file f row e = ap (λ x. pick x (row ∷ []) [] ++ []) (eq-eqb (row .index) f e)
 
--- an accepted command for the file f, a stanza or a key: its number there is the count of that file's before it, and its row stands there
-pub record NumberedInFile (s : Session) (b : Buffers) (c : Call) (k : AnyKind) (f : ℕ) (row : Row) : Type 0 where
-  pub rows : ofFile f (viewOf k (outcome s b c .session .tables) (outcome s b c .buffers)) ≡ ofFile f (viewOf k (s .tables) b) ++ (row ∷ [])
-  pub entry : (d : Row) → getD (ofFile f (viewOf k (outcome s b c .session .tables) (outcome s b c .buffers))) (length (ofFile f (viewOf k (s .tables) b))) d ≡ row
-
+-- .. within its file
 pub numbered-in-file : (s : Session) (b : Buffers) (c : Call) (k : AnyKind) (f : ℕ) (row : Row) → ReachedSession s → outcome s b c .number ≡ 0 →
     rowsBrought s (broughtBy c) k ≡ row ∷ [] → row .index ≡ f → NumberedInFile s b c k f row
 numbered-in-file s b c k f row r z q e =
@@ -222,7 +215,7 @@ two-elsewhere t b (two-command.bad n) k p h = (refl, refl)
 
 module _ (s : Session) (b : Buffers) where
   abbrev Stays : Outcome → AnyKind → Type 0
-  Stays o k = (tableOf k (o .session .tables) ≡ tableOf k (s .tables)) × (bufferOf k (o .buffers) ≡ bufferOf k b)
+  Stays o k = (tableOf k (o .session .tables) ≡ tableOf k (s .tables)) × (bufferFor k (o .buffers) ≡ bufferFor k b)
 
   one-stays : (line body text out : List ℕ) (o : Outcome) → AppliedOne s b line body text out o → (k : AnyKind) → rowsOne s line body k ≡ [] → Stays o k
   one-stays line body text out o a (first k) q =
@@ -244,31 +237,18 @@ module _ (s : Session) (b : Buffers) where
 
   -- an accepted call whose command makes no entry of a kind, or that has no command, changes neither the kind's table nor its buffer
   pub elsewhere : (c : Call) (k : AnyKind) → outcome s b c .number ≡ 0 → rowsBrought s (broughtBy c) k ≡ [] →
-      (tableOf k (outcome s b c .session .tables) ≡ tableOf k (s .tables)) × (bufferOf k (outcome s b c .buffers) ≡ bufferOf k b)
+      (tableOf k (outcome s b c .session .tables) ≡ tableOf k (s .tables)) × (bufferFor k (outcome s b c .buffers) ≡ bufferFor k b)
   elsewhere c k z = by c (accepted s b c z)
     where
       by : (c : Call) → AcceptedBy s b c → rowsBrought s (broughtBy c) k ≡ [] → Stays (outcome s b c) k
       by (receive text) a q = one-stays _ _ _ _ (outcome s b (receive text)) a k q
       by (send word arguments body out) a q = one-stays _ _ _ _ (outcome s b (send word arguments body out)) a k q
       by (receive-two text out) a q = two-stays false _ _ _ _ _ (outcome s b (receive-two text out)) a k q
-      by (reply x body out) a q = (ap (λ x. tableOf k (x .tables)) (a .session), ap (bufferOf k) (a .buffers))
+      by (reply x body out) a q = (ap (λ x. tableOf k (x .tables)) (a .session), ap (bufferFor k) (a .buffers))
       by (send-two word arguments body out) a q = two-stays true _ _ _ _ _ (outcome s b (send-two word arguments body out)) a k q
-      by (respond text out) a q = (ap (λ x. tableOf k (x .tables)) (a .1 .session), ap (bufferOf k) (a .1 .buffers))
+      by (respond text out) a q = (ap (λ x. tableOf k (x .tables)) (a .1 .session), ap (bufferFor k) (a .1 .buffers))
 
--- a call brings an ignored command, one that is not named for the machine in its phase's table
-abbrev pub Ignored : Session → Brought → Type 0
-Ignored s (in-one line body) = commandIn (s .machine) (s .name) line body ≡ other
-Ignored s (in-two line body) = commandAt s line body ≡ two-command.other
-Ignored s no-command = ⊥
-
--- the phase behind it: the same, but at the plugin's sending it awaits its response
-abbrev pub phaseIgnored : Session → Call → Phase
-phaseIgnored s (receive text) = s .phase
-phaseIgnored s (send word arguments body out) = s .phase
-phaseIgnored s (receive-two text out) = s .phase
-phaseIgnored s (reply r body out) = s .phase
-phaseIgnored s (send-two word arguments body out) = Awaiting Other
-phaseIgnored s (respond text out) = s .phase
+-- ---- an ignored command
 
 module _ (s : Session) (b : Buffers) where
   abbrev Unchanged : Phase → Outcome → Type 0

@@ -22,7 +22,7 @@ judge-window-requires c κs = search needs
 keep-rest-requires : tie.Need-keep-rest-requires
 keep-rest-requires c κs =
     let a = c .before .before .before .before .before .before .before .before .before .before .before .before .before .before .before .before .before .before .args in
-    (omega (arith, c .before .before .before .before .before .before .before .judge-window .ensures .1 .within, length-take-le (a .end) (now (a .window)) (c .before .before .before .before .before .before .before .before .before .before .before .before .before .before .before .before .before .before .pre)), c .before .before .before .before .before .before .before .before .before .before .before .before .before .before .before .before .before .before .pre)
+    (omega (arith, c .before .before .before .before .before .before .before .judge-window .ensures .1 .0 .within, length-take-le (a .end) (now (a .window)) (c .before .before .before .before .before .before .before .before .before .before .before .before .before .before .before .before .before .before .pre)), c .before .before .before .before .before .before .before .before .before .before .before .before .before .before .before .before .before .before .pre)
 
 enum-told : tie.Need-enum-told
 enum-told c = search needs
@@ -47,8 +47,8 @@ returns c =
     let a = c .before .before .before .before .before .before .before .before .before .before .before .before .before .before .before .before .before .before .before .before .before .before .before .args in
     let j = c .before .before .before .before .before .before .before .before .before .before .before .before .judge-window in
     let k = c .before .before .before .before .keep-rest in
-    let l = j .ensures .1 .left (sessionOf (j .result .session) (j .last .1 .1 .1 .0) (j .last .1 .1 .1 .1 .0)) (ap (λ p. standingIn p (sessionOf (j .result .session) (j .last .1 .1 .1 .0) (j .last .1 .1 .1 .1 .0))) (c .enum-told .given .1)) in
-    (j .ensures .1, (k .ensures .1, (omega (arith, k .ensures .0), λ m. omega (arith, k .ensures .0, l .1, length-take-le (a .end) (now (a .window)) (c .before .before .before .before .before .before .before .before .before .before .before .before .before .before .before .before .before .before .before .before .before .before .before .pre)))))
+    let l = j .ensures .1 .0 .left (sessionOf (j .result .session) (j .last .1 .1 .1 .0) (j .last .1 .1 .1 .1 .0)) (ap (λ p. standingIn p (sessionOf (j .result .session) (j .last .1 .1 .1 .0) (j .last .1 .1 .1 .1 .0))) (c .enum-told .given .1)) in
+    (j .ensures .1 .0, (k .ensures .1, (omega (arith, k .ensures .0), λ m. omega (arith, k .ensures .0, l .1, length-take-le (a .end) (now (a .window)) (c .before .before .before .before .before .before .before .before .before .before .before .before .before .before .before .before .before .before .before .before .before .before .before .pre)))))
 
 same-length-5 : tie.Need-same-length-5
 same-length-5 c = search needs
@@ -66,7 +66,7 @@ returns-2 : tie.Need-returns-2
 returns-2 c =
     let j = c .before .before .before .before .before .before .before .before .before .before .before .before .judge-window in
     let k = c .before .before .before .before .keep-rest in
-    (j .ensures .1, (k .ensures .1, (omega (arith, k .ensures .0), λ m. absurd (false≢true m))))
+    (j .ensures .1 .0, (k .ensures .1, (omega (arith, k .ensures .0), λ m. absurd (false≢true m))))
 
 pub judge-chunk-spec : {M : Type 1} → statement M
 judge-chunk-spec =

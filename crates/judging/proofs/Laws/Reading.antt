@@ -17,7 +17,8 @@ use Rattle.stanza.specs.Arguments.{countOf, argumentOf}
 use Rattle.stanza.specs.Automaton.{Scan, bad as bad-scan, short, whole, scan, start}
 use Rattle.stanza.specs.Grammar.{IsStanza}
 use Rattle.stanza.specs.Reading.{Reading, stanza, refused, found, readFirst, isNotLf, lineEnd}
-use Rattle.stanza.proofs.Laws.Exact.{Begins, FirstFault, refused-1, taken-iff}
+use Rattle.stanza.specs.Exact.{Begins, FirstFault}
+use Rattle.stanza.proofs.Laws.Exact.{refused-1, taken-iff}
 use Rattle.stanza.proofs.Laws.Index.{read-index}
 use Rattle.stanza.proofs.Laws.RoundTrip.{read-text, written-read}
 use Rattle.stanza.proofs.Laws.Writing.{text-length}

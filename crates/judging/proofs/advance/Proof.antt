@@ -3,7 +3,7 @@ use borrow.Author.Needs.{needs}
 use Rattle.judging.proofs.advance.Statement.{statement}
 use Rattle.judging.proofs.advance.Tie as tie
 use native.Mathlib.Omega.{arith}
-use mathlib.Core.Path.{ap, _∙_}
+use mathlib.Core.Path.{refl, ap, _∙_}
 use borrow.Author.Tests.{eqb-false}
 use Rattle.refusal.proofs.Laws.Number.{number-not-zero}
 use Rattle.judging.specs.Judging.{behindRefusal}
@@ -44,7 +44,7 @@ add-next : tie.Need-add-next
 add-next c =
     let a = c .before .before .before .before .before .before .before .before .before .before .before .before .before .before .before .before .before .before .before .before .before .before .before .args in
     let r = c .before .before .before .before .before .before .before .before .before .before .before .receive in
-    let h = turn-within (a .last) (sessionOf (a .session) (now (a .slots)) (now (a .header-slots))) (sessionOf (r .result .session) (r .last .1 .1 .0) (r .last .1 .1 .1 .0)) (buffersIn (now (a .recipients)) (now (a .identities)) (now (a .keys))) (r .last .1 .1 .1 .1 .0) (r .last .1 .1 .1 .1 .1 .0) (r .last .1 .1 .1 .1 .1 .1 .0) (r .last .1 .1 .1 .1 .1 .1 .1 .0) (now (a .window)) (a .at) (takingSaid (r .result .answer)) (r .kept .1 .1 .1 .1 .1 .1 .1 .0) (r .ensures)
+    let h = turn-within (a .last) (sessionOf (a .session) (now (a .slots)) (now (a .header-slots))) (sessionOf (r .result .session) (r .last .1 .1 .0) (r .last .1 .1 .1 .0)) (buffersIn (now (a .recipients)) (now (a .identities)) (now (a .keys))) (r .last .1 .1 .1 .1 .0) (r .last .1 .1 .1 .1 .1 .0) (r .last .1 .1 .1 .1 .1 .1 .0) (r .last .1 .1 .1 .1 .1 .1 .1 .0) (now (a .window)) (a .at) (takingSaid (r .result .answer)) (r .kept .1 .1 .1 .1 .1 .1 .1 .0) (r .ensures .0)
     (wordSaid (c .before .answer2 .given .0 .0)) (c .before .answer2 .given .0 .1 .0) (ap takingSaid (c .before .answer2 .given .1)) (c .before .before .before .before .before .before .before .before .before .before .before .before .before .before .before .before .before .before .before .before .before .before .before .pre) in
     omega (arith, h, c .before .before .before .before .before .before .before .before .before .before .before .before .before .before .before .before .before .before .before .before .before .before .before .good)
 
@@ -63,10 +63,12 @@ same-length-3 c = search needs
 returns : tie.Need-returns
 returns c =
     let a = c .before .before .before .before .before .before .before .before .before .before .before .before .before .before .before .before .before .before .before .before .before .before .before .before .args in
-    let r = c .before .before .before .before .before .before .before .before .before .before .before .before .receive in
-    turn-refused (a .last) (sessionOf (a .session) (now (a .slots)) (now (a .header-slots))) (sessionOf (r .result .session) (r .last .1 .1 .0) (r .last .1 .1 .1 .0)) (buffersIn (now (a .recipients)) (now (a .identities)) (now (a .keys))) (r .last .1 .1 .1 .1 .0) (r .last .1 .1 .1 .1 .1 .0) (r .last .1 .1 .1 .1 .1 .1 .0) (r .last .1 .1 .1 .1 .1 .1 .1 .0) (now (a .window)) (a .at) (takingSaid (r .result .answer)) (r .kept .1 .1 .1 .1 .1 .1 .1 .0) (r .ensures)
-    (numberOf (c .before .before .answer .given .0 .0)) (standingIn (c .behind-refusal .result) (sessionOf (a .session) (r .last .1 .1 .0) (r .last .1 .1 .1 .0))) (ap takingSaid (c .before .before .answer .given .1))
-    (c .behind-refusal .ensures (r .last .1 .1 .0) (r .last .1 .1 .1 .0) ∙ ap (behindRefusal (a .last) (numberOf (c .before .before .answer .given .0 .0))) (refused-same (a .session) (r .result .session) (now (a .slots)) (r .last .1 .1 .0) (now (a .header-slots)) (r .last .1 .1 .1 .0) _ _ _ (takingSaid (r .result .answer)) (numberOf (c .before .before .answer .given .0 .0)) (r .ensures) (ap takingSaid (c .before .before .answer .given .1)) (eqb-false (numberOf (c .before .before .answer .given .0 .0)) 0 (number-not-zero (c .before .before .answer .given .0 .0)))))
+    let r = c .before .before .before .before .before .before .before .before .before .before .before .before .receive in (
+      turn-refused (a .last) (sessionOf (a .session) (now (a .slots)) (now (a .header-slots))) (sessionOf (r .result .session) (r .last .1 .1 .0) (r .last .1 .1 .1 .0)) (buffersIn (now (a .recipients)) (now (a .identities)) (now (a .keys))) (r .last .1 .1 .1 .1 .0) (r .last .1 .1 .1 .1 .1 .0) (r .last .1 .1 .1 .1 .1 .1 .0) (r .last .1 .1 .1 .1 .1 .1 .1 .0) (now (a .window)) (a .at) (takingSaid (r .result .answer)) (r .kept .1 .1 .1 .1 .1 .1 .1 .0) (r .ensures .0)
+          (numberOf (c .before .before .answer .given .0 .0)) (standingIn (c .behind-refusal .result) (sessionOf (a .session) (r .last .1 .1 .0) (r .last .1 .1 .1 .0))) (ap takingSaid (c .before .before .answer .given .1))
+          (c .behind-refusal .ensures (r .last .1 .1 .0) (r .last .1 .1 .1 .0) ∙ ap (behindRefusal (a .last) (numberOf (c .before .before .answer .given .0 .0))) (refused-same (a .session) (r .result .session) (now (a .slots)) (r .last .1 .1 .0) (now (a .header-slots)) (r .last .1 .1 .1 .0) _ _ _ (takingSaid (r .result .answer)) (numberOf (c .before .before .answer .given .0 .0)) (r .ensures .0) (ap takingSaid (c .before .before .answer .given .1)) (eqb-false (numberOf (c .before .before .answer .given .0 .0)) 0 (number-not-zero (c .before .before .answer .given .0 .0))))),
+      refl,
+    )
 
 same-length-4 : tie.Need-same-length-4
 same-length-4 c = search needs
@@ -80,9 +82,11 @@ same-length-6 c = search needs
 returns-2 : tie.Need-returns-2
 returns-2 c =
     let a = c .before .before .before .before .before .before .before .before .before .before .before .before .before .before .before .before .before .before .before .before .before .before .before .before .args in
-    let r = c .before .before .before .before .before .before .before .before .before .before .before .before .receive in
-    turn-command (a .last) (sessionOf (a .session) (now (a .slots)) (now (a .header-slots))) (sessionOf (r .result .session) (r .last .1 .1 .0) (r .last .1 .1 .1 .0)) (buffersIn (now (a .recipients)) (now (a .identities)) (now (a .keys))) (r .last .1 .1 .1 .1 .0) (r .last .1 .1 .1 .1 .1 .0) (r .last .1 .1 .1 .1 .1 .1 .0) (r .last .1 .1 .1 .1 .1 .1 .1 .0) (now (a .window)) (a .at) (takingSaid (r .result .answer)) (r .kept .1 .1 .1 .1 .1 .1 .1 .0) (r .ensures)
-    (wordSaid (c .before .before .answer2 .given .0 .0)) (c .before .before .answer2 .given .0 .1 .0) (standingIn (c .behind-command .result) (sessionOf (r .result .session) (r .last .1 .1 .0) (r .last .1 .1 .1 .0))) (ap takingSaid (c .before .before .answer2 .given .1)) (c .behind-command .ensures (r .last .1 .1 .0) (r .last .1 .1 .1 .0))
+    let r = c .before .before .before .before .before .before .before .before .before .before .before .before .receive in (
+      turn-command (a .last) (sessionOf (a .session) (now (a .slots)) (now (a .header-slots))) (sessionOf (r .result .session) (r .last .1 .1 .0) (r .last .1 .1 .1 .0)) (buffersIn (now (a .recipients)) (now (a .identities)) (now (a .keys))) (r .last .1 .1 .1 .1 .0) (r .last .1 .1 .1 .1 .1 .0) (r .last .1 .1 .1 .1 .1 .1 .0) (r .last .1 .1 .1 .1 .1 .1 .1 .0) (now (a .window)) (a .at) (takingSaid (r .result .answer)) (r .kept .1 .1 .1 .1 .1 .1 .1 .0) (r .ensures .0)
+          (wordSaid (c .before .before .answer2 .given .0 .0)) (c .before .before .answer2 .given .0 .1 .0) (standingIn (c .behind-command .result) (sessionOf (r .result .session) (r .last .1 .1 .0) (r .last .1 .1 .1 .0))) (ap takingSaid (c .before .before .answer2 .given .1)) (c .behind-command .ensures (r .last .1 .1 .0) (r .last .1 .1 .1 .0)),
+      r .ensures .1,
+    )
 
 pub advance-spec : {M : Type 1} → statement M
 advance-spec =

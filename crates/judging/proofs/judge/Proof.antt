@@ -40,7 +40,7 @@ returns c =
     let xs = c .before .before .before .before .before .before .before .before .before .before .before .before .before .before .open-slots in
     let hs = c .before .before .before .before .before .before .before .before .before .before .before .before .before .open-header-slots in
     let e = whole (turnSaid (j .result) (j .last .1 .1 .1 .0) (j .last .1 .1 .1 .1 .0) (j .last .1 .1 .1 .1 .1 .0) (j .last .1 .1 .1 .1 .1 .1 .0) (j .last .1 .1 .1 .1 .1 .1 .1 .0)) (standingOf (begun .result) (xs .result) (hs .result)) (buffersIn (now (a .recipients)) (now (a .identities)) (now (a .keys))) (now (a .text)) (j .ensures .0)
-    (ap₂ (standingOf (begun .result)) (xs .ensures) (hs .ensures) ∙ begun .ensures .0) in
+    (ap₂ (standingOf (begun .result)) (xs .ensures) (hs .ensures) ∙ begun .ensures .0 .0) in
     (c .numbers .ensures (j .last .1 .1 .1 .0) (j .last .1 .1 .1 .1 .0) ∙ ap (λ t. numbersOf (t .standing)) e, ap (λ t. t .buffers) e)
 
 pub judge-spec : {M : Type 1} → statement M

@@ -17,8 +17,7 @@ use Rattle.refusal.proofs.Laws.Same.{same-eq}
 use Rattle.stanza.specs.Arguments.{countOf, argumentOf}
 use Rattle.stanza.specs.Index.{ReadIndex, number, refused, readIndex}
 use Rattle.tables.specs.declared.slots.Entry.{Entry}
-use Rattle.tables.specs.declared.tables.Found.the-variants as the-found
-use Rattle.tables.specs.Tables.{Table, empty, fits, appended, found}
+use Rattle.tables.specs.Tables.{Table, empty, fits, appended, entry, nothing, found}
 use Rattle.tables.proofs.Laws.Tables.{Kept}
 use Rattle.tables.proofs.Laws.LookUp.{find-none, find-there}
 use Rattle.session.specs.Session.{Session, opened}
@@ -42,8 +41,7 @@ use Rattle.conversation.proofs.Laws.DecidedTwo.{decided-iff}
 use Rattle.conversation.proofs.Laws.Reached.{ReachedSession, opening-reached, call-reached}
 use Rattle.conversation.proofs.Laws.Refusals.{refusal}
 use Rattle.conversation.proofs.Laws.ViewsTwo.{kept-two, one-leaves}
-use Rattle.look_up.specs.declared.look_up.ErrorNamed.the-variants as the
-use Rattle.look_up.specs.ErrorNames.{nameOf, nameRead, headerRead, errorRead, namesBrought, namesIn, nameAt}
+use Rattle.look_up.specs.ErrorNames.{nameRead, headerRead, errorRead, namesBrought, namesIn, nameAt}
 use Rattle.look_up.specs.LookUp.{headerNamed, namedBy, namedIn, errorNamed}
 use Rattle.look_up.proofs.Laws.Labels.{labels-count, label-is}
 
@@ -192,12 +190,12 @@ name-before [] ms k h = absurd (omega arith)
 name-before (n ∷ ns) ms zero h = refl
 name-before (n ∷ ns) ms (suc k) h = name-before ns ms k (omega arith)
 
-name-here : (ns : List Named) (n : Named) → nameAt (ns ++ (n ∷ [])) (length ns) ≡ nameOf n
+name-here : (ns : List Named) (n : Named) → nameAt (ns ++ (n ∷ [])) (length ns) ≡ n ∷ []
 unfolding nameAt
 name-here [] n = refl
 name-here (m ∷ ns) n = name-here ns n
 
-name-beyond : (ns : List Named) (k : ℕ) → length ns ≤ k → the.Nothing ≡ nameAt ns k
+name-beyond : (ns : List Named) (k : ℕ) → length ns ≤ k → [] ≡ nameAt ns k
 unfolding nameAt
 name-beyond [] k h = refl
 name-beyond (n ∷ ns) zero h = absurd (omega arith)
@@ -213,17 +211,17 @@ passes-at q (l ∷ ls) zero d e = (omega arith, e)
 passes-at q (l ∷ ls) (suc i) d e = let r = passes-at q ls i d e in (omega arith, r .1)
 
 -- header stanza i of the file f: its look-up gives both
-header-found : (t : Table) (f i : ℕ) → Kept t → passes (isFile f) (labels t) i ≡ true → headerNamed i (found t i) ≡ the.Header f i
+header-found : (t : Table) (f i : ℕ) → Kept t → passes (isFile f) (labels t) i ≡ true → headerNamed i (found t i) ≡ header f i ∷ []
 header-found t f i k e =
     let r = passes-at (isFile f) (labels t) i (labelOf empty) e in
     let c = labels-count t in
     let l = label-is t i (r .0) in
     let own : getD (t .slots) i empty .index ≡ f = eqb-true (getD (t .slots) i empty .index) f (sym (ap (isFile f) l) ∙ r .1) in
-    let both : headerNamed i (the-found.Entry (getD (t .slots) i empty)) ≡ the.Header f i = ap (λ x. the.Header x i) own in
+    let both : headerNamed i (entry (getD (t .slots) i empty)) ≡ header f i ∷ [] = ap (λ x. header x i ∷ []) own in
     ap (headerNamed i) (sym (find-there t i (omega arith) (omega (arith, k .counted)))) ∙ both
 
 -- what it names is there, so its entry gives it back
-named-last : (t : Tables) (n : Named) (start size : ℕ) → Kept (t .headers) → isMissing t (error n) ≡ false → namedBy (t .headers) (record { start = start; length = size; index = indexOf n; mark = markOf n }) ≡ nameOf n
+named-last : (t : Tables) (n : Named) (start size : ℕ) → Kept (t .headers) → isMissing t (error n) ≡ false → namedBy (t .headers) (record { start = start; length = size; index = indexOf n; mark = markOf n }) ≡ n ∷ []
 named-last t internal start size k h = refl
 named-last t (identity i) start size k h = refl
 named-last t (recipient i) start size k h = refl
@@ -238,14 +236,14 @@ module _ (t : Table) (n index mark : ℕ) (h : t .count < t .width) (w : Kept t)
   more-before : (k : ℕ) → k < t .count → found (appended t n index mark) k ≡ found t k
   more-before k g =
       sym (find-there (appended t n index mark) k (omega arith) (omega arith))
-      ∙ ap the-found.Entry (getD-set-other (t .slots) (t .count) k last empty (λ e. omega arith))
+      ∙ ap entry (getD-set-other (t .slots) (t .count) k last empty (λ e. omega arith))
       ∙ find-there t k g (omega arith)
 
-  more-here : found (appended t n index mark) (t .count) ≡ the-found.Entry last
+  more-here : found (appended t n index mark) (t .count) ≡ entry last
   more-here =
-      sym (find-there (appended t n index mark) (t .count) (omega arith) h) ∙ ap the-found.Entry (getD-set-same (t .slots) (t .count) last empty (omega (arith, w .wide)))
+      sym (find-there (appended t n index mark) (t .count) (omega arith) h) ∙ ap entry (getD-set-same (t .slots) (t .count) last empty (omega (arith, w .wide)))
 
-  more-beyond : (k : ℕ) → t .count < k → found (appended t n index mark) k ≡ the-found.Nothing
+  more-beyond : (k : ℕ) → t .count < k → found (appended t n index mark) k ≡ nothing
   more-beyond k g = sym (find-none (appended t n index mark) k (omega arith))
 
 -- ---- the errors of tables name these, in order
@@ -258,7 +256,7 @@ record Names (t : Tables) (ns : List Named) : Type 0 where
 same-names : (t u : Tables) (ns : List Named) → u .errors ≡ t .errors → u .headers ≡ t .headers → Names t ns → Names u ns
 same-names t u ns e h r = record { counted = ap (λ x. x .count) e ∙ r .counted; named = λ k. ap₂ (λ x y. namedIn x (found y k)) h e ∙ r .named k }
 
-none-names : (t : Tables) (h : Table) (k : ℕ) → t .errors .count ≡ 0 → namedIn h (found (t .errors) k) ≡ the.Nothing
+none-names : (t : Tables) (h : Table) (k : ℕ) → t .errors .count ≡ 0 → namedIn h (found (t .errors) k) ≡ []
 none-names t h k z = ap (namedIn h) (sym (find-none (t .errors) k (omega arith)))
 
 still-none : (t u : Tables) (ns : List Named) → u .errors ≡ t .errors → t .errors .count ≡ 0 → Names t ns → Names u ns

@@ -1,7 +1,7 @@
 -- Look-up by file, by the loop of the code; and what a look-up shows of tables that an opening and calls can reach.
 use Prim.Native.Nat.{ℕ, zero, suc, _+_, _-_, _<_, _≤_}
 use mathlib.Core.Path.{_≡_, refl, sym, ap, _∙_}
-use mathlib.Core.Logic.{_⊎_, inl, inr, ⊎-elim, _↔_}
+use mathlib.Core.Logic.{_⊎_, inl, inr, ⊎-elim}
 use mathlib.Core.Bool.{Bool, true, false}
 use mathlib.Core.List.{List, [], _∷_, _++_, map}
 use lib.Dec.{eqb}
@@ -9,16 +9,20 @@ use lib.ListN.{length, take, drop, getD}
 use lib.Seq.{length-take-le}
 use native.Mathlib.Decide.{decLt}
 use native.Mathlib.Omega.{arith}
+use borrow.Author.Tests.{lt-leb}
 use Rattle.refusal.specs.Pick.{pick}
 use Rattle.tables.specs.declared.slots.Entry.{Entry}
-use Rattle.tables.specs.Tables.{Table, Row, empty, rowOf, view, shown}
-use Rattle.tables.proofs.Laws.Tables.{Filled, view-count}
-use Rattle.tables.proofs.Laws.LookUp.{find-none, slotOf, looked, shown-empty}
+use Rattle.tables.specs.Tables.{Table, Row, rowOf, view, found, shown, endOf, Looked}
+use Rattle.tables.proofs.Laws.Tables.{Kept, Filled, view-count}
+use Rattle.tables.proofs.Laws.LookUp.{find-none, there, part-shown, shown-empty, looked}
+use Rattle.bech32.specs.declared.TextKind.the-variants.{Recipient, Identity}
 use Rattle.session.specs.Tables.{Tables}
+use Rattle.phase_one.specs.Views as one-kind
+use Rattle.phase_one.proofs.Laws.Views.{Reached}
 use Rattle.conversation.specs.Kinds.{ofFile}
 use Rattle.conversation.specs.PhaseTwo.{Label, labelOf, labels, howMany, isFile, errors, stanzas, returned}
 use Rattle.conversation.proofs.Laws.ViewsTwo.{ReachedTwo, kept-two}
-use Rattle.look_up.specs.LookUp.{numberOf, foundOf, messageOf}
+use Rattle.look_up.specs.LookUp.{entryText, numberOf, foundOf, messageOf, stanzaOf, keyOf, LookedOf, Told}
 use Rattle.look_up.proofs.Laws.Labels.{slotLabel, labels-at, labels-end}
 
 -- ---- the loop: the slots before i have been passed, and the k-th of the rest is looked for
@@ -109,56 +113,64 @@ module _ (b : List ℕ) (f : ℕ) where
 
 -- ---- of a table that an opening and calls can reach
 
--- where an entry's payload ends in the buffer
-abbrev pub endOf : Table → ℕ → ℕ
-endOf t n = slotOf t n .start + slotOf t n .length
-
--- the k-th entry of a file: its part of a buffer that is long enough for it is the payload of the file's row k; it is empty exactly if the file has no row k or the
--- buffer is too short for it
-pub record LookedOf (t : Table) (b : List ℕ) (f k : ℕ) : Type 0 where
-  pub part : k < length (ofFile f (view t b)) → endOf t (numberOf (isFile f) (labels t) k) ≤ length b → shown (foundOf t f k) b ≡ getD (ofFile f (view t b)) k (rowOf b empty) .payload
-  pub none : (shown (foundOf t f k) b ≡ []) ↔ ((length (ofFile f (view t b)) ≤ k) ⊎ (length b < endOf t (numberOf (isFile f) (labels t) k)))
-
-pub looked-of : (t : Table) (b : List ℕ) (f k : ℕ) → Filled t → LookedOf t b f k
+-- the k-th entry of a file
+pub looked-of : (t : Table) (b : List ℕ) (f k : ℕ) → Filled t → LookedOf (shown (foundOf t f k) b) t b f k
 looked-of t b f k w =
     let es = take (t .count) (t .slots) in
     let n = numberOf (isFile f) (labels t) k in
     let c : length es ≡ t .count = length-take-le (t .count) (t .slots) (omega (arith, w .kept-so .counted, w .kept-so .wide)) in
     let v : length (view t b) ≡ t .count = view-count t b (w .kept-so) in
-    let at = rows-at b f es (rowOf b empty) k in
+    let at = rows-at b f es (record { payload = []; index = 0; mark = 0 }) k in
     let s = shown-empty t b n w in
     let out : t .count ≤ n → length (ofFile f (view t b)) ≤ k =
     λ l. elim (decLt k (length (ofFile f (view t b)))) [ yes h ↦ absurd (omega (arith, at h .0)) | no h ↦ omega arith ] in
     record {
-      part = λ h l. looked t b n (w .kept-so) (omega (arith, at h .0)) .part l ∙ sym (ap (λ r. r .payload) (at h .1));
-      none = (λ e. ⊎-elim (λ l. inl (out l)) (λ l. inr l) (s .0 e), λ o. s .1 (⊎-elim (λ l. inl (omega (arith, rows-none b f es k l))) (λ l. inr l) o));
+      there = λ h l. part-shown t b n (w .kept-so) (omega (arith, at h .0)) l ∙ sym (ap (λ r. r .payload) (at h .1));
+      empty-iff = (λ e. ⊎-elim (λ l. inl (out l)) (λ l. inr l) (s .0 e), λ o. s .1 (⊎-elim (λ l. inl (omega (arith, rows-none b f es k l))) (λ l. inr l) o));
     }
 
 -- how many stanzas a file has, and whether it has a key: as many as rows of the file
 pub count-of : (t : Table) (b : List ℕ) (f : ℕ) → howMany (isFile f) (labels t) ≡ length (ofFile f (view t b))
 count-of t b f = rows-count b f (take (t .count) (t .slots))
 
+-- an entry whose payload may be empty: none is shown beyond the rows, or of a buffer that is too short
+none-shown : (t : Table) (b : List ℕ) (k : ℕ) → Kept t → (length (view t b) ≤ k) ⊎ (length b < endOf t k) → shown (found t k) b ≡ []
+none-shown t b k w o =
+    let c = view-count t b w in
+    elim (decLt k (t .count)) [
+      | yes h ↦ ap (λ x. shown x b) (there t k w h) ∙ rw (lt-leb (endOf t k) (length b) (⊎-elim (λ l. absurd (omega arith)) (λ l. l) o))
+      | no h ↦ ap (λ x. shown x b) (sym (find-none t k (omega arith)))
+    ]
+
 -- ---- of the tables of a session that an opening and calls can reach
 
+module _ (t : Tables) (r : Reached t) where
+  -- an entry of a kind of phase one, found by its number
+  pub entry-looked : (k : one-kind.KindOne) (b : List ℕ) (n : ℕ) → Looked (shown (found (one-kind.tableOf k t) n) b) (one-kind.tableOf k t) b n
+  unfolding Reached
+  entry-looked k b n = looked (one-kind.tableOf k t) b n (r k)
+
+  -- a recipient or an identity: what `entryText` shows
+  pub recipient-looked : (n : ℕ) (recipients identities : List ℕ) → Looked (entryText t Recipient n recipients identities) (t .recipients) recipients n
+  recipient-looked n recipients identities = entry-looked one-kind.recipients recipients n
+
+  pub identity-looked : (n : ℕ) (recipients identities : List ℕ) → Looked (entryText t Identity n recipients identities) (t .identities) identities n
+  identity-looked n recipients identities = entry-looked one-kind.identities identities n
+
 module _ (t : Tables) (r : ReachedTwo t) where
-  -- stanza k of a file: what `stanzaOf` shows
-  pub stanza-looked : (b : List ℕ) (f k : ℕ) → LookedOf (t .stanzas) b f k
+  -- stanza k of a file, and how many it has
+  pub stanza-looked : (b : List ℕ) (f k : ℕ) → LookedOf (stanzaOf t f k b) (t .stanzas) b f k
   unfolding ReachedTwo
   stanza-looked b f k = looked-of (t .stanzas) b f k (r stanzas)
 
-  -- the key of a file: what `keyOf` shows
-  pub key-looked : (b : List ℕ) (f : ℕ) → LookedOf (t .returned) b f 0
+  -- the key of a file
+  pub key-looked : (b : List ℕ) (f : ℕ) → LookedOf (keyOf t f b) (t .returned) b f 0
   unfolding ReachedTwo
   key-looked b f = looked-of (t .returned) b f 0 (r returned)
 
-  -- as many errors as rows
-  pub errors-count : (b : List ℕ) → t .errors .count ≡ length (view (t .errors) b)
-  errors-count b = sym (view-count (t .errors) b (kept-two t r errors))
-
-  -- the message of error k is the payload of row k
-  pub message-looked : (b : List ℕ) (k : ℕ) → k < length (view (t .errors) b) → endOf (t .errors) k ≤ length b → messageOf t k b ≡ getD (view (t .errors) b) k (rowOf b empty) .payload
-  message-looked b k h l = let c = errors-count b in looked (t .errors) b k (kept-two t r errors) (omega arith) .part l
-
-  -- there is none beyond
-  pub message-none : (b : List ℕ) (k : ℕ) → length (view (t .errors) b) ≤ k → messageOf t k b ≡ []
-  message-none b k h = let c = errors-count b in ap (λ x. shown x b) (sym (find-none (t .errors) k (omega arith)))
+  -- the message of error k
+  pub message-told : (b : List ℕ) (k : ℕ) → Told (messageOf t k b) (t .errors) b k
+  message-told b k =
+      let w = kept-two t r errors in
+      let c = view-count (t .errors) b w in
+      record { there = λ h l. part-shown (t .errors) b k w (omega arith) l; none = none-shown (t .errors) b k w }

@@ -10,20 +10,22 @@ use borrow.Author.Tests.{lt-ltb, le-ltb, le-leb, lt-leb, eq-eqb}
 use Rattle.stanza.specs.Arguments.{argumentOf}
 use Rattle.tables.specs.Tables.{Table, empty, storing, entered, kept}
 use Rattle.refusal.specs.Pick.{pick}
+use Rattle.refusal.proofs.Laws.Pick.{pick-in}
 use Rattle.phase_one.specs.Commands.{CommandOne, recipient, identity, key, header, done, other, bad, restOf, payloadOf}
 use Rattle.session.specs.declared.opening.Machine.{Machine}
 use Rattle.session.specs.Tables.{Tables}
 use Rattle.phase_one.specs.PhaseOne.{BuffersOne, buffersOf, falls, decided, applied, filledBy, commandIn, payloadIn, numberOne, tablesOne, buffersOne}
 use Rattle.refusal.specs.Verdict.{firstOf}
 
--- a choice within, and a choice between the same
-pick-in : {X Y : Type 0} (b : Bool) (f : X → Y) (x y : X) → f (pick b x y) ≡ pick b (f x) (f y)
-pick-in true f x y = refl
-pick-in false f x y = refl
-
+-- a choice between the same
 same-either : {X : Type 0} (b : Bool) (x : X) → x ≡ pick b x x
 same-either true x = refl
 same-either false x = refl
+
+-- No. 7 comes before a fault that is looked for last
+late-falling : (b : Bool) (n z : ℕ) → pick b 7 (firstOf n z) ≡ firstOf (pick b 7 n) z
+late-falling true n z = refl
+late-falling false n z = refl
 
 module _ (t : Table) (index : ℕ) where
   pub falls-none : t .count ≡ 0 → false ≡ falls t index
@@ -43,19 +45,18 @@ module _ (m : Machine) (g : List ℕ) (t : Tables) (b : BuffersOne) (z : ℕ) (l
   Stepped v t′ b′ = (v ≡ numberOne m g t b z l y) × ((t′ ≡ tablesOne m g t b z l y) × (b′ ≡ buffersOne m g t b z l y))
 
   pub stepped : (x : CommandOne) (v : ℕ) (t′ : Tables) (b′ : BuffersOne) → x ≡ commandIn m g l y → v ≡ firstOf (decided t b x (length (payloadOf x l y))) z →
-      t′ ≡ pick (eqb (firstOf (decided t b x (length (payloadOf x l y))) z) 0) (applied t b x (payloadOf x l y)) t →
-      b′ ≡ pick (eqb (firstOf (decided t b x (length (payloadOf x l y))) z) 0) (filledBy t b x (payloadOf x l y)) b → Stepped v t′ b′
+      t′ ≡ pick (eqb v 0) (applied t b x (payloadOf x l y)) t → b′ ≡ pick (eqb v 0) (filledBy t b x (payloadOf x l y)) b → Stepped v t′ b′
   stepped x v t′ b′ e q u w = (
     q ∙ ap (λ x. firstOf (decided t b x (length (payloadOf x l y))) z) e,
     (
-      u ∙ ap (λ x. pick (eqb (firstOf (decided t b x (length (payloadOf x l y))) z) 0) (applied t b x (payloadOf x l y)) t) e,
-      w ∙ ap (λ x. pick (eqb (firstOf (decided t b x (length (payloadOf x l y))) z) 0) (filledBy t b x (payloadOf x l y)) b) e,
+      u ∙ ap (λ v. pick (eqb v 0) (applied t b x (payloadOf x l y)) t) q ∙ ap (λ x. pick (eqb (firstOf (decided t b x (length (payloadOf x l y))) z) 0) (applied t b x (payloadOf x l y)) t) e,
+      w ∙ ap (λ v. pick (eqb v 0) (filledBy t b x (payloadOf x l y)) b) q ∙ ap (λ x. pick (eqb (firstOf (decided t b x (length (payloadOf x l y))) z) 0) (filledBy t b x (payloadOf x l y)) b) e,
     ),
   )
 
   -- a fault that nothing comes before, and a command that is not kept
   pub step-bad : (n : ℕ) → bad n ≡ commandIn m g l y → eqb n 0 ≡ false → Stepped n t b
-  step-bad n e f = stepped (bad n) n t b e (rw f) (rw (f, f)) (rw (f, f))
+  step-bad n e f = stepped (bad n) n t b e (rw f) (same-either (eqb n 0) t) (same-either (eqb n 0) b)
 
   pub step-done : done ≡ commandIn m g l y → Stepped z t b
   step-done e = stepped done z t b e refl (same-either (eqb z 0) t) (same-either (eqb z 0) b)
@@ -63,57 +64,38 @@ module _ (m : Machine) (g : List ℕ) (t : Tables) (b : BuffersOne) (z : ℕ) (l
   pub step-other : other ≡ commandIn m g l y → Stepped z t b
   step-other e = stepped other z t b e refl (same-either (eqb z 0) t) (same-either (eqb z 0) b)
 
-  pub step-falling : (i k : ℕ) → header i k ≡ commandIn m g l y → falls (t .headers) i ≡ true → Stepped 7 t b
-  step-falling i k e f = stepped (header i k) 7 t b e (rw f) (rw f) (rw f)
-
   -- an entry of each kind
-  pub step-recipient : (k v : ℕ) (r : Table) (p : List ℕ) → recipient k ≡ commandIn m g l y →
-      v ≡ storing (t .recipients) (length (argumentOf l 1)) (length (b .recipients)) z →
-      r ≡ pick (eqb (storing (t .recipients) (length (argumentOf l 1)) (length (b .recipients)) z) 0) (entered (t .recipients) (length (argumentOf l 1)) 0 k (length (b .recipients))) (t .recipients) →
-      p ≡ pick (eqb (storing (t .recipients) (length (argumentOf l 1)) (length (b .recipients)) z) 0) (kept (t .recipients) (argumentOf l 1) (b .recipients)) (b .recipients) →
+  pub step-recipient : (k v : ℕ) (r : Table) (p : List ℕ) → recipient k ≡ commandIn m g l y → v ≡ storing (t .recipients) (length (argumentOf l 1)) (length (b .recipients)) z →
+      r ≡ pick (eqb v 0) (entered (t .recipients) (length (argumentOf l 1)) 0 k (length (b .recipients))) (t .recipients) → p ≡ pick (eqb v 0) (kept (t .recipients) (argumentOf l 1) (b .recipients)) (b .recipients) →
       Stepped v (record { recipients = r; identities = t .identities; keys = t .keys; headers = t .headers; errors = t .errors; stanzas = t .stanzas; returned = t .returned }) (buffersOf p (b .identities) (b .keys) (b .headers))
   step-recipient k v r p e q u w =
-      let s = eqb (storing (t .recipients) (length (argumentOf l 1)) (length (b .recipients)) z) 0 in
-      stepped (recipient k) v _ _ e q
-      (ap (λ x. record { recipients = x; identities = t .identities; keys = t .keys; headers = t .headers; errors = t .errors; stanzas = t .stanzas; returned = t .returned }) u
-      ∙ pick-in s (λ x. record { recipients = x; identities = t .identities; keys = t .keys; headers = t .headers; errors = t .errors; stanzas = t .stanzas; returned = t .returned }) _ _)
-      (ap (λ x. buffersOf x (b .identities) (b .keys) (b .headers)) w ∙ pick-in s (λ x. buffersOf x (b .identities) (b .keys) (b .headers)) _ _)
+      let f : Table → Tables = λ x. record { recipients = x; identities = t .identities; keys = t .keys; headers = t .headers; errors = t .errors; stanzas = t .stanzas; returned = t .returned } in
+      let h : List ℕ → BuffersOne = λ x. buffersOf x (b .identities) (b .keys) (b .headers) in
+      stepped (recipient k) v _ _ e q (ap f u ∙ pick-in (eqb v 0) f _ _) (ap h w ∙ pick-in (eqb v 0) h _ _)
 
-  pub step-identity : (k v : ℕ) (r : Table) (p : List ℕ) → identity k ≡ commandIn m g l y →
-      v ≡ storing (t .identities) (length (argumentOf l 1)) (length (b .identities)) z →
-      r ≡ pick (eqb (storing (t .identities) (length (argumentOf l 1)) (length (b .identities)) z) 0) (entered (t .identities) (length (argumentOf l 1)) 0 k (length (b .identities))) (t .identities) →
-      p ≡ pick (eqb (storing (t .identities) (length (argumentOf l 1)) (length (b .identities)) z) 0) (kept (t .identities) (argumentOf l 1) (b .identities)) (b .identities) →
+  pub step-identity : (k v : ℕ) (r : Table) (p : List ℕ) → identity k ≡ commandIn m g l y → v ≡ storing (t .identities) (length (argumentOf l 1)) (length (b .identities)) z →
+      r ≡ pick (eqb v 0) (entered (t .identities) (length (argumentOf l 1)) 0 k (length (b .identities))) (t .identities) → p ≡ pick (eqb v 0) (kept (t .identities) (argumentOf l 1) (b .identities)) (b .identities) →
       Stepped v (record { recipients = t .recipients; identities = r; keys = t .keys; headers = t .headers; errors = t .errors; stanzas = t .stanzas; returned = t .returned }) (buffersOf (b .recipients) p (b .keys) (b .headers))
   step-identity k v r p e q u w =
-      let s = eqb (storing (t .identities) (length (argumentOf l 1)) (length (b .identities)) z) 0 in
-      stepped (identity k) v _ _ e q
-      (ap (λ x. record { recipients = t .recipients; identities = x; keys = t .keys; headers = t .headers; errors = t .errors; stanzas = t .stanzas; returned = t .returned }) u
-      ∙ pick-in s (λ x. record { recipients = t .recipients; identities = x; keys = t .keys; headers = t .headers; errors = t .errors; stanzas = t .stanzas; returned = t .returned }) _ _)
-      (ap (λ x. buffersOf (b .recipients) x (b .keys) (b .headers)) w ∙ pick-in s (λ x. buffersOf (b .recipients) x (b .keys) (b .headers)) _ _)
+      let f : Table → Tables = λ x. record { recipients = t .recipients; identities = x; keys = t .keys; headers = t .headers; errors = t .errors; stanzas = t .stanzas; returned = t .returned } in
+      let h : List ℕ → BuffersOne = λ x. buffersOf (b .recipients) x (b .keys) (b .headers) in
+      stepped (identity k) v _ _ e q (ap f u ∙ pick-in (eqb v 0) f _ _) (ap h w ∙ pick-in (eqb v 0) h _ _)
 
-  pub step-key : (v : ℕ) (r : Table) (p : List ℕ) → key ≡ commandIn m g l y →
-      v ≡ storing (t .keys) (length y) (length (b .keys)) z →
-      r ≡ pick (eqb (storing (t .keys) (length y) (length (b .keys)) z) 0) (entered (t .keys) (length y) 0 0 (length (b .keys))) (t .keys) →
-      p ≡ pick (eqb (storing (t .keys) (length y) (length (b .keys)) z) 0) (kept (t .keys) y (b .keys)) (b .keys) →
+  pub step-key : (v : ℕ) (r : Table) (p : List ℕ) → key ≡ commandIn m g l y → v ≡ storing (t .keys) (length y) (length (b .keys)) z →
+      r ≡ pick (eqb v 0) (entered (t .keys) (length y) 0 0 (length (b .keys))) (t .keys) → p ≡ pick (eqb v 0) (kept (t .keys) y (b .keys)) (b .keys) →
       Stepped v (record { recipients = t .recipients; identities = t .identities; keys = r; headers = t .headers; errors = t .errors; stanzas = t .stanzas; returned = t .returned }) (buffersOf (b .recipients) (b .identities) p (b .headers))
   step-key v r p e q u w =
-      let s = eqb (storing (t .keys) (length y) (length (b .keys)) z) 0 in
-      stepped key v _ _ e q
-      (ap (λ x. record { recipients = t .recipients; identities = t .identities; keys = x; headers = t .headers; errors = t .errors; stanzas = t .stanzas; returned = t .returned }) u
-      ∙ pick-in s (λ x. record { recipients = t .recipients; identities = t .identities; keys = x; headers = t .headers; errors = t .errors; stanzas = t .stanzas; returned = t .returned }) _ _)
-      (ap (λ x. buffersOf (b .recipients) (b .identities) x (b .headers)) w ∙ pick-in s (λ x. buffersOf (b .recipients) (b .identities) x (b .headers)) _ _)
+      let f : Table → Tables = λ x. record { recipients = t .recipients; identities = t .identities; keys = x; headers = t .headers; errors = t .errors; stanzas = t .stanzas; returned = t .returned } in
+      let h : List ℕ → BuffersOne = λ x. buffersOf (b .recipients) (b .identities) x (b .headers) in
+      stepped key v _ _ e q (ap f u ∙ pick-in (eqb v 0) f _ _) (ap h w ∙ pick-in (eqb v 0) h _ _)
 
-  pub step-header : (i k v : ℕ) (r : Table) (p : List ℕ) → header i k ≡ commandIn m g l y → falls (t .headers) i ≡ false →
-      v ≡ storing (t .headers) (length (restOf l ++ 10 ∷ y)) (length (b .headers)) z →
-      r ≡ pick (eqb (storing (t .headers) (length (restOf l ++ 10 ∷ y)) (length (b .headers)) z) 0) (entered (t .headers) (length (restOf l ++ 10 ∷ y)) i k (length (b .headers))) (t .headers) →
-      p ≡ pick (eqb (storing (t .headers) (length (restOf l ++ 10 ∷ y)) (length (b .headers)) z) 0) (kept (t .headers) (restOf l ++ 10 ∷ y) (b .headers)) (b .headers) →
+  pub step-header : (i k v : ℕ) (r : Table) (p : List ℕ) → header i k ≡ commandIn m g l y → v ≡ pick (falls (t .headers) i) 7 (storing (t .headers) (length (restOf l ++ 10 ∷ y)) (length (b .headers)) z) →
+      r ≡ pick (eqb v 0) (entered (t .headers) (length (restOf l ++ 10 ∷ y)) i k (length (b .headers))) (t .headers) → p ≡ pick (eqb v 0) (kept (t .headers) (restOf l ++ 10 ∷ y) (b .headers)) (b .headers) →
       Stepped v (record { recipients = t .recipients; identities = t .identities; keys = t .keys; headers = r; errors = t .errors; stanzas = t .stanzas; returned = t .returned }) (buffersOf (b .recipients) (b .identities) (b .keys) p)
-  step-header i k v r p e f q u w =
-      let s = eqb (storing (t .headers) (length (restOf l ++ 10 ∷ y)) (length (b .headers)) z) 0 in
-      stepped (header i k) v _ _ e (q ∙ rw f)
-      (ap (λ x. record { recipients = t .recipients; identities = t .identities; keys = t .keys; headers = x; errors = t .errors; stanzas = t .stanzas; returned = t .returned }) u
-      ∙ pick-in s (λ x. record { recipients = t .recipients; identities = t .identities; keys = t .keys; headers = x; errors = t .errors; stanzas = t .stanzas; returned = t .returned }) _ _ ∙ rw f)
-      (ap (λ x. buffersOf (b .recipients) (b .identities) (b .keys) x) w ∙ pick-in s (λ x. buffersOf (b .recipients) (b .identities) (b .keys) x) _ _ ∙ rw f)
+  step-header i k v r p e q u w =
+      let f : Table → Tables = λ x. record { recipients = t .recipients; identities = t .identities; keys = t .keys; headers = x; errors = t .errors; stanzas = t .stanzas; returned = t .returned } in
+      let h : List ℕ → BuffersOne = λ x. buffersOf (b .recipients) (b .identities) (b .keys) x in
+      stepped (header i k) v _ _ e (q ∙ late-falling (falls (t .headers) i) _ z) (ap f u ∙ pick-in (eqb v 0) f _ _) (ap h w ∙ pick-in (eqb v 0) h _ _)
 
 -- ---- an accepted command
 module _ (m : Machine) (g : List ℕ) (t : Tables) (b : BuffersOne) (z : ℕ) (l y : List ℕ) where

@@ -2,7 +2,7 @@
 use mathlib.Core.Path.{sym, ap, _∙_}
 use denote.Ref.{now}
 use Rattle.base64.specs.Code.{sizeSaid}
-use Rattle.profile.proofs.Laws.Profile.{measured-is, measured-not}
+use Rattle.base64.proofs.Laws.Code.{measured-is, measured-not}
 use borrow.Author.Needs.{needs}
 use Rattle.profile.proofs.is_bytes.Statement.{statement}
 use Rattle.profile.proofs.is_bytes.Tie as tie

@@ -11,7 +11,7 @@ use borrow.Author.Tests.{lt-ltb, le-ltb, ltb-true, ltb-false}
 use Rattle.refusal.specs.Pick.{pick}
 use Rattle.refusal.proofs.Laws.Booleans.{cases}
 use Rattle.stanza.specs.Automaton.{State, start, hyphen, arrow, gap, word, line, ended, dead, next, after, Scan, bad, short, whole, verdict, scan}
-use Rattle.stanza.specs.Grammar.{IsStanza}
+use Rattle.stanza.specs.Exact.{Begins, FirstFault, Taken}
 use Rattle.stanza.specs.Reading.{stanza, refused, found, readFirst}
 use Rattle.stanza.proofs.Laws.Grammar.{dead-or, after-append, after-dead, after-dead-not, completion, completes, Fits, after-fits, ended-iff, dead-iff}
 
@@ -122,12 +122,6 @@ stops (b ∷ u) s i a = go (next s b) refl (λ l. stops u (next s b) (i + 1) l)
 
 -- ---- in terms of stanzas
 
--- some stanza begins with p and is longer
-pub record Begins (p : List ℕ) : Type 0 where
-  pub rest : List ℕ
-  pub longer : 0 < length rest
-  pub whole : IsStanza (p ++ rest)
-
 begins-alive : (p : List ℕ) → Begins p → Alive (after start p)
 begins-alive p w =
     let e = sym (after-append start p (w .rest)) ∙ ended-iff (p ++ w .rest) .1 (w .whole) in
@@ -172,14 +166,7 @@ found-short n w bad r e h = let z : 1 ≡ r = cc in absurd (h (sym z))
 found-short n w short r e h = (refl, e)
 found-short n w (whole k) r e h = let z : _≡_ {A = ℕ} 0 1 = cc in absurd (omega arith)
 
--- No. 1: the byte at `at` is the first that no stanza can have there, and it is among the first 8,192
-pub record FirstFault (t : List ℕ) : Type 0 where
-  pub at : ℕ
-  pub within : at < length t
-  pub limit : at < 8192
-  pub possible : Begins (take at t)
-  pub impossible : (r : List ℕ) → IsStanza (take (suc at) t ++ r) → ⊥
-
+-- No. 1
 pub refused-1 : (t : List ℕ) → (readFirst t ≡ refused 1) ↔ FirstFault t
 unfolding found
 refused-1 t = (λ e. fault (scan start 0 (take 8192 t)) (stops (take 8192 t) start 0 start-alive) (found-bad (length t) (take 8192 t) (scan start 0 (take 8192 t)) e), given)
@@ -240,12 +227,7 @@ refused-3 t = (
     over : pick (ltb (length t) 8192) (refused 2) (refused 3) ≡ refused 3 → 8192 ≤ length t
     over e = cases (ltb (length t) 8192) (λ h. let f : refused 2 ≡ refused 3 = rw h at e in let z : _≡_ {A = ℕ} 2 3 = cc in absurd (omega arith)) (λ h. ltb-false (length t) 8192 h)
 
--- a stanza of k bytes: the first k bytes are one, and no more than 8,192
-pub record Taken (t : List ℕ) (k : ℕ) : Type 0 where
-  pub within : k ≤ length t
-  pub limit : k ≤ 8192
-  pub whole : IsStanza (take k t)
-
+-- a stanza that is taken
 pub found-whole : (n : ℕ) (w : List ℕ) (x : Scan) (e m k : ℕ) → found n w x ≡ stanza e m k → x ≡ whole k
 unfolding found
 found-whole n w bad e m k p = let z : _≡_ {A = ℕ} 0 1 = cc in absurd (omega arith)

@@ -3,7 +3,7 @@ use Prim.Native.Nat.{ℕ, zero, suc, _+_, _-_, _*_, _/_, _%_, _<_, _≤_}
 use mathlib.Core.Path.{_≡_, refl, sym, ap, _∙_}
 use mathlib.Core.Bool.{true, false, _&&_}
 use mathlib.Core.List.{List, [], _∷_, _++_, append-assoc, append-nil}
-use mathlib.Core.Logic.{_⊎_, inl, inr, ⊎-elim}
+use mathlib.Core.Logic.{_⊎_, inl, inr, ⊎-elim, _↔_}
 use lib.Dec.{leb, ltb, eqb, eqb·suc-zero, eqb·suc-suc}
 use lib.ListN.{length, drop, getD, drop-of-length-le, length-append, List·getD-append}
 use native.Mathlib.Omega.{arith}
@@ -13,7 +13,7 @@ use Rattle.refusal.specs.Run.{all}
 use Rattle.refusal.proofs.Laws.Booleans.{cases, and-true, and-false-right}
 use Rattle.refusal.proofs.Laws.Lists.{drop-one}
 use Rattle.refusal.proofs.Laws.Run.{all-append}
-use Rattle.stanza.specs.Index.{number, refused, isDigit, digits, readIndex, valueFrom, decimal, decimalWith}
+use Rattle.stanza.specs.Index.{number, refused, isDigit, digits, readIndex, valueFrom, isIndex, decimal, decimalWith}
 
 -- ---- what the code passes over
 
@@ -227,3 +227,16 @@ read-number t n e =
     rw m (j .2, j .3))
     (λ f. let z : _≡_ {A = ℕ} 0 1 = cc in absurd (omega arith))
     (read-index t)
+
+-- ---- exactly which texts are an index, and of which number
+
+-- by the paper's words
+pub index-is : (t : List ℕ) → readIndex t ≡ pick (isIndex t) (number (valueFrom 0 t)) (refused 5)
+unfolding readIndex
+index-is [] = refl
+index-is (b ∷ []) = digits-value 0 (b ∷ []) (omega arith)
+index-is (b ∷ c ∷ t) = cases (eqb b 48) (λ e. rw e) (λ e. rw e (digits-value 0 (b ∷ c ∷ t) (omega arith)))
+
+-- by the text of the number
+pub index-iff : (t : List ℕ) (n : ℕ) → (readIndex t ≡ number n) ↔ ((t ≡ decimal n) × (n ≤ 4294967295))
+index-iff t n = (read-number t n, λ w. ap readIndex (w .0) ∙ read-decimal n (w .1))

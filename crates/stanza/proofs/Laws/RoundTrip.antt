@@ -17,12 +17,14 @@ use Rattle.base64.proofs.Laws.RoundTrip.{body-lines}
 use Rattle.base64.proofs.Laws.Lines.{lines-length}
 use Rattle.stanza.specs.Arguments.{isGraphic, isLine}
 use Rattle.stanza.specs.Automaton.{whole}
+use Rattle.stanza.specs.Exact.{Taken}
 use Rattle.stanza.specs.Grammar.{firstLine, stanzaText}
 use Rattle.stanza.specs.Reading.{stanza, found, readFirst, isNotLf, lineEnd, linesIn}
+use Rattle.stanza.specs.RoundTrip.{ReadBack, Again}
 use Rattle.stanza.specs.Writing.{isWritable}
 use Rattle.stanza.proofs.Laws.Arguments.{goesOn, line-cons, line-nil, goes-space, goes-cons}
 use Rattle.stanza.proofs.Laws.Automaton.{graphic-not-lf}
-use Rattle.stanza.proofs.Laws.Exact.{Taken, scan-taken, taken-iff}
+use Rattle.stanza.proofs.Laws.Exact.{scan-taken, taken-iff}
 use Rattle.stanza.proofs.Laws.Writing.{text-length}
 
 -- ---- where the parts of a stanza's text are
@@ -102,13 +104,10 @@ pub read-body : (l b r : List ℕ) → areBytes b ≡ true → bodyOf (drop (len
 read-body l b r a =
     ap (λ u. bodyOf (drop (length l + 3 + 1) u)) (take-append-seam (stanzaText l b) r) ∙ ap bodyOf (drop-at (firstLine l) (linesOf b) (length l + 3 + 1) (simp length-append (omega arith))) ∙ body-lines b a
 
--- ---- what was read would be written so again
+pub read-back : (l b r : List ℕ) → areBytes b ≡ true → isWritable l b ≡ true → ReadBack l b (stanzaText l b ++ r)
+read-back l b r a h = record { answer = read-written l b r a h; arguments = read-arguments l b r; decoded = read-body l b r a }
 
-pub record Again (t : List ℕ) (e n k : ℕ) : Type 0 where
-  pub writable : isWritable (drop 3 (take e t)) (bodyOf (drop (e + 1) (take k t))) ≡ true
-  pub bytes : areBytes (bodyOf (drop (e + 1) (take k t))) ≡ true
-  pub body : length (bodyOf (drop (e + 1) (take k t))) ≡ n
-  pub text : stanzaText (drop 3 (take e t)) (bodyOf (drop (e + 1) (take k t))) ≡ take k t
+-- ---- what was read would be written so again
 
 again : (t l b : List ℕ) (e n k : ℕ) → e ≡ length l + 3 → n ≡ length b → stanzaText l b ≡ take k t → isLine l ≡ true → areBytes b ≡ true → k ≤ 8192 → k ≤ length t → Again t e n k
 again t l b e n k p q s h a f g =

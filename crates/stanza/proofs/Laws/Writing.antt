@@ -9,8 +9,9 @@ use borrow.Author.Tests.{le-ltb, lt-ltb, lt-leb, eq-eqb, ne-eqb}
 use mathlib.Core.Bool.{Bool, true, false, _&&_}
 use lib.Dec.{eqb}
 use Rattle.refusal.specs.Pick.{pick}
-use Rattle.refusal.specs.Output.{bytes, refused, answered, filled}
+use Rattle.refusal.specs.Output.{bytes, refused, answered, filled, WritingJudged}
 use Rattle.refusal.proofs.Laws.Booleans.{cases, and-false-right}
+use Rattle.refusal.proofs.Laws.Output.{test-judged}
 use Rattle.refusal.proofs.Laws.Lists.{part-rest, put-rest, overwrite-part, front-part, front-store, front-whole}
 use Rattle.base64.specs.Lines.{linesOf}
 use Rattle.stanza.specs.Arguments.{isLine, lineWith}
@@ -112,3 +113,7 @@ module _ (command arguments o : List ℕ) where
   join-both o′ e h q =
       rw (ne-eqb (length arguments) 0 e, le-ltb (length o) (length (command ++ 32 ∷ arguments)) (omega (arith, joined-length)))
       (ap bytes (sym joined-length), q ∙ ap (λ k. (command ++ 32 ∷ arguments) ++ drop k o) (sym joined-length))
+
+-- 17 exactly where the text can't be written, then 15, and nothing is written then
+pub written-judged : (l b buffer : List ℕ) → WritingJudged 17 (isWritable l b ≡ false) (stanzaText l b) buffer (written l b buffer) (bufferAfter l b buffer)
+written-judged l b buffer = test-judged 17 (stanzaText l b) buffer (λ e. omega arith) (isWritable l b)

@@ -1,28 +1,27 @@
 -- Look-up, by the tests of the code; and what it shows of a table that an opening and calls can reach.
 use Prim.Native.Nat.{ℕ, zero, suc, _+_, _-_, _<_, _≤_}
-use mathlib.Core.Path.{_≡_, sym, ap, _∙_, subst}
+use mathlib.Core.Path.{_≡_, refl, sym, ap, _∙_, subst}
 use mathlib.Core.Logic.{_⊎_, inl, inr, ⊎-elim, _↔_}
 use mathlib.Core.List.{List, [], _∷_}
-use lib.ListN.{length, take, drop, getD, drop-of-length-le, length-take, length-drop, List·getD-map}
+use lib.ListN.{length, take, drop, getD, drop-of-length-le, length-take, length-drop, length-map, List·getD-map}
 use lib.Seq.{take-nil, getD-take, length-take-le}
 use native.Mathlib.Decide.{decLt}
 use native.Mathlib.Omega.{arith}
 use borrow.Author.Tests.{lt-ltb, le-ltb, le-leb, lt-leb}
-use Rattle.tables.specs.Tables.{Table, empty, rowOf, view, found, partOf, shown}
+use Rattle.tables.specs.Tables.{Table, Row, empty, rowOf, view, entry, nothing, found, partOf, shown, endOf, payloadAt, Looked}
 use Rattle.tables.specs.declared.slots.Entry.{Entry}
-use Rattle.tables.specs.declared.tables.Found.the-variants as the
-use Rattle.tables.proofs.Laws.Tables.{AllSome, Kept, Filled}
+use Rattle.tables.proofs.Laws.Tables.{AllSome, Kept, Filled, view-count}
 
 -- ---- the entry of a number
 
 module _ (t : Table) (n : ℕ) where
-  pub find-none : t .count ≤ n → the.Nothing ≡ found t n
+  pub find-none : t .count ≤ n → nothing ≡ found t n
   find-none h = rw (le-ltb n (t .count) h)
 
-  pub find-beyond : n < t .count → t .width ≤ n → the.Nothing ≡ found t n
+  pub find-beyond : n < t .count → t .width ≤ n → nothing ≡ found t n
   find-beyond h g = rw (lt-ltb n (t .count) h, le-ltb n (t .width) g)
 
-  pub find-there : n < t .count → n < t .width → the.Entry (getD (t .slots) n empty) ≡ found t n
+  pub find-there : n < t .count → n < t .width → entry (getD (t .slots) n empty) ≡ found t n
   find-there h g = rw (lt-ltb n (t .count) h, lt-ltb n (t .width) g)
 
 -- ---- its part of the buffer
@@ -49,23 +48,26 @@ some-at [] n a h = absurd (omega arith)
 some-at (e ∷ es) zero a h = a .0
 some-at (e ∷ es) (suc n) a h = some-at es n (a .1) (omega arith)
 
--- below the count there is an entry: its row is the view's of that number, and its part of a buffer that is long enough for it is that row's payload
-pub record Looked (t : Table) (buffer : List ℕ) (n : ℕ) : Type 0 where
-  pub there : found t n ≡ the.Entry (slotOf t n)
-  pub row : getD (view t buffer) n (rowOf buffer empty) ≡ rowOf buffer (slotOf t n)
-  pub part : slotOf t n .start + slotOf t n .length ≤ length buffer → shown (found t n) buffer ≡ getD (view t buffer) n (rowOf buffer empty) .payload
+-- below the count there is an entry, and its row is the view's of that number
+pub there : (t : Table) (n : ℕ) → Kept t → n < t .count → found t n ≡ entry (slotOf t n)
+there t n k h = sym (find-there t n h (omega (arith, k .counted)))
 
-pub looked : (t : Table) (buffer : List ℕ) (n : ℕ) → Kept t → n < t .count → Looked t buffer n
-looked t buffer n k h =
+row-at : (t : Table) (buffer : List ℕ) (n : ℕ) (d : Row) → Kept t → n < t .count → getD (view t buffer) n d ≡ rowOf buffer (slotOf t n)
+row-at t buffer n d k h =
     let es = take (t .count) (t .slots) in
-    let f : found t n ≡ the.Entry (slotOf t n) = sym (find-there t n h (omega (arith, k .counted))) in
-    let g : getD es n empty ≡ slotOf t n = getD-take (t .count) (t .slots) n empty h in
-    let r : getD (view t buffer) n (rowOf buffer empty) ≡ rowOf buffer (slotOf t n) = List·getD-map (rowOf buffer) es n empty ∙ ap (rowOf buffer) g in
-    record {
-      there = f;
-      row = r;
-      part = λ l. ap (λ x. shown x buffer) f ∙ rw (le-leb (slotOf t n .start + slotOf t n .length) (length buffer) l) (sym (ap (λ x. x .payload) r));
-    }
+    let l = length-take-le (t .count) (t .slots) (omega (arith, k .counted, k .wide)) in
+    getD-default (view t buffer) n d (rowOf buffer empty) (omega (arith, length-map es (rowOf buffer))) ∙ List·getD-map (rowOf buffer) es n empty
+    ∙ ap (rowOf buffer) (getD-take (t .count) (t .slots) n empty h)
+  where
+    getD-default : (rs : List Row) (n : ℕ) (d e : Row) → n < length rs → getD rs n d ≡ getD rs n e
+    getD-default [] n d e h = absurd (omega arith)
+    getD-default (r ∷ rs) zero d e h = refl
+    getD-default (r ∷ rs) (suc n) d e h = getD-default rs n d e (omega arith)
+
+-- so its part of a buffer that is long enough for it is that row's payload
+pub part-shown : (t : Table) (buffer : List ℕ) (n : ℕ) → Kept t → n < t .count → endOf t n ≤ length buffer → shown (found t n) buffer ≡ payloadAt (view t buffer) n
+part-shown t buffer n k h l =
+    ap (λ x. shown x buffer) (there t n k h) ∙ rw (le-leb (endOf t n) (length buffer) l) (sym (ap (λ r. r .payload) (row-at t buffer n _ k h)))
 
 -- where no payload is empty, its payload is not
 looked-some : (t : Table) (n : ℕ) → Filled t → n < t .count → 0 < slotOf t n .length
@@ -82,12 +84,22 @@ part-empty start n b s = (λ e. elim (decLt (length b) (start + n)) [ yes h ↦ 
     long h = rw (le-leb (start + n) (length b) h) (simp (length-take, length-drop) (omega arith))
 
 -- what is shown is empty exactly if there is no entry of that number or the buffer is too short for it
-pub shown-empty : (t : Table) (buffer : List ℕ) (n : ℕ) → Filled t → (shown (found t n) buffer ≡ []) ↔ ((t .count ≤ n) ⊎ (length buffer < slotOf t n .start + slotOf t n .length))
+pub shown-empty : (t : Table) (buffer : List ℕ) (n : ℕ) → Filled t → (shown (found t n) buffer ≡ []) ↔ ((t .count ≤ n) ⊎ (length buffer < endOf t n))
 shown-empty t buffer n k =
     elim (decLt n (t .count)) [
       | yes h ↦
-          let w = looked t buffer n (k .kept-so) h in
+          let w = there t n (k .kept-so) h in
           let p = part-empty (slotOf t n .start) (slotOf t n .length) buffer (looked-some t n k h) in
-          (λ e. inr (p .0 (ap (λ x. shown x buffer) (sym (w .there)) ∙ e)), λ o. ap (λ x. shown x buffer) (w .there) ∙ p .1 (⊎-elim (λ l. absurd (omega arith)) (λ l. l) o))
+          (λ e. inr (p .0 (ap (λ x. shown x buffer) (sym w) ∙ e)), λ o. ap (λ x. shown x buffer) w ∙ p .1 (⊎-elim (λ l. absurd (omega arith)) (λ l. l) o))
       | no h ↦ (λ e. inl (omega arith), λ o. ap (λ x. shown x buffer) (sym (find-none t n (omega arith))))
     ]
+
+-- a look-up by number
+pub looked : (t : Table) (buffer : List ℕ) (n : ℕ) → Filled t → Looked (shown (found t n) buffer) t buffer n
+looked t buffer n k =
+    let c = view-count t buffer (k .kept-so) in
+    let s = shown-empty t buffer n k in
+    record {
+      there = λ h l. part-shown t buffer n (k .kept-so) (omega arith) l;
+      empty-iff = (λ e. ⊎-elim (λ l. inl (omega arith)) (λ l. inr l) (s .0 e), λ o. s .1 (⊎-elim (λ l. inl (omega arith)) (λ l. inr l) o));
+    }

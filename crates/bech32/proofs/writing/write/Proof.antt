@@ -39,19 +39,11 @@ symbols-length-requires c κs = search needs
 
 add-n : tie.Need-add-n
 add-n c =
-    let k = formOf (c .before .before .before .before .before .before .before .before .args .kind) in
-    let name = now (c .before .before .before .before .before .before .before .before .args .name) in
-    let payload = now (c .before .before .before .before .before .before .before .before .args .payload) in
-    let o = now (c .before .before .before .before .before .before .before .before .args .out) in
     let h = form-short (c .before .before .before .before .before .before .before .before .args .kind) in
     omega (arith, c .symbols-length .ensures, c .before .human-length .ensures, name-short (now (c .before .before .before .before .before .before .before .before .args .name)) (sym (c .before .before .before .before .is-name .ensures) ∙ not-false (c .before .before .before .before .is-name .result) (c .before .before .before .if1 .left)))
 
 add-n-2 : tie.Need-add-n-2
 add-n-2 c =
-    let k = formOf (c .before .before .before .before .before .before .before .before .args .kind) in
-    let name = now (c .before .before .before .before .before .before .before .before .args .name) in
-    let payload = now (c .before .before .before .before .before .before .before .before .args .payload) in
-    let o = now (c .before .before .before .before .before .before .before .before .args .out) in
     let h = form-short (c .before .before .before .before .before .before .before .before .args .kind) in
     omega (arith, c .symbols-length .ensures, c .before .human-length .ensures, name-short (now (c .before .before .before .before .before .before .before .before .args .name)) (sym (c .before .before .before .before .is-name .ensures) ∙ not-false (c .before .before .before .before .is-name .result) (c .before .before .before .if1 .left)))
 
@@ -61,7 +53,6 @@ returns-3 c =
     let name = now (c .before .before .before .before .before .before .before .before .before .args .name) in
     let payload = now (c .before .before .before .before .before .before .before .before .before .args .payload) in
     let o = now (c .before .before .before .before .before .before .before .before .before .args .out) in
-    let s = name-short name (sym (c .before .before .before .before .before .is-name .ensures) ∙ not-false (c .before .before .before .before .before .is-name .result) (c .before .before .before .before .if1 .left)) in
     let n : length (textOf k name payload) ≡ c .before .before .human-length .result + c .before .symbols-length .result + 7 =
     text-length k name payload ∙ ap₂ (λ x y. x + y + 7) (human-size k name ∙ sym (c .before .before .human-length .ensures)) (sym (c .before .symbols-length .ensures)) in
     writes-not k name payload o (too-long k name payload o (omega arith))
@@ -72,7 +63,6 @@ returns-4 c =
     let name = now (c .before .before .before .before .before .before .before .before .before .before .args .name) in
     let payload = now (c .before .before .before .before .before .before .before .before .before .before .args .payload) in
     let o = now (c .before .before .before .before .before .before .before .before .before .before .args .out) in
-    let s = name-short name (sym (c .before .before .before .before .before .before .is-name .ensures) ∙ not-false (c .before .before .before .before .before .before .is-name .result) (c .before .before .before .before .before .if1 .left)) in
     let n : length (textOf k name payload) ≡ c .before .before .before .human-length .result + c .before .before .symbols-length .result + 7 =
     text-length k name payload ∙ ap₂ (λ x y. x + y + 7) (human-size k name ∙ sym (c .before .before .before .human-length .ensures)) (sym (c .before .before .symbols-length .ensures)) in
     writes-short k name payload o (writable k name payload o (sym (c .before .before .before .before .before .before .is-name .ensures) ∙ not-false (c .before .before .before .before .before .before .is-name .result) (c .before .before .before .before .before .if1 .left)) (omega arith)) (omega arith)
@@ -82,8 +72,6 @@ write-into-requires c κs =
     let k = formOf (c .before .before .before .before .before .before .before .before .before .before .before .args .kind) in
     let name = now (c .before .before .before .before .before .before .before .before .before .before .before .args .name) in
     let payload = now (c .before .before .before .before .before .before .before .before .before .before .before .args .payload) in
-    let o = now (c .before .before .before .before .before .before .before .before .before .before .before .args .out) in
-    let s = name-short name (sym (c .before .before .before .before .before .before .before .is-name .ensures) ∙ not-false (c .before .before .before .before .before .before .before .is-name .result) (c .before .before .before .before .before .before .if1 .left)) in
     let n : length (textOf k name payload) ≡ c .before .before .before .before .human-length .result + c .before .before .before .symbols-length .result + 7 =
     text-length k name payload ∙ ap₂ (λ x y. x + y + 7) (human-size k name ∙ sym (c .before .before .before .before .human-length .ensures)) (sym (c .before .before .before .symbols-length .ensures)) in
     ((sym (c .before .before .before .before .before .before .before .is-name .ensures) ∙ not-false (c .before .before .before .before .before .before .before .is-name .result) (c .before .before .before .before .before .before .if1 .left)), (c .before .before .before .before .before .if2 .left, omega (arith, text-length k name payload)))
@@ -97,7 +85,6 @@ returns-5 c =
     let name = now (c .before .before .before .before .before .before .before .before .before .before .before .before .before .before .args .name) in
     let payload = now (c .before .before .before .before .before .before .before .before .before .before .before .before .before .before .args .payload) in
     let o = now (c .before .before .before .before .before .before .before .before .before .before .before .before .before .before .args .out) in
-    let s = name-short name (sym (c .before .before .before .before .before .before .before .before .before .before .is-name .ensures) ∙ not-false (c .before .before .before .before .before .before .before .before .before .before .is-name .result) (c .before .before .before .before .before .before .before .before .before .if1 .left)) in
     let n : length (textOf k name payload) ≡ c .before .before .before .before .before .before .before .human-length .result + c .before .before .before .before .before .before .symbols-length .result + 7 =
     text-length k name payload ∙ ap₂ (λ x y. x + y + 7) (human-size k name ∙ sym (c .before .before .before .before .before .before .before .human-length .ensures)) (sym (c .before .before .before .before .before .before .symbols-length .ensures)) in
     writes k name payload o _ _ (writable k name payload o (sym (c .before .before .before .before .before .before .before .before .before .before .is-name .ensures) ∙ not-false (c .before .before .before .before .before .before .before .before .before .before .is-name .result) (c .before .before .before .before .before .before .before .before .before .if1 .left)) (omega arith)) (omega arith) n (c .before .before .write-into .ensures)

@@ -1,5 +1,5 @@
 -- Out of turn nothing changes; in turn the text is read, and the stanza or the refusal goes on as the definition says.
-use mathlib.Core.Path.{sym, ap, _∙_}
+use mathlib.Core.Path.{refl, sym, ap, _∙_}
 use borrow.Author.Needs.{needs}
 use denote.Ref.{now}
 use Rattle.refusal.specs.Number.{numberOf}
@@ -44,9 +44,11 @@ moved-requires c κs = search needs
 
 returns : tie.Need-returns
 returns c =
-    let a = c .before .before .before .before .before .before .before .before .before .args in
-    received-out-of-turn (sessionOf (a .session) (now (a .slots)) (now (a .header-slots))) (now (a .text)) (buffersOf (now (a .errors)) (now (a .stanzas)) (now (a .returned))) (now (a .out)) (numberOf (c .before .turn .given .0 .0))
-    (sym (ap verdictSaid (c .before .turn .given .1)) ∙ c .before .before .before .turn-two .ensures) (number-not-zero (c .before .turn .given .0 .0))
+    let a = c .before .before .before .before .before .before .before .before .before .args in (
+      received-out-of-turn (sessionOf (a .session) (now (a .slots)) (now (a .header-slots))) (now (a .text)) (buffersOf (now (a .errors)) (now (a .stanzas)) (now (a .returned))) (now (a .out)) (numberOf (c .before .turn .given .0 .0))
+          (sym (ap verdictSaid (c .before .turn .given .1)) ∙ c .before .before .before .turn-two .ensures) (number-not-zero (c .before .turn .given .0 .0)),
+      refl,
+    )
 
 same-length : tie.Need-same-length
 same-length c = search needs
@@ -64,21 +66,25 @@ returns-2 : tie.Need-returns-2
 returns-2 c =
     let a = c .before .before .before .before .before .before .before .before .before .before .before .before .before .before .before .before .before .before .before .before .before .before .before .before .before .before .before .args in
     let s = sessionOf (a .session) (now (a .slots)) (now (a .header-slots)) in
-    let b = buffersOf (now (a .errors)) (now (a .stanzas)) (now (a .returned)) in
-    c .before .before .before .before .before .before .before .before .receive-stanza .ensures
-    ∙ ap (λ z. receivedAs z s (now (a .text)) b (now (a .out))) (sym (ap readSaid (c .before .before .before .before .before .before .before .before .before .before .before .before .before .before .before .before .first .given .1)) ∙ c .before .before .before .before .before .before .before .before .before .before .before .before .before .before .before .before .before .before .read .ensures)
-    ∙ received-in-turn s (now (a .text)) b (now (a .out)) (sym (ap verdictSaid (c .before .before .before .before .before .before .before .before .before .before .before .before .before .before .before .before .before .before .before .enum-told .given .1)) ∙ c .before .before .before .before .before .before .before .before .before .before .before .before .before .before .before .before .before .before .before .before .before .turn-two .ensures)
+    let b = buffersOf (now (a .errors)) (now (a .stanzas)) (now (a .returned)) in (
+      c .before .before .before .before .before .before .before .before .receive-stanza .ensures .0
+          ∙ ap (λ z. receivedAs z s (now (a .text)) b (now (a .out))) (sym (ap readSaid (c .before .before .before .before .before .before .before .before .before .before .before .before .before .before .before .before .first .given .1)) ∙ c .before .before .before .before .before .before .before .before .before .before .before .before .before .before .before .before .before .before .read .ensures)
+          ∙ received-in-turn s (now (a .text)) b (now (a .out)) (sym (ap verdictSaid (c .before .before .before .before .before .before .before .before .before .before .before .before .before .before .before .before .before .before .before .enum-told .given .1)) ∙ c .before .before .before .before .before .before .before .before .before .before .before .before .before .before .before .before .before .before .before .before .before .turn-two .ensures),
+      c .before .before .before .before .before .before .before .before .receive-stanza .ensures .1,
+    )
 
 returns-3 : tie.Need-returns-3
 returns-3 c =
     let a = c .before .before .before .before .before .before .before .before .before .before .before .before .before .before .args in
     let e = a .session in
     let s = sessionOf e (now (a .slots)) (now (a .header-slots)) in
-    let b = buffersOf (now (a .errors)) (now (a .stanzas)) (now (a .returned)) in
-    rw (c .moved .ensures, c .before .phase-refused .ensures)
-    (refusal-is (e .machine) (nameOf (e .name)) (e .screen) (e .phase) (tablesIn (e .tables) (now (a .slots)) (now (a .header-slots))) b (now (a .out)) (numberOf (c .before .before .before .first2 .given .0 .0))
-    ∙ ap (λ z. receivedAs z s (now (a .text)) b (now (a .out))) (sym (ap readSaid (c .before .before .before .first2 .given .1)) ∙ c .before .before .before .before .before .read .ensures)
-    ∙ received-in-turn s (now (a .text)) b (now (a .out)) (sym (ap verdictSaid (c .before .before .before .before .before .before .enum-told .given .1)) ∙ c .before .before .before .before .before .before .before .before .turn-two .ensures))
+    let b = buffersOf (now (a .errors)) (now (a .stanzas)) (now (a .returned)) in (
+      rw (c .moved .ensures, c .before .phase-refused .ensures)
+          (refusal-is (e .machine) (nameOf (e .name)) (e .screen) (e .phase) (tablesIn (e .tables) (now (a .slots)) (now (a .header-slots))) b (now (a .out)) (numberOf (c .before .before .before .first2 .given .0 .0))
+          ∙ ap (λ z. receivedAs z s (now (a .text)) b (now (a .out))) (sym (ap readSaid (c .before .before .before .first2 .given .1)) ∙ c .before .before .before .before .before .read .ensures)
+          ∙ received-in-turn s (now (a .text)) b (now (a .out)) (sym (ap verdictSaid (c .before .before .before .before .before .before .enum-told .given .1)) ∙ c .before .before .before .before .before .before .before .before .turn-two .ensures)),
+      ap (λ s. s .name) (c .moved .ensures),
+    )
 
 pub receive-spec : {M : Type 1} → statement M
 receive-spec =

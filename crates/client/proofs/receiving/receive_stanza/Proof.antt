@@ -79,13 +79,15 @@ returns c =
     let b = buffersOf (now (a .errors)) (now (a .stanzas)) (now (a .returned)) in
     let l = now (c .before .before .before .before .before .before .before .before .before .before .before .before .before .before .before .before .before .before .before .before .before .before .before .before .before .before .before .before .arguments-of .result) in
     let y = bodyOf (now (c .before .before .before .before .before .before .before .before .before .before .before .before .before .before .before .before .before .before .before .before .before .before .before .before .before .before .before .lines-of .result)) in
-    let e = c .before .before .before .before .before .before .before .before .before .before .before .before .before .before .before .step-two .ensures in
-    rw (c .moved .ensures)
-    (received-from (s .machine) (nameOf (s .name)) (s .screen) (s .phase) t b (now (a .out)) l y (a .s .taken)
-    (commandSaid (c .before .before .before .before .before .before .before .before .before .before .before .before .before .before .before .before .before .before .before .before .before .before .before .before .before .parse-two .result)) (verdictSaid (c .before .before .before .before .before .before .before .before .before .before .before .before .before .before .before .before .before .before .before .before .before .before .before .rule-two .result)) (atOnceSaid (c .before .before .before .before .before .before .before .before .before .before .before .before .before .before .before .before .before .before .before .before .before .before .answer-at-once .result)) (c .before .before .before .before .before .before .before .before .before .before .before .before .before .before .before .before .before .before .before .before .before .at-once-size .result) (verdictSaid (c .before .before .before .before .before .before .before .before .before .before .before .before .before .before .before .before .before .before .before .before .check-output .result)) (verdictSaid (c .before .before .before .before .before .before .before .before .before .before .before .before .before .before .before .step-two .result .verdict)) (takingSaid (c .before .before .answer-to .result)) (c .before .phase-received-two .result) _ _ _
-    (c .before .before .before .before .before .before .before .before .before .before .before .before .before .before .before .before .before .before .before .before .before .before .before .before .before .parse-two .ensures ∙ ap (commandOf (s .machine) l) (c .before .before .before .before .before .before .before .before .before .before .before .before .before .before .before .before .before .before .before .before .before .before .before .before .before .before .body-size .ensures .0)) (c .before .before .before .before .before .before .before .before .before .before .before .before .before .before .before .before .before .before .before .before .before .before .before .rule-two .ensures) (c .before .before .before .before .before .before .before .before .before .before .before .before .before .before .before .before .before .before .before .before .before .before .answer-at-once .ensures) (c .before .before .before .before .before .before .before .before .before .before .before .before .before .before .before .before .before .before .before .before .before .at-once-size .ensures) (c .before .before .before .before .before .before .before .before .before .before .before .before .before .before .before .before .before .before .before .before .check-output .ensures)
-    (e .0 hs) (c .before .before .answer-to .ensures) (c .before .phase-received-two .ensures) (rw (e .0 hs) (e .1 .0 hs)) (rw (e .0 hs) (e .1 .1 hs)) (c .before .before .before .before .before .write-answer .ensures)
-    ∙ ap₂ (λ l y. receivedStanza (sessionOf s (now (a .slots)) hs) b (now (a .out)) l y (a .s .taken)) (c .before .before .before .before .before .before .before .before .before .before .before .before .before .before .before .before .before .before .before .before .before .before .before .before .before .before .before .before .arguments-of .ensures) (ap bodyOf (c .before .before .before .before .before .before .before .before .before .before .before .before .before .before .before .before .before .before .before .before .before .before .before .before .before .before .before .lines-of .ensures)))
+    let e = c .before .before .before .before .before .before .before .before .before .before .before .before .before .before .before .step-two .ensures in (
+      rw (c .moved .ensures)
+          (received-from (s .machine) (nameOf (s .name)) (s .screen) (s .phase) t b (now (a .out)) l y (a .s .taken)
+          (commandSaid (c .before .before .before .before .before .before .before .before .before .before .before .before .before .before .before .before .before .before .before .before .before .before .before .before .before .parse-two .result)) (verdictSaid (c .before .before .before .before .before .before .before .before .before .before .before .before .before .before .before .before .before .before .before .before .before .before .before .rule-two .result)) (atOnceSaid (c .before .before .before .before .before .before .before .before .before .before .before .before .before .before .before .before .before .before .before .before .before .before .answer-at-once .result)) (c .before .before .before .before .before .before .before .before .before .before .before .before .before .before .before .before .before .before .before .before .before .at-once-size .result) (verdictSaid (c .before .before .before .before .before .before .before .before .before .before .before .before .before .before .before .before .before .before .before .before .check-output .result)) (verdictSaid (c .before .before .before .before .before .before .before .before .before .before .before .before .before .before .before .step-two .result .verdict)) (takingSaid (c .before .before .answer-to .result)) (c .before .phase-received-two .result) _ _ _
+          (c .before .before .before .before .before .before .before .before .before .before .before .before .before .before .before .before .before .before .before .before .before .before .before .before .before .parse-two .ensures ∙ ap (commandOf (s .machine) l) (c .before .before .before .before .before .before .before .before .before .before .before .before .before .before .before .before .before .before .before .before .before .before .before .before .before .before .body-size .ensures .0)) (c .before .before .before .before .before .before .before .before .before .before .before .before .before .before .before .before .before .before .before .before .before .before .before .rule-two .ensures) (c .before .before .before .before .before .before .before .before .before .before .before .before .before .before .before .before .before .before .before .before .before .before .answer-at-once .ensures) (c .before .before .before .before .before .before .before .before .before .before .before .before .before .before .before .before .before .before .before .before .before .at-once-size .ensures) (c .before .before .before .before .before .before .before .before .before .before .before .before .before .before .before .before .before .before .before .before .check-output .ensures)
+          (e .0 hs) (c .before .before .answer-to .ensures) (c .before .phase-received-two .ensures) (rw (e .0 hs) (e .1 .0 hs)) (rw (e .0 hs) (e .1 .1 hs)) (c .before .before .before .before .before .write-answer .ensures)
+          ∙ ap₂ (λ l y. receivedStanza (sessionOf s (now (a .slots)) hs) b (now (a .out)) l y (a .s .taken)) (c .before .before .before .before .before .before .before .before .before .before .before .before .before .before .before .before .before .before .before .before .before .before .before .before .before .before .before .before .arguments-of .ensures) (ap bodyOf (c .before .before .before .before .before .before .before .before .before .before .before .before .before .before .before .before .before .before .before .before .before .before .before .before .before .before .before .lines-of .ensures))),
+      ap (λ s. s .name) (c .moved .ensures),
+    )
 
 pub receive-stanza-spec : {M : Type 1} → statement M
 receive-stanza-spec =

@@ -1,5 +1,5 @@
 -- A response that does not fit is refused; else what writing it came to tells whether the session goes on.
-use mathlib.Core.Path.{sym, ap, _∙_}
+use mathlib.Core.Path.{refl, sym, ap, _∙_}
 use borrow.Author.Needs.{needs}
 use denote.Ref.{now}
 use borrow.Author.Tests.{not-true, not-false}
@@ -15,9 +15,11 @@ fits-whole-requires c κs = search needs
 
 returns : tie.Need-returns
 returns c =
-    let a = c .before .before .before .before .args in
-    λ xs hs.
-    replied-unfit (a .word) (sessionOf (a .session) xs hs) (a .response) (now (a .body)) (now (a .out)) (sym (not-true _ (c .if1 .taken)) ∙ c .before .fits-whole .ensures)
+    let a = c .before .before .before .before .args in (
+      λ xs hs.
+          replied-unfit (a .word) (sessionOf (a .session) xs hs) (a .response) (now (a .body)) (now (a .out)) (sym (not-true _ (c .if1 .taken)) ∙ c .before .fits-whole .ensures),
+      refl,
+    )
 
 write-requires : tie.Need-write-requires
 write-requires c κs = search needs
@@ -37,10 +39,12 @@ same-length c = search needs
 returns-2 : tie.Need-returns-2
 returns-2 c =
     let a = c .before .before .before .before .before .before .before .before .before .before .before .args in
-    let w = c .before .before .before .before .before .write .ensures in
-    λ xs hs.
-    rw (c .moved .ensures)
-    (replied-bytes (a .word) (sessionOf (a .session) xs hs) (a .response) (now (a .body)) (now (a .out)) (said (c .before .before .before .before .before .write .result)) (c .before .enum-told .given .0 .0) _ (ap said (c .before .enum-told .given .1)) (sym (not-false _ (c .before .before .before .before .before .before .before .if1 .left)) ∙ c .before .before .before .before .before .before .before .before .fits-whole .ensures) (w .0) (w .1))
+    let w = c .before .before .before .before .before .write .ensures in (
+      λ xs hs.
+          rw (c .moved .ensures)
+          (replied-bytes (a .word) (sessionOf (a .session) xs hs) (a .response) (now (a .body)) (now (a .out)) (said (c .before .before .before .before .before .write .result)) (c .before .enum-told .given .0 .0) _ (ap said (c .before .enum-told .given .1)) (sym (not-false _ (c .before .before .before .before .before .before .before .if1 .left)) ∙ c .before .before .before .before .before .before .before .before .fits-whole .ensures) (w .0) (w .1)),
+      ap (λ s. s .name) (c .moved .ensures),
+    )
 
 same-length-2 : tie.Need-same-length-2
 same-length-2 c = search needs
@@ -48,9 +52,11 @@ same-length-2 c = search needs
 returns-3 : tie.Need-returns-3
 returns-3 c =
     let a = c .before .before .before .before .before .before .before .before .before .before .args in
-    let w = c .before .before .before .before .write .ensures in
-    λ xs hs.
-    replied-refused (a .word) (sessionOf (a .session) xs hs) (a .response) (now (a .body)) (now (a .out)) (said (c .before .before .before .before .write .result)) (numberOf (c .enum-told2 .given .0 .0)) _ (ap said (c .enum-told2 .given .1)) (sym (not-false _ (c .before .before .before .before .before .before .if1 .left)) ∙ c .before .before .before .before .before .before .before .fits-whole .ensures) (w .0) (w .1)
+    let w = c .before .before .before .before .write .ensures in (
+      λ xs hs.
+          replied-refused (a .word) (sessionOf (a .session) xs hs) (a .response) (now (a .body)) (now (a .out)) (said (c .before .before .before .before .write .result)) (numberOf (c .enum-told2 .given .0 .0)) _ (ap said (c .enum-told2 .given .1)) (sym (not-false _ (c .before .before .before .before .before .before .if1 .left)) ∙ c .before .before .before .before .before .before .before .fits-whole .ensures) (w .0) (w .1),
+      refl,
+    )
 
 pub reply-to-spec : {M : Type 1} → statement M
 reply-to-spec =

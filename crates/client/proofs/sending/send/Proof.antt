@@ -1,5 +1,5 @@
 -- Out of turn nothing changes; in turn the command is sent.
-use mathlib.Core.Path.{sym, ap, _∙_}
+use mathlib.Core.Path.{refl, sym, ap, _∙_}
 use borrow.Author.Needs.{needs}
 use denote.Ref.{now}
 use Rattle.refusal.specs.Number.{numberOf}
@@ -26,9 +26,11 @@ send-due-requires c κs = search needs
 
 returns : tie.Need-returns
 returns c =
-    let a = c .before .before .before .before .before .before .before .before .before .before .before .args in
-    sent-out-of-turn (sessionOf (a .session) (now (a .slots)) (now (a .header-slots))) (wordSaid (a .word)) (now (a .arguments)) (now (a .body)) (buffersOf (now (a .recipients)) (now (a .identities)) (now (a .keys)) (now (a .headers))) (now (a .out)) (numberOf (c .before .turn .given .0 .0))
-    (sym (ap verdictSaid (c .before .turn .given .1)) ∙ c .before .before .before .turn-one .ensures) (number-not-zero (c .before .turn .given .0 .0))
+    let a = c .before .before .before .before .before .before .before .before .before .before .before .args in (
+      sent-out-of-turn (sessionOf (a .session) (now (a .slots)) (now (a .header-slots))) (wordSaid (a .word)) (now (a .arguments)) (now (a .body)) (buffersOf (now (a .recipients)) (now (a .identities)) (now (a .keys)) (now (a .headers))) (now (a .out)) (numberOf (c .before .turn .given .0 .0))
+          (sym (ap verdictSaid (c .before .turn .given .1)) ∙ c .before .before .before .turn-one .ensures) (number-not-zero (c .before .turn .given .0 .0)),
+      refl,
+    )
 
 same-length : tie.Need-same-length
 same-length c = search needs
@@ -47,9 +49,11 @@ same-length-5 c = search needs
 
 returns-2 : tie.Need-returns-2
 returns-2 c =
-    let a = c .before .before .before .before .before .before .before .before .before .before .before .before .before .before .before .before .before .before .before .before .before .before .before .before .before .before .before .before .args in
-    c .before .before .before .before .before .before .before .before .before .before .send-due .ensures
-    ∙ sent-in-turn (sessionOf (a .session) (now (a .slots)) (now (a .header-slots))) (wordSaid (a .word)) (now (a .arguments)) (now (a .body)) (buffersOf (now (a .recipients)) (now (a .identities)) (now (a .keys)) (now (a .headers))) (now (a .out)) (sym (ap verdictSaid (c .before .before .before .before .before .before .before .before .before .before .before .before .before .before .before .before .before .before .enum-told .given .1)) ∙ c .before .before .before .before .before .before .before .before .before .before .before .before .before .before .before .before .before .before .before .before .turn-one .ensures)
+    let a = c .before .before .before .before .before .before .before .before .before .before .before .before .before .before .before .before .before .before .before .before .before .before .before .before .before .before .before .before .args in (
+      c .before .before .before .before .before .before .before .before .before .before .send-due .ensures .0
+          ∙ sent-in-turn (sessionOf (a .session) (now (a .slots)) (now (a .header-slots))) (wordSaid (a .word)) (now (a .arguments)) (now (a .body)) (buffersOf (now (a .recipients)) (now (a .identities)) (now (a .keys)) (now (a .headers))) (now (a .out)) (sym (ap verdictSaid (c .before .before .before .before .before .before .before .before .before .before .before .before .before .before .before .before .before .before .enum-told .given .1)) ∙ c .before .before .before .before .before .before .before .before .before .before .before .before .before .before .before .before .before .before .before .before .turn-one .ensures),
+      c .before .before .before .before .before .before .before .before .before .before .send-due .ensures .1,
+    )
 
 pub send-spec : {M : Type 1} → statement M
 send-spec =

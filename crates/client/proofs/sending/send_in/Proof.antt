@@ -1,5 +1,5 @@
 -- The composed line stands at the store's front and is judged as itself (`sent-from`); one that cannot be written is 17.
-use mathlib.Core.Path.{_≡_, sym, ap, _∙_}
+use mathlib.Core.Path.{_≡_, refl, sym, ap, _∙_}
 use borrow.Author.Needs.{needs}
 use denote.Ref.{now}
 use lib.Dec.{ltb}
@@ -66,9 +66,11 @@ returns c =
     let a = c .before .before .before .before .before .before .before .before .before .before .before .before .before .before .before .before .before .args in
     let l = lineSent (wordSaid (a .word)) (now (a .arguments)) in
     let p = c .before .before .before .before .before .before .before .put-line .ensures in
-    let e = composed-not l (now (a .store)) _ (now (a .body)) (said (c .before .before .before .before .before .before .before .put-line .result)) (p .0) (p .1) (numberOf (c .before .composed .given .0 .0)) (c .before .before .before .before .before .before .before .before .before .before .before .before .before .before .before .before .before .pre) (sym (ap composedSaid (c .before .composed .given .1)) ∙ c .before .before .before .compose .ensures) in
-    rw (e .1)
-    (sent-unwritable (sessionOf (a .session) (now (a .slots)) (now (a .header-slots))) (buffersOf (now (a .recipients)) (now (a .identities)) (now (a .keys)) (now (a .headers))) l (now (a .body)) (now (a .out)) (e .0))
+    let e = composed-not l (now (a .store)) _ (now (a .body)) (said (c .before .before .before .before .before .before .before .put-line .result)) (p .0) (p .1) (numberOf (c .before .composed .given .0 .0)) (c .before .before .before .before .before .before .before .before .before .before .before .before .before .before .before .before .before .pre) (sym (ap composedSaid (c .before .composed .given .1)) ∙ c .before .before .before .compose .ensures) in (
+      rw (e .1)
+          (sent-unwritable (sessionOf (a .session) (now (a .slots)) (now (a .header-slots))) (buffersOf (now (a .recipients)) (now (a .identities)) (now (a .keys)) (now (a .headers))) l (now (a .body)) (now (a .out)) (e .0)),
+      refl,
+    )
 
 same-length-2 : tie.Need-same-length-2
 same-length-2 c = c .before .before .before .before .before .before .before .before .before .before .before .before .before .before .before .before .before .before .before .before .before .before .before .before .before .before .before .before .before .before .before .before .before .before .before .before .before .before .put-line .kept .1 .1 .0
@@ -110,12 +112,14 @@ returns-2 c =
     let same : line ≡ l = c .before .before .before .before .before .before .before .before .before .before .before .before .before .before .before .before .before .before .before .before .before .before .before .before .before .before .before .before .before .front .ensures ∙ d .0 in
     let w = size-bytes line y o (k .1 .0) (d .1 ∙ ap (λ x. sized x y) (sym same)) in
     let g = now (c .before .before .before .before .before .before .before .before .before .before .before .before .before .before .before .before .before .before .before .before .before .before .before .before .front2 .result) in
-    let e = c .before .before .before .before .before .before .before .before .before .before .before .before .before .before .before .before .before .step-one .ensures in
-    rw (c .moved .ensures)
-    (sent-from (s .machine) (nameOf (s .name)) (s .screen) (s .phase) t b line y o (w .0)
-    g (verdictSaid (c .before .before .before .before .before .before .before .before .before .before .before .before .before .before .before .before .before .before .before .before .before .before .before .before .before .before .check-output .result)) (verdictSaid (c .before .before .before .before .before .before .before .before .before .before .before .before .before .before .before .before .before .step-one .result .verdict)) (commandSaid g line (length y) (c .before .before .before .before .before .before .before .before .before .before .before .before .before .before .before .before .before .step-one .result .command)) (said (c .before .before .before .before .write-judged .result)) (c .before .phase-sent .result) _ _ _
-    (c .before .before .before .before .before .before .before .before .before .before .before .before .before .before .before .before .before .before .before .before .before .before .before .before .front2 .ensures) (c .before .before .before .before .before .before .before .before .before .before .before .before .before .before .before .before .before .before .before .before .before .before .before .before .before .before .check-output .ensures ∙ ap (λ n. pick (ltb (length o) n) 15 0) (w .1)) (e .1 .0) (e .0) (c .before .before .before .before .write-judged .ensures .0) (c .before .phase-sent .ensures g line (length y)) (e .1 .1 .0) (e .1 .1 .1) (c .before .before .before .before .write-judged .ensures .1)
-    ∙ ap (λ x. sentLine (sessionOf s (now (a .slots)) (now (a .header-slots))) b x y o) same)
+    let e = c .before .before .before .before .before .before .before .before .before .before .before .before .before .before .before .before .before .step-one .ensures in (
+      rw (c .moved .ensures)
+          (sent-from (s .machine) (nameOf (s .name)) (s .screen) (s .phase) t b line y o (w .0)
+          g (verdictSaid (c .before .before .before .before .before .before .before .before .before .before .before .before .before .before .before .before .before .before .before .before .before .before .before .before .before .before .check-output .result)) (verdictSaid (c .before .before .before .before .before .before .before .before .before .before .before .before .before .before .before .before .before .step-one .result .verdict)) (commandSaid g line (length y) (c .before .before .before .before .before .before .before .before .before .before .before .before .before .before .before .before .before .step-one .result .command)) (said (c .before .before .before .before .write-judged .result)) (c .before .phase-sent .result) _ _ _
+          (c .before .before .before .before .before .before .before .before .before .before .before .before .before .before .before .before .before .before .before .before .before .before .before .before .front2 .ensures) (c .before .before .before .before .before .before .before .before .before .before .before .before .before .before .before .before .before .before .before .before .before .before .before .before .before .before .check-output .ensures ∙ ap (λ n. pick (ltb (length o) n) 15 0) (w .1)) (e .1 .0) (e .0) (c .before .before .before .before .write-judged .ensures .0) (c .before .phase-sent .ensures g line (length y)) (e .1 .1 .0) (e .1 .1 .1) (c .before .before .before .before .write-judged .ensures .1)
+          ∙ ap (λ x. sentLine (sessionOf s (now (a .slots)) (now (a .header-slots))) b x y o) same),
+      ap (λ s. s .name) (c .moved .ensures),
+    )
 
 pub send-in-spec : {M : Type 1} → statement M
 send-in-spec =

@@ -17,7 +17,7 @@ use borrow.Author.Needs.{needs}
 
 abbrev Inv-loop : tie.InvT-loop
 Inv-loop window last slots₀ header₀ recipients₀ identities₀ keys₀ j₀ slots header recipients identities keys j =
-    (j .taken ≤ length window) × (judgedFrom last (standingOf j₀ slots₀ header₀) (buffersIn recipients₀ identities₀ keys₀) window ≡ behind (j .taken) (judgedFrom last (standingOf j slots header) (buffersIn recipients identities keys) (drop (j .taken) window))) × (length recipients ≡ length recipients₀) × (length identities ≡ length identities₀) × (length keys ≡ length keys₀)
+    (j .taken ≤ length window) × (judgedFrom last (standingOf j₀ slots₀ header₀) (buffersIn recipients₀ identities₀ keys₀) window ≡ behind (j .taken) (judgedFrom last (standingOf j slots header) (buffersIn recipients identities keys) (drop (j .taken) window))) × (length recipients ≡ length recipients₀) × (length identities ≡ length identities₀) × (length keys ≡ length keys₀) × (j .session .name ≡ j₀ .session .name)
 
 abbrev μ-loop : tie.MeasureT-loop
 μ-loop window last slots₀ header₀ recipients₀ identities₀ keys₀ j₀ slots header recipients identities keys j =
@@ -26,7 +26,7 @@ abbrev μ-loop : tie.MeasureT-loop
 loop-holds : tie.Need-loop-holds Inv-loop μ-loop
 loop-holds c =
     let a = c .before .before .before .before .args in
-    (omega arith, sym (behind-zero (judgedFrom (a .last) (standingOf (a .self) (now (a .slots)) (now (a .header-slots))) (buffersIn (now (a .recipients)) (now (a .identities)) (now (a .keys))) (now (a .window)))), refl, refl, refl)
+    (omega arith, sym (behind-zero (judgedFrom (a .last) (standingOf (a .self) (now (a .slots)) (now (a .header-slots))) (buffersIn (now (a .recipients)) (now (a .identities)) (now (a .keys))) (now (a .window)))), refl, refl, refl, refl)
 
 enum-told : tie.Need-enum-told Inv-loop μ-loop
 enum-told c = search needs
@@ -46,7 +46,7 @@ returns c =
     let l = c .before .before .loop in
     let b = buffersIn (now (a .recipients)) (now (a .identities)) (now (a .keys)) in
     let e = l .inv .1 ∙ step-stopped (a .last) (standingOf (l .j) (l .slots) (l .header-slots)) (judgedSaid (c .enum-told .given .0 .0)) (buffersIn (l .recipients) (l .identities) (l .keys)) (l .j .taken) (drop (l .j .taken) (now (a .window))) (ap (λ p. standingIn p (sessionOf (l .j .session) (l .slots) (l .header-slots))) (c .enum-told .given .1)) in
-    (sym e, subst (Cut (a .last) (standingOf (a .self) (now (a .slots)) (now (a .header-slots))) b (now (a .window))) e (judged-cut (a .last) (standingOf (a .self) (now (a .slots)) (now (a .header-slots))) b (now (a .window))))
+    (sym e, (subst (Cut (a .last) (standingOf (a .self) (now (a .slots)) (now (a .header-slots))) b (now (a .window))) e (judged-cut (a .last) (standingOf (a .self) (now (a .slots)) (now (a .header-slots))) b (now (a .window))), l .inv .5))
 
 enum-told-2 : tie.Need-enum-told-2 Inv-loop μ-loop
 enum-told-2 c = search needs
@@ -71,8 +71,8 @@ returns-2 c =
     let u = turnSaid (n .result) (n .last .1 .1 .1 .1 .0) (n .last .1 .1 .1 .1 .1 .0) (n .last .1 .1 .1 .1 .1 .1 .0) (n .last .1 .1 .1 .1 .1 .1 .1 .0) (n .last .1 .1 .1 .1 .1 .1 .1 .1 .0) in
     let g = ap (λ p. standingIn p (sessionOf (l .j .session) (l .slots) (l .header-slots))) (c .before .before .before .before .before .before .before .before .before .before .before .before .before .before .enum-told2 .given .1) in
     let b = buffersIn (now (a .recipients)) (now (a .identities)) (now (a .keys)) in
-    let e = l .inv .1 ∙ step-end (a .last) (now (a .window)) (l .j .taken) (sessionOf (l .j .session) (l .slots) (l .header-slots)) (buffersIn (l .recipients) (l .identities) (l .keys)) (l .inv .0) (standingOf (l .j) (l .slots) (l .header-slots)) g u (n .ensures) (c .if1 .taken) in
-    (sym e, subst (Cut (a .last) (standingOf (a .self) (now (a .slots)) (now (a .header-slots))) b (now (a .window))) e (judged-cut (a .last) (standingOf (a .self) (now (a .slots)) (now (a .header-slots))) b (now (a .window))))
+    let e = l .inv .1 ∙ step-end (a .last) (now (a .window)) (l .j .taken) (sessionOf (l .j .session) (l .slots) (l .header-slots)) (buffersIn (l .recipients) (l .identities) (l .keys)) (l .inv .0) (standingOf (l .j) (l .slots) (l .header-slots)) g u (n .ensures .0) (c .if1 .taken) in
+    (sym e, (subst (Cut (a .last) (standingOf (a .self) (now (a .slots)) (now (a .header-slots))) b (now (a .window))) e (judged-cut (a .last) (standingOf (a .self) (now (a .slots)) (now (a .header-slots))) b (now (a .window))), n .ensures .1 ∙ l .inv .5))
 
 loop-less : tie.Need-loop-less Inv-loop μ-loop
 loop-less c =
@@ -81,7 +81,7 @@ loop-less c =
     let n = c .before .before .before .before .before .before .before .before .advance in
     let u = turnSaid (n .result) (n .last .1 .1 .1 .1 .0) (n .last .1 .1 .1 .1 .1 .0) (n .last .1 .1 .1 .1 .1 .1 .0) (n .last .1 .1 .1 .1 .1 .1 .1 .0) (n .last .1 .1 .1 .1 .1 .1 .1 .1 .0) in
     let g = ap (λ p. standingIn p (sessionOf (l .j .session) (l .slots) (l .header-slots))) (c .before .before .before .before .before .before .before .before .before .before .before .before .before .before .enum-told2 .given .1) in
-    let w = step-within (a .last) (now (a .window)) (l .j .taken) (sessionOf (l .j .session) (l .slots) (l .header-slots)) (buffersIn (l .recipients) (l .identities) (l .keys)) (l .inv .0) (standingOf (l .j) (l .slots) (l .header-slots)) g u (n .ensures) in
+    let w = step-within (a .last) (now (a .window)) (l .j .taken) (sessionOf (l .j .session) (l .slots) (l .header-slots)) (buffersIn (l .recipients) (l .identities) (l .keys)) (l .inv .0) (standingOf (l .j) (l .slots) (l .header-slots)) g u (n .ensures .0) in
     omega (arith, w .0, w .1, c .if1 .left)
 
 loop-again : tie.Need-loop-again Inv-loop μ-loop
@@ -91,7 +91,7 @@ loop-again c =
     let n = c .before .before .before .before .before .before .before .before .advance in
     let u = turnSaid (n .result) (n .last .1 .1 .1 .1 .0) (n .last .1 .1 .1 .1 .1 .0) (n .last .1 .1 .1 .1 .1 .1 .0) (n .last .1 .1 .1 .1 .1 .1 .1 .0) (n .last .1 .1 .1 .1 .1 .1 .1 .1 .0) in
     let g = ap (λ p. standingIn p (sessionOf (l .j .session) (l .slots) (l .header-slots))) (c .before .before .before .before .before .before .before .before .before .before .before .before .before .before .enum-told2 .given .1) in
-    (step-within (a .last) (now (a .window)) (l .j .taken) (sessionOf (l .j .session) (l .slots) (l .header-slots)) (buffersIn (l .recipients) (l .identities) (l .keys)) (l .inv .0) (standingOf (l .j) (l .slots) (l .header-slots)) g u (n .ensures) .1, l .inv .1 ∙ step-on (a .last) (now (a .window)) (l .j .taken) (sessionOf (l .j .session) (l .slots) (l .header-slots)) (buffersIn (l .recipients) (l .identities) (l .keys)) (l .inv .0) (standingOf (l .j) (l .slots) (l .header-slots)) g u (n .ensures) (c .if1 .left), n .kept .1 .1 .1 .1 .1 .1 .0 ∙ l .inv .2, n .kept .1 .1 .1 .1 .1 .1 .1 .0 ∙ l .inv .3, n .kept .1 .1 .1 .1 .1 .1 .1 .1 .0 ∙ l .inv .4)
+    (step-within (a .last) (now (a .window)) (l .j .taken) (sessionOf (l .j .session) (l .slots) (l .header-slots)) (buffersIn (l .recipients) (l .identities) (l .keys)) (l .inv .0) (standingOf (l .j) (l .slots) (l .header-slots)) g u (n .ensures .0) .1, l .inv .1 ∙ step-on (a .last) (now (a .window)) (l .j .taken) (sessionOf (l .j .session) (l .slots) (l .header-slots)) (buffersIn (l .recipients) (l .identities) (l .keys)) (l .inv .0) (standingOf (l .j) (l .slots) (l .header-slots)) g u (n .ensures .0) (c .if1 .left), n .kept .1 .1 .1 .1 .1 .1 .0 ∙ l .inv .2, n .kept .1 .1 .1 .1 .1 .1 .1 .0 ∙ l .inv .3, n .kept .1 .1 .1 .1 .1 .1 .1 .1 .0 ∙ l .inv .4, n .ensures .1 ∙ l .inv .5)
 
 pub judge-window-spec : {M : Type 1} → statement M
 judge-window-spec =

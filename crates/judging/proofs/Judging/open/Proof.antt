@@ -1,4 +1,5 @@
 -- A session of recipient-v1 just opened is where judging starts.
+use Rattle.session.specs.Opening.{held}
 use borrow.Author.Needs.{needs}
 use Rattle.judging.proofs.Judging.open.Statement.{statement}
 use Rattle.judging.proofs.Judging.open.Tie as tie
@@ -16,7 +17,7 @@ open-plugin-requires : tie.Need-open-plugin-requires
 open-plugin-requires c κs = search needs
 
 returns : tie.Need-returns
-returns c = (ap going (ap (λ o. o .session) (c .before .open-plugin .ensures) ∙ opened-start), refl)
+returns c = ((ap going (ap (λ o. o .session) (c .before .open-plugin .ensures .0) ∙ opened-start), refl), c .before .open-plugin .ensures .1 ∙ ap (λ s. held (s .name)) opened-start)
 
 pub open-spec : {M : Type 1} → statement M
 open-spec = tie.close (tie.spec slice-aggregate-open-plugin slice-aggregate-open-plugin-2 open-plugin-requires returns)

@@ -1,5 +1,6 @@
 -- What is found at the number says whether there is a header stanza, and its file.
-use mathlib.Core.Path.{sym, _∙_}
+use mathlib.Core.Path.{sym, ap, _∙_}
+use Rattle.tables.specs.Tables.{foundSaid}
 use borrow.Author.Needs.{needs}
 use Rattle.look_up.proofs.look_up.header_named.Statement.{statement}
 use Rattle.look_up.proofs.look_up.header_named.Tie as tie
@@ -17,10 +18,10 @@ enum-known-header : tie.Need-enum-known-header
 enum-known-header c = search needs
 
 returns : tie.Need-returns
-returns c = rw (sym (rw (c .before .before .before .span-of .ensures) at (c .before .before .find .ensures)) ∙ c .enum-told .given .1)
+returns c = rw (sym (rw (c .before .before .before .span-of .ensures) at (c .before .before .find .ensures)) ∙ ap foundSaid (c .enum-told .given .1))
 
 returns-2 : tie.Need-returns-2
-returns-2 c = rw (sym (rw (c .before .before .before .before .span-of .ensures) at (c .before .before .before .find .ensures)) ∙ c .before .header .given .1)
+returns-2 c = rw (sym (rw (c .before .before .before .before .span-of .ensures) at (c .before .before .before .find .ensures)) ∙ ap foundSaid (c .before .header .given .1))
 
 pub header-named-spec : {M : Type 1} → statement M
 header-named-spec =

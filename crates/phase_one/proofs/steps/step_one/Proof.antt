@@ -9,7 +9,7 @@ use Rattle.session.specs.Tables.{tablesIn}
 use Rattle.session.proofs.Laws.Putting.{put-recipients, put-identities, put-keys, put-headers}
 use Rattle.phase_one.specs.Commands.{commandSaid}
 use Rattle.phase_one.specs.PhaseOne.{buffersOf}
-use Rattle.phase_one.proofs.Laws.PhaseOne.{step-bad, step-done, step-other, step-falling, step-recipient, step-identity, step-key, step-header}
+use Rattle.phase_one.proofs.Laws.PhaseOne.{step-bad, step-done, step-other, step-recipient, step-identity, step-key, step-header}
 use borrow.Author.Needs.{needs}
 use Rattle.phase_one.proofs.steps.step_one.Statement.{statement}
 use Rattle.phase_one.proofs.steps.step_one.Tie as tie
@@ -23,32 +23,26 @@ parse-one-requires c κs = search needs
 enum-told : tie.Need-enum-told
 enum-told c = search needs
 
-argument-requires : tie.Need-argument-requires
-argument-requires c κs = search needs
-
-text-mark-requires : tie.Need-text-mark-requires
-text-mark-requires c κs = search needs
-
 span-of-requires : tie.Need-span-of-requires
 span-of-requires c κs = search needs
 
-store-requires : tie.Need-store-requires
-store-requires c κs = search needs
+keep-text-requires : tie.Need-keep-text-requires
+keep-text-requires c κs = search needs
+
+stepped-recipients-requires : tie.Need-stepped-recipients-requires
+stepped-recipients-requires c κs = search needs
 
 enum-told-2 : tie.Need-enum-told-2
 enum-told-2 c = search needs
 
-argument-requires-2 : tie.Need-argument-requires-2
-argument-requires-2 c κs = search needs
-
-text-mark-requires-2 : tie.Need-text-mark-requires-2
-text-mark-requires-2 c κs = search needs
-
 span-of-requires-2 : tie.Need-span-of-requires-2
 span-of-requires-2 c κs = search needs
 
-store-requires-2 : tie.Need-store-requires-2
-store-requires-2 c κs = search needs
+keep-text-requires-2 : tie.Need-keep-text-requires-2
+keep-text-requires-2 c κs = search needs
+
+stepped-identities-requires : tie.Need-stepped-identities-requires
+stepped-identities-requires c κs = search needs
 
 enum-told-3 : tie.Need-enum-told-3
 enum-told-3 c = search needs
@@ -56,43 +50,20 @@ enum-told-3 c = search needs
 span-of-requires-3 : tie.Need-span-of-requires-3
 span-of-requires-3 c κs = search needs
 
-store-requires-3 : tie.Need-store-requires-3
-store-requires-3 c κs = search needs
+store-requires : tie.Need-store-requires
+store-requires c κs = search needs
+
+stepped-keys-requires : tie.Need-stepped-keys-requires
+stepped-keys-requires c κs = search needs
 
 enum-known-command : tie.Need-enum-known-command
 enum-known-command c = search needs
 
-is-falling-requires : tie.Need-is-falling-requires
-is-falling-requires c κs = search needs
+keep-header-requires : tie.Need-keep-header-requires
+keep-header-requires c κs = search needs
 
-same-length : tie.Need-same-length
-same-length c = search needs
-
-returns : tie.Need-returns
-returns c =
-    let a = c .before .before .before .before .before .before .before .before .before .before .before .before .before .before .before .before .args in
-    let y = bodyFrom (a .coding) (now (a .source)) in
-    let t = tablesIn (a .tables) (now (a .slots)) (now (a .header-slots)) in
-    let b = buffersOf (now (a .recipients)) (now (a .identities)) (now (a .keys)) (now (a .headers)) in
-    let e = rw (c .before .before .before .before .before .before .before .before .body-size .ensures .0) at (c .before .before .before .before .before .before .before .parse-one .ensures (now (a .plugin))) in
-    let f = sym (c .before .is-falling .ensures) ∙ c .if1 .taken in
-    let k = ap (commandSaid (now (a .plugin)) (now (a .line)) (length y)) (sym (c .before .before .before .before .before .command .given .1)) ∙ e in
-    (k, step-falling (a .machine) (now (a .plugin)) t b (verdictSaid (a .late)) (now (a .line)) y (c .before .before .before .before .before .command .given .0 .0) _ k f)
-
-rest-of-requires : tie.Need-rest-of-requires
-rest-of-requires c κs = search needs
-
-header-mark-requires : tie.Need-header-mark-requires
-header-mark-requires c κs = search needs
-
-span-of-requires-4 : tie.Need-span-of-requires-4
-span-of-requires-4 c κs = search needs
-
-wide-requires : tie.Need-wide-requires
-wide-requires c κs = search needs
-
-store-lines-requires : tie.Need-store-lines-requires
-store-lines-requires c κs = search needs
+stepped-headers-requires : tie.Need-stepped-headers-requires
+stepped-headers-requires c κs = search needs
 
 enum-told-4 : tie.Need-enum-told-4
 enum-told-4 c = search needs
@@ -103,47 +74,65 @@ enum-told-5 c = search needs
 enum-known-command-2 : tie.Need-enum-known-command-2
 enum-known-command-2 c = search needs
 
+same-length : tie.Need-same-length
+same-length c = search needs
+
 same-length-2 : tie.Need-same-length-2
 same-length-2 c = search needs
+
+returns : tie.Need-returns
+returns c =
+    let a = c .before .before .before .before .before .before .before .before .before .before .before .before .before .before .before .before .before .before .before .before .args in
+    let y = bodyFrom (a .coding) (now (a .source)) in
+    let t = tablesIn (a .tables) (now (a .slots)) (now (a .header-slots)) in
+    let b = buffersOf (now (a .recipients)) (now (a .identities)) (now (a .keys)) (now (a .headers)) in
+    let e = rw (c .before .before .before .before .before .before .before .before .before .before .before .before .body-size .ensures .0) at (c .before .before .before .before .before .before .before .before .before .before .before .parse-one .ensures (now (a .plugin))) in
+    let z = rw (c .before .before .before .before .before .before .before .span-of .ensures) at (c .before .before .before .before .keep-text .ensures) in
+    let k = ap (commandSaid (now (a .plugin)) (now (a .line)) (length y)) (sym (c .before .before .before .before .before .before .before .before .before .enum-told .given .1)) ∙ e in
+    let s = step-recipient (a .machine) (now (a .plugin)) t b (verdictSaid (a .late)) (now (a .line)) y _ _ _ _ k (z .0) (z .1 .0) (z .1 .1 .1) in
+    rw (c .stepped-recipients .ensures) (e, (s .0, (put-recipients (a .tables) (now (a .slots)) _ (now (a .header-slots)) (c .before .before .before .before .keep-text .result .table) _ refl (z .1 .1 .0) ∙ s .1 .0, s .1 .1)))
 
 same-length-3 : tie.Need-same-length-3
 same-length-3 c = search needs
 
+same-length-4 : tie.Need-same-length-4
+same-length-4 c = search needs
+
 returns-2 : tie.Need-returns-2
 returns-2 c =
-    let a = c .before .before .before .before .before .before .before .before .before .before .before .before .before .before .before .before .before .before .before .before .before .before .args in
+    let a = c .before .before .before .before .before .before .before .before .before .before .before .before .before .before .before .before .before .before .before .before .args in
     let y = bodyFrom (a .coding) (now (a .source)) in
     let t = tablesIn (a .tables) (now (a .slots)) (now (a .header-slots)) in
     let b = buffersOf (now (a .recipients)) (now (a .identities)) (now (a .keys)) (now (a .headers)) in
-    let e = rw (c .before .before .before .before .before .before .before .before .before .before .before .before .before .before .body-size .ensures .0) at (c .before .before .before .before .before .before .before .before .before .before .before .before .before .parse-one .ensures (now (a .plugin))) in
-    let z = rw (c .before .before .before .before .before .before .before .span-of .ensures, c .before .before .before .before .before .before .before .before .before .text-mark .ensures, c .before .before .before .before .before .before .before .before .before .before .argument .ensures) at (c .before .before .before .before .store .ensures) in
-    let k = ap (commandSaid (now (a .plugin)) (now (a .line)) (length y)) (sym (c .before .before .before .before .before .before .before .before .before .before .before .enum-told .given .1)) ∙ e in
-    let s = step-recipient (a .machine) (now (a .plugin)) t b (verdictSaid (a .late)) (now (a .line)) y _ _ _ _ k (z .0) (z .1 .0) (z .1 .1 .1) in
-    (e, (s .0, (put-recipients (a .tables) (now (a .slots)) _ (now (a .header-slots)) (c .before .before .before .before .store .result .table) _ refl (z .1 .1 .0) ∙ s .1 .0, s .1 .1)))
-
-same-length-4 : tie.Need-same-length-4
-same-length-4 c = search needs
+    let e = rw (c .before .before .before .before .before .before .before .before .before .before .before .before .body-size .ensures .0) at (c .before .before .before .before .before .before .before .before .before .before .before .parse-one .ensures (now (a .plugin))) in
+    let z = rw (c .before .before .before .before .before .before .before .span-of2 .ensures) at (c .before .before .before .before .keep-text2 .ensures) in
+    let k = ap (commandSaid (now (a .plugin)) (now (a .line)) (length y)) (sym (c .before .before .before .before .before .before .before .before .before .enum-told2 .given .1)) ∙ e in
+    let s = step-identity (a .machine) (now (a .plugin)) t b (verdictSaid (a .late)) (now (a .line)) y _ _ _ _ k (z .0) (z .1 .0) (z .1 .1 .1) in
+    rw (c .stepped-identities .ensures) (e, (s .0, (put-identities (a .tables) (now (a .slots)) _ (now (a .header-slots)) (c .before .before .before .before .keep-text2 .result .table) _ refl (z .1 .1 .0) ∙ s .1 .0, s .1 .1)))
 
 same-length-5 : tie.Need-same-length-5
 same-length-5 c = search needs
 
-returns-3 : tie.Need-returns-3
-returns-3 c =
-    let a = c .before .before .before .before .before .before .before .before .before .before .before .before .before .before .before .before .before .before .before .before .before .before .args in
-    let y = bodyFrom (a .coding) (now (a .source)) in
-    let t = tablesIn (a .tables) (now (a .slots)) (now (a .header-slots)) in
-    let b = buffersOf (now (a .recipients)) (now (a .identities)) (now (a .keys)) (now (a .headers)) in
-    let e = rw (c .before .before .before .before .before .before .before .before .before .before .before .before .before .before .body-size .ensures .0) at (c .before .before .before .before .before .before .before .before .before .before .before .before .before .parse-one .ensures (now (a .plugin))) in
-    let z = rw (c .before .before .before .before .before .before .before .span-of2 .ensures, c .before .before .before .before .before .before .before .before .before .text-mark2 .ensures, c .before .before .before .before .before .before .before .before .before .before .argument2 .ensures) at (c .before .before .before .before .store2 .ensures) in
-    let k = ap (commandSaid (now (a .plugin)) (now (a .line)) (length y)) (sym (c .before .before .before .before .before .before .before .before .before .before .before .enum-told2 .given .1)) ∙ e in
-    let s = step-identity (a .machine) (now (a .plugin)) t b (verdictSaid (a .late)) (now (a .line)) y _ _ _ _ k (z .0) (z .1 .0) (z .1 .1 .1) in
-    (e, (s .0, (put-identities (a .tables) (now (a .slots)) _ (now (a .header-slots)) (c .before .before .before .before .store2 .result .table) _ refl (z .1 .1 .0) ∙ s .1 .0, s .1 .1)))
-
 same-length-6 : tie.Need-same-length-6
 same-length-6 c = search needs
 
+returns-3 : tie.Need-returns-3
+returns-3 c =
+    let a = c .before .before .before .before .before .before .before .before .before .before .before .before .before .before .before .before .before .before .before .before .args in
+    let y = bodyFrom (a .coding) (now (a .source)) in
+    let t = tablesIn (a .tables) (now (a .slots)) (now (a .header-slots)) in
+    let b = buffersOf (now (a .recipients)) (now (a .identities)) (now (a .keys)) (now (a .headers)) in
+    let e = rw (c .before .before .before .before .before .before .before .before .before .before .before .before .body-size .ensures .0) at (c .before .before .before .before .before .before .before .before .before .before .before .parse-one .ensures (now (a .plugin))) in
+    let z = rw (c .before .before .before .before .before .before .before .span-of3 .ensures) at (c .before .before .before .before .store .ensures) in
+    let k = ap (commandSaid (now (a .plugin)) (now (a .line)) (length y)) (sym (c .before .before .before .before .before .before .before .before .before .enum-told3 .given .1)) ∙ e in
+    let s = step-key (a .machine) (now (a .plugin)) t b (verdictSaid (a .late)) (now (a .line)) y _ _ _ k (z .0) (rw (sym (z .0)) at (z .1 .0)) (rw (sym (z .0)) at (z .1 .1 .1)) in
+    rw (c .stepped-keys .ensures) (e, (s .0, (put-keys (a .tables) (now (a .slots)) _ (now (a .header-slots)) (c .before .before .before .before .store .result .table) _ refl (z .1 .1 .0) ∙ s .1 .0, s .1 .1)))
+
 same-length-7 : tie.Need-same-length-7
 same-length-7 c = search needs
+
+same-length-8 : tie.Need-same-length-8
+same-length-8 c = search needs
 
 returns-4 : tie.Need-returns-4
 returns-4 c =
@@ -152,33 +141,19 @@ returns-4 c =
     let t = tablesIn (a .tables) (now (a .slots)) (now (a .header-slots)) in
     let b = buffersOf (now (a .recipients)) (now (a .identities)) (now (a .keys)) (now (a .headers)) in
     let e = rw (c .before .before .before .before .before .before .before .before .before .before .before .before .body-size .ensures .0) at (c .before .before .before .before .before .before .before .before .before .before .before .parse-one .ensures (now (a .plugin))) in
-    let z = rw (c .before .before .before .before .before .before .before .span-of3 .ensures) at (c .before .before .before .before .store3 .ensures) in
-    let k = ap (commandSaid (now (a .plugin)) (now (a .line)) (length y)) (sym (c .before .before .before .before .before .before .before .before .before .enum-told3 .given .1)) ∙ e in
-    let s = step-key (a .machine) (now (a .plugin)) t b (verdictSaid (a .late)) (now (a .line)) y _ _ _ k (z .0) (z .1 .0) (z .1 .1 .1) in
-    (e, (s .0, (put-keys (a .tables) (now (a .slots)) _ (now (a .header-slots)) (c .before .before .before .before .store3 .result .table) _ refl (z .1 .1 .0) ∙ s .1 .0, s .1 .1)))
-
-same-length-8 : tie.Need-same-length-8
-same-length-8 c = search needs
-
-same-length-9 : tie.Need-same-length-9
-same-length-9 c = search needs
+    let z = rw (c .before .before .before .before .before .before .before .before .before .before .before .before .body-size .ensures .0) at (c .before .before .before .before .keep-header .ensures) in
+    let k = ap (commandSaid (now (a .plugin)) (now (a .line)) (length y)) (sym (c .before .before .before .before .before .before .before .before .before .command .given .1)) ∙ e in
+    let s = step-header (a .machine) (now (a .plugin)) t b (verdictSaid (a .late)) (now (a .line)) y _ _ _ _ _ k (z .0) (z .1 .0) (z .1 .1) in
+    rw (c .stepped-headers .ensures) (k, (s .0, (put-headers (a .tables) (now (a .slots)) (c .before .before .before .before .keep-header .last .1 .1 .1 .1 .1 .1 .1 .1 .0) (c .before .before .before .before .keep-header .result .table) _ refl (now (a .header-slots)) ∙ s .1 .0, s .1 .1)))
 
 returns-5 : tie.Need-returns-5
 returns-5 c =
-    let a = c .before .before .before .before .before .before .before .before .before .before .before .before .before .before .before .before .before .before .before .before .before .before .before .before .before .before .before .args in
+    let a = c .before .before .before .before .before .before .before .before .before .before .before .args in
     let y = bodyFrom (a .coding) (now (a .source)) in
     let t = tablesIn (a .tables) (now (a .slots)) (now (a .header-slots)) in
     let b = buffersOf (now (a .recipients)) (now (a .identities)) (now (a .keys)) (now (a .headers)) in
-    let e = rw (c .before .before .before .before .before .before .before .before .before .before .before .before .before .before .before .before .before .before .before .body-size .ensures .0) at (c .before .before .before .before .before .before .before .before .before .before .before .before .before .before .before .before .before .before .parse-one .ensures (now (a .plugin))) in
-    let z1 = rw (c .before .before .before .before .before .before .before .before .span-of4 .ensures) at (c .before .before .before .before .store-lines .ensures) in
-    let z2 = rw (c .before .before .before .before .before .before .before .wide .ensures) at z1 in
-    let z3 = rw (c .before .before .before .before .before .before .before .before .before .header-mark .ensures) at z2 in
-    let z4 = rw (c .before .before .before .before .before .before .before .before .before .before .before .before .before .before .before .before .before .before .before .body-size .ensures .0) at z3 in
-    let z = rw (c .before .before .before .before .before .before .before .before .before .before .rest-of .ensures) at z4 in
-    let k = ap (commandSaid (now (a .plugin)) (now (a .line)) (length y)) (sym (c .before .before .before .before .before .before .before .before .before .before .before .before .before .before .before .before .command .given .1)) ∙ e in
-    let f = sym (c .before .before .before .before .before .before .before .before .before .before .before .before .is-falling .ensures) ∙ c .before .before .before .before .before .before .before .before .before .before .before .if1 .left in
-    let s = step-header (a .machine) (now (a .plugin)) t b (verdictSaid (a .late)) (now (a .line)) y _ _ _ _ _ k f (z .0) (z .1 .0) (z .1 .1 .1) in
-    (k, (s .0, (put-headers (a .tables) (now (a .slots)) (c .before .before .before .before .store-lines .last .1 .1 .1 .1 .1 .1 .1 .1 .0) (c .before .before .before .before .store-lines .result .table) _ refl (now (a .header-slots)) ∙ s .1 .0, s .1 .1)))
+    let e = rw (c .before .before .before .body-size .ensures .0) at (c .before .before .parse-one .ensures (now (a .plugin))) in
+    (e, step-done (a .machine) (now (a .plugin)) t b (verdictSaid (a .late)) (now (a .line)) y (ap (commandSaid (now (a .plugin)) (now (a .line)) (length y)) (sym (c .enum-told4 .given .1)) ∙ e))
 
 returns-6 : tie.Need-returns-6
 returns-6 c =
@@ -187,19 +162,10 @@ returns-6 c =
     let t = tablesIn (a .tables) (now (a .slots)) (now (a .header-slots)) in
     let b = buffersOf (now (a .recipients)) (now (a .identities)) (now (a .keys)) (now (a .headers)) in
     let e = rw (c .before .before .before .body-size .ensures .0) at (c .before .before .parse-one .ensures (now (a .plugin))) in
-    (e, step-done (a .machine) (now (a .plugin)) t b (verdictSaid (a .late)) (now (a .line)) y (ap (commandSaid (now (a .plugin)) (now (a .line)) (length y)) (sym (c .enum-told4 .given .1)) ∙ e))
+    (e, step-other (a .machine) (now (a .plugin)) t b (verdictSaid (a .late)) (now (a .line)) y (ap (commandSaid (now (a .plugin)) (now (a .line)) (length y)) (sym (c .enum-told5 .given .1)) ∙ e))
 
 returns-7 : tie.Need-returns-7
 returns-7 c =
-    let a = c .before .before .before .before .before .before .before .before .before .before .before .args in
-    let y = bodyFrom (a .coding) (now (a .source)) in
-    let t = tablesIn (a .tables) (now (a .slots)) (now (a .header-slots)) in
-    let b = buffersOf (now (a .recipients)) (now (a .identities)) (now (a .keys)) (now (a .headers)) in
-    let e = rw (c .before .before .before .body-size .ensures .0) at (c .before .before .parse-one .ensures (now (a .plugin))) in
-    (e, step-other (a .machine) (now (a .plugin)) t b (verdictSaid (a .late)) (now (a .line)) y (ap (commandSaid (now (a .plugin)) (now (a .line)) (length y)) (sym (c .enum-told5 .given .1)) ∙ e))
-
-returns-8 : tie.Need-returns-8
-returns-8 c =
     let a = c .before .before .before .before .before .before .before .before .before .before .before .before .args in
     let y = bodyFrom (a .coding) (now (a .source)) in
     let t = tablesIn (a .tables) (now (a .slots)) (now (a .header-slots)) in
@@ -215,42 +181,35 @@ step-one-spec =
     body-size-requires
     parse-one-requires
     enum-told
-    argument-requires
-    text-mark-requires
     span-of-requires
-    store-requires
+    keep-text-requires
+    stepped-recipients-requires
     enum-told-2
-    argument-requires-2
-    text-mark-requires-2
     span-of-requires-2
-    store-requires-2
+    keep-text-requires-2
+    stepped-identities-requires
     enum-told-3
     span-of-requires-3
-    store-requires-3
+    store-requires
+    stepped-keys-requires
     enum-known-command
-    is-falling-requires
-    same-length
-    returns
-    rest-of-requires
-    header-mark-requires
-    span-of-requires-4
-    wide-requires
-    store-lines-requires
+    keep-header-requires
+    stepped-headers-requires
     enum-told-4
     enum-told-5
     enum-known-command-2
+    same-length
     same-length-2
+    returns
     same-length-3
-    returns-2
     same-length-4
+    returns-2
     same-length-5
-    returns-3
     same-length-6
+    returns-3
     same-length-7
-    returns-4
     same-length-8
-    same-length-9
+    returns-4
     returns-5
     returns-6
-    returns-7
-    returns-8)
+    returns-7)

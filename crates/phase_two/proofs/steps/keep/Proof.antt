@@ -19,44 +19,29 @@ use Rattle.phase_two.proofs.steps.keep.Tie as tie
 enum-known-command : tie.Need-enum-known-command
 enum-known-command c = search needs
 
-span-of-requires : tie.Need-span-of-requires
-span-of-requires c κs = search needs
+keep-stanza-requires : tie.Need-keep-stanza-requires
+keep-stanza-requires c κs = search needs
 
-rest-of-requires : tie.Need-rest-of-requires
-rest-of-requires c κs = search needs
-
-wide-requires : tie.Need-wide-requires
-wide-requires c κs = search needs
-
-store-lines-requires : tie.Need-store-lines-requires
-store-lines-requires c κs = search needs
+stepped-stanzas-requires : tie.Need-stepped-stanzas-requires
+stepped-stanzas-requires c κs = search needs
 
 enum-known-command-2 : tie.Need-enum-known-command-2
 enum-known-command-2 c = search needs
 
-span-of-requires-2 : tie.Need-span-of-requires-2
-span-of-requires-2 c κs = search needs
+keep-key-requires : tie.Need-keep-key-requires
+keep-key-requires c κs = search needs
 
-wide-requires-2 : tie.Need-wide-requires-2
-wide-requires-2 c κs = search needs
-
-store-requires : tie.Need-store-requires
-store-requires c κs = search needs
+stepped-returned-requires : tie.Need-stepped-returned-requires
+stepped-returned-requires c κs = search needs
 
 enum-known-command-3 : tie.Need-enum-known-command-3
 enum-known-command-3 c = search needs
 
-span-of-requires-3 : tie.Need-span-of-requires-3
-span-of-requires-3 c κs = search needs
+keep-error-requires : tie.Need-keep-error-requires
+keep-error-requires c κs = search needs
 
-index-of-requires : tie.Need-index-of-requires
-index-of-requires c κs = search needs
-
-mark-of-requires : tie.Need-mark-of-requires
-mark-of-requires c κs = search needs
-
-store-requires-2 : tie.Need-store-requires-2
-store-requires-2 c κs = search needs
+stepped-errors-requires : tie.Need-stepped-errors-requires
+stepped-errors-requires c κs = search needs
 
 enum-told : tie.Need-enum-told
 enum-told c = search needs
@@ -78,14 +63,12 @@ same-length-2 c = search needs
 
 returns : tie.Need-returns
 returns c =
-    let a = c .before .before .before .before .before .before .before .before .before .before .before .before .before .before .before .before .before .before .before .args in
+    let a = c .before .before .before .before .before .before .before .before .before .before .before .before .before .before .before .before .args in
     let b = buffersOf (now (a .errors)) (now (a .stanzas)) (now (a .returned)) in
     let y = bodyFrom (a .coding) (now (a .source)) in
-    let z1 = rw (c .before .before .before .before .before .before .before .before .before .span-of .ensures) at (c .before .before .before .before .store-lines .ensures) in
-    let z2 = rw (c .before .before .before .before .before .before .before .wide .ensures) at z1 in
-    let z = rw (c .before .before .before .before .before .before .before .before .rest-of .ensures) at z2 in
-    rw (c .before .before .before .before .before .before .before .before .before .before .before .before .command .given .1)
-    ((λ hs. (step-stanza (tablesIn (a .tables) (now (a .slots)) hs) b (restOf (now (a .line)) ++ 10 ∷ y) (verdictSaid (a .late)) (c .before .before .before .before .before .before .before .before .before .before .before .before .command .given .0 .0) _ _ _ (z .0) (z .1 .0) (z .1 .1 .1)) .0), ((λ hs. put-stanzas (a .tables) (now (a .slots)) _ hs (c .before .before .before .before .store-lines .result .table) _ refl (z .1 .1 .0) ∙ (step-stanza (tablesIn (a .tables) (now (a .slots)) hs) b (restOf (now (a .line)) ++ 10 ∷ y) (verdictSaid (a .late)) (c .before .before .before .before .before .before .before .before .before .before .before .before .command .given .0 .0) _ _ _ (z .0) (z .1 .0) (z .1 .1 .1)) .1 .0), (λ hs. (step-stanza (tablesIn (a .tables) (now (a .slots)) hs) b (restOf (now (a .line)) ++ 10 ∷ y) (verdictSaid (a .late)) (c .before .before .before .before .before .before .before .before .before .before .before .before .command .given .0 .0) _ _ _ (z .0) (z .1 .0) (z .1 .1 .1)) .1 .1)))
+    let z = c .before .before .before .before .keep-stanza .ensures in
+    rw (c .before .before .before .before .before .before .before .before .before .command .given .1, c .stepped-stanzas .ensures)
+    ((λ hs. (step-stanza (tablesIn (a .tables) (now (a .slots)) hs) b (restOf (now (a .line)) ++ 10 ∷ y) (verdictSaid (a .late)) (c .before .before .before .before .before .before .before .before .before .command .given .0 .0) _ _ _ (z .0) (z .1 .0) (z .1 .1 .1)) .0), ((λ hs. put-stanzas (a .tables) (now (a .slots)) _ hs (c .before .before .before .before .keep-stanza .result .table) _ refl (z .1 .1 .0) ∙ (step-stanza (tablesIn (a .tables) (now (a .slots)) hs) b (restOf (now (a .line)) ++ 10 ∷ y) (verdictSaid (a .late)) (c .before .before .before .before .before .before .before .before .before .command .given .0 .0) _ _ _ (z .0) (z .1 .0) (z .1 .1 .1)) .1 .0), (λ hs. (step-stanza (tablesIn (a .tables) (now (a .slots)) hs) b (restOf (now (a .line)) ++ 10 ∷ y) (verdictSaid (a .late)) (c .before .before .before .before .before .before .before .before .before .command .given .0 .0) _ _ _ (z .0) (z .1 .0) (z .1 .1 .1)) .1 .1)))
 
 same-length-3 : tie.Need-same-length-3
 same-length-3 c = search needs
@@ -95,13 +78,12 @@ same-length-4 c = search needs
 
 returns-2 : tie.Need-returns-2
 returns-2 c =
-    let a = c .before .before .before .before .before .before .before .before .before .before .before .before .before .before .before .before .before .before .args in
+    let a = c .before .before .before .before .before .before .before .before .before .before .before .before .before .before .before .before .args in
     let b = buffersOf (now (a .errors)) (now (a .stanzas)) (now (a .returned)) in
     let y = bodyFrom (a .coding) (now (a .source)) in
-    let z1 = rw (c .before .before .before .before .before .before .before .before .span-of2 .ensures) at (c .before .before .before .before .store .ensures) in
-    let z = rw (c .before .before .before .before .before .before .before .wide2 .ensures) at z1 in
-    rw (c .before .before .before .before .before .before .before .before .before .before .before .command2 .given .1)
-    ((λ hs. (step-key (tablesIn (a .tables) (now (a .slots)) hs) b y (verdictSaid (a .late)) (c .before .before .before .before .before .before .before .before .before .before .before .command2 .given .0 .0) _ _ _ (z .0) (z .1 .0) (z .1 .1 .1)) .0), ((λ hs. put-returned (a .tables) (now (a .slots)) _ hs (c .before .before .before .before .store .result .table) _ refl (z .1 .1 .0) ∙ (step-key (tablesIn (a .tables) (now (a .slots)) hs) b y (verdictSaid (a .late)) (c .before .before .before .before .before .before .before .before .before .before .before .command2 .given .0 .0) _ _ _ (z .0) (z .1 .0) (z .1 .1 .1)) .1 .0), (λ hs. (step-key (tablesIn (a .tables) (now (a .slots)) hs) b y (verdictSaid (a .late)) (c .before .before .before .before .before .before .before .before .before .before .before .command2 .given .0 .0) _ _ _ (z .0) (z .1 .0) (z .1 .1 .1)) .1 .1)))
+    let z = c .before .before .before .before .keep-key .ensures in
+    rw (c .before .before .before .before .before .before .before .before .before .command2 .given .1, c .stepped-returned .ensures)
+    ((λ hs. (step-key (tablesIn (a .tables) (now (a .slots)) hs) b y (verdictSaid (a .late)) (c .before .before .before .before .before .before .before .before .before .command2 .given .0 .0) _ _ _ (z .0) (z .1 .0) (z .1 .1 .1)) .0), ((λ hs. put-returned (a .tables) (now (a .slots)) _ hs (c .before .before .before .before .keep-key .result .table) _ refl (z .1 .1 .0) ∙ (step-key (tablesIn (a .tables) (now (a .slots)) hs) b y (verdictSaid (a .late)) (c .before .before .before .before .before .before .before .before .before .command2 .given .0 .0) _ _ _ (z .0) (z .1 .0) (z .1 .1 .1)) .1 .0), (λ hs. (step-key (tablesIn (a .tables) (now (a .slots)) hs) b y (verdictSaid (a .late)) (c .before .before .before .before .before .before .before .before .before .command2 .given .0 .0) _ _ _ (z .0) (z .1 .0) (z .1 .1 .1)) .1 .1)))
 
 same-length-5 : tie.Need-same-length-5
 same-length-5 c = search needs
@@ -111,14 +93,12 @@ same-length-6 c = search needs
 
 returns-3 : tie.Need-returns-3
 returns-3 c =
-    let a = c .before .before .before .before .before .before .before .before .before .before .before .before .before .before .before .before .before .before .before .args in
+    let a = c .before .before .before .before .before .before .before .before .before .before .before .before .before .before .before .before .args in
     let b = buffersOf (now (a .errors)) (now (a .stanzas)) (now (a .returned)) in
     let y = bodyFrom (a .coding) (now (a .source)) in
-    let z1 = rw (c .before .before .before .before .before .before .before .before .before .span-of3 .ensures) at (c .before .before .before .before .store2 .ensures) in
-    let z2 = rw (c .before .before .before .before .before .before .before .before .index-of .ensures) at z1 in
-    let z = rw (c .before .before .before .before .before .before .before .mark-of .ensures) at z2 in
-    rw (c .before .before .before .before .before .before .before .before .before .before .before .before .command3 .given .1)
-    ((λ hs. (step-error (tablesIn (a .tables) (now (a .slots)) hs) b y (verdictSaid (a .late)) (namedSaid (c .before .before .before .before .before .before .before .before .before .before .before .before .command3 .given .0 .0)) _ _ _ (z .0) (z .1 .0) (z .1 .1 .1)) .0), ((λ hs. put-errors (a .tables) (now (a .slots)) _ hs (c .before .before .before .before .store2 .result .table) _ refl (z .1 .1 .0) ∙ (step-error (tablesIn (a .tables) (now (a .slots)) hs) b y (verdictSaid (a .late)) (namedSaid (c .before .before .before .before .before .before .before .before .before .before .before .before .command3 .given .0 .0)) _ _ _ (z .0) (z .1 .0) (z .1 .1 .1)) .1 .0), (λ hs. (step-error (tablesIn (a .tables) (now (a .slots)) hs) b y (verdictSaid (a .late)) (namedSaid (c .before .before .before .before .before .before .before .before .before .before .before .before .command3 .given .0 .0)) _ _ _ (z .0) (z .1 .0) (z .1 .1 .1)) .1 .1)))
+    let z = c .before .before .before .before .keep-error .ensures in
+    rw (c .before .before .before .before .before .before .before .before .before .command3 .given .1, c .stepped-errors .ensures)
+    ((λ hs. (step-error (tablesIn (a .tables) (now (a .slots)) hs) b y (verdictSaid (a .late)) (namedSaid (c .before .before .before .before .before .before .before .before .before .command3 .given .0 .0)) _ _ _ (z .0) (z .1 .0) (z .1 .1 .1)) .0), ((λ hs. put-errors (a .tables) (now (a .slots)) _ hs (c .before .before .before .before .keep-error .result .table) _ refl (z .1 .1 .0) ∙ (step-error (tablesIn (a .tables) (now (a .slots)) hs) b y (verdictSaid (a .late)) (namedSaid (c .before .before .before .before .before .before .before .before .before .command3 .given .0 .0)) _ _ _ (z .0) (z .1 .0) (z .1 .1 .1)) .1 .0), (λ hs. (step-error (tablesIn (a .tables) (now (a .slots)) hs) b y (verdictSaid (a .late)) (namedSaid (c .before .before .before .before .before .before .before .before .before .command3 .given .0 .0)) _ _ _ (z .0) (z .1 .0) (z .1 .1 .1)) .1 .1)))
 
 returns-4 : tie.Need-returns-4
 returns-4 c =
@@ -149,19 +129,14 @@ keep-spec =
     tie.close
     (tie.spec
     enum-known-command
-    span-of-requires
-    rest-of-requires
-    wide-requires
-    store-lines-requires
+    keep-stanza-requires
+    stepped-stanzas-requires
     enum-known-command-2
-    span-of-requires-2
-    wide-requires-2
-    store-requires
+    keep-key-requires
+    stepped-returned-requires
     enum-known-command-3
-    span-of-requires-3
-    index-of-requires
-    mark-of-requires
-    store-requires-2
+    keep-error-requires
+    stepped-errors-requires
     enum-told
     enum-told-2
     enum-told-3

@@ -2,7 +2,7 @@
 use borrow.Author.Needs.{needs}
 use Rattle.plugin.proofs.receiving.receive.Statement.{statement}
 use Rattle.plugin.proofs.receiving.receive.Tie as tie
-use mathlib.Core.Path.{sym, ap, _∙_}
+use mathlib.Core.Path.{refl, sym, ap, _∙_}
 use denote.Ref.{now}
 use Rattle.refusal.specs.Number.{numberOf}
 use Rattle.refusal.specs.Verdict.{verdictSaid}
@@ -45,8 +45,10 @@ moved-requires c κs = search needs
 returns : tie.Need-returns
 returns c =
     let a = c .before .before .before .before .before .before .before .before .before .args in
-    let r = c .before .turn .given .0 .0 in
-    received-out-of-turn (sessionOf (a .session) (now (a .slots)) (now (a .header-slots))) (now (a .text)) (buffersOf (now (a .recipients)) (now (a .identities)) (now (a .keys)) (now (a .headers))) (numberOf r) (sym (ap verdictSaid (c .before .turn .given .1)) ∙ c .before .before .before .turn-one .ensures) (number-not-zero r)
+    let r = c .before .turn .given .0 .0 in (
+      received-out-of-turn (sessionOf (a .session) (now (a .slots)) (now (a .header-slots))) (now (a .text)) (buffersOf (now (a .recipients)) (now (a .identities)) (now (a .keys)) (now (a .headers))) (numberOf r) (sym (ap verdictSaid (c .before .turn .given .1)) ∙ c .before .before .before .turn-one .ensures) (number-not-zero r),
+      refl,
+    )
 
 same-length : tie.Need-same-length
 same-length c = search needs
@@ -64,20 +66,24 @@ returns-2 : tie.Need-returns-2
 returns-2 c =
     let a = c .before .before .before .before .before .before .before .before .before .before .before .before .before .before .before .before .before .before .before .before .before .before .before .before .before .before .before .args in
     let s = sessionOf (a .session) (now (a .slots)) (now (a .header-slots)) in
-    let b = buffersOf (now (a .recipients)) (now (a .identities)) (now (a .keys)) (now (a .headers)) in
-    c .before .before .before .before .before .before .before .before .receive-stanza .ensures
-    ∙ ap (λ r. receivedAs r s (now (a .text)) b) (sym (ap readSaid (c .before .before .before .before .before .before .before .before .before .before .before .before .before .before .before .before .first .given .1)) ∙ c .before .before .before .before .before .before .before .before .before .before .before .before .before .before .before .before .before .before .read .ensures)
-    ∙ received-in-turn s (now (a .text)) b (sym (ap verdictSaid (c .before .before .before .before .before .before .before .before .before .before .before .before .before .before .before .before .before .before .before .enum-told .given .1)) ∙ c .before .before .before .before .before .before .before .before .before .before .before .before .before .before .before .before .before .before .before .before .before .turn-one .ensures)
+    let b = buffersOf (now (a .recipients)) (now (a .identities)) (now (a .keys)) (now (a .headers)) in (
+      c .before .before .before .before .before .before .before .before .receive-stanza .ensures .0
+          ∙ ap (λ r. receivedAs r s (now (a .text)) b) (sym (ap readSaid (c .before .before .before .before .before .before .before .before .before .before .before .before .before .before .before .before .first .given .1)) ∙ c .before .before .before .before .before .before .before .before .before .before .before .before .before .before .before .before .before .before .read .ensures)
+          ∙ received-in-turn s (now (a .text)) b (sym (ap verdictSaid (c .before .before .before .before .before .before .before .before .before .before .before .before .before .before .before .before .before .before .before .enum-told .given .1)) ∙ c .before .before .before .before .before .before .before .before .before .before .before .before .before .before .before .before .before .before .before .before .before .turn-one .ensures),
+      c .before .before .before .before .before .before .before .before .receive-stanza .ensures .1,
+    )
 
 returns-3 : tie.Need-returns-3
 returns-3 c =
     let a = c .before .before .before .before .before .before .before .before .before .before .before .before .before .before .args in
     let s = sessionOf (a .session) (now (a .slots)) (now (a .header-slots)) in
-    let b = buffersOf (now (a .recipients)) (now (a .identities)) (now (a .keys)) (now (a .headers)) in
-    rw (c .moved .ensures, c .before .phase-refused .ensures)
-    (refusal-is (a .session .machine) (nameOf (a .session .name)) (a .session .screen) (a .session .phase) (tablesIn (a .session .tables) (now (a .slots)) (now (a .header-slots))) b (numberOf (c .before .before .before .first2 .given .0 .0))
-    ∙ ap (λ r. receivedAs r s (now (a .text)) b) (sym (ap readSaid (c .before .before .before .first2 .given .1)) ∙ c .before .before .before .before .before .read .ensures)
-    ∙ received-in-turn s (now (a .text)) b (sym (ap verdictSaid (c .before .before .before .before .before .before .enum-told .given .1)) ∙ c .before .before .before .before .before .before .before .before .turn-one .ensures))
+    let b = buffersOf (now (a .recipients)) (now (a .identities)) (now (a .keys)) (now (a .headers)) in (
+      rw (c .moved .ensures, c .before .phase-refused .ensures)
+          (refusal-is (a .session .machine) (nameOf (a .session .name)) (a .session .screen) (a .session .phase) (tablesIn (a .session .tables) (now (a .slots)) (now (a .header-slots))) b (numberOf (c .before .before .before .first2 .given .0 .0))
+          ∙ ap (λ r. receivedAs r s (now (a .text)) b) (sym (ap readSaid (c .before .before .before .first2 .given .1)) ∙ c .before .before .before .before .before .read .ensures)
+          ∙ received-in-turn s (now (a .text)) b (sym (ap verdictSaid (c .before .before .before .before .before .before .enum-told .given .1)) ∙ c .before .before .before .before .before .before .before .before .turn-one .ensures)),
+      ap (λ s. s .name) (c .moved .ensures),
+    )
 
 pub receive-spec : {M : Type 1} → statement M
 receive-spec =

@@ -68,12 +68,14 @@ returns c =
     let body = bodyFrom Lines (now (c .before .before .before .before .before .before .before .before .before .before .before .before .before .before .before .before .before .before .before .before .before .lines-of .result)) in
     let step = c .before .before .before .before .before .before .before .before .before .before .before .before .before .before .step-one in
     let e = step .ensures in
-    let n = length body in
-    rw (c .moved .ensures)
-    (received-from (a .session .machine) (nameOf (a .session .name)) (a .session .screen) (a .session .phase) (tablesIn (a .session .tables) (now (a .slots)) (now (a .header-slots))) (buffersOf (now (a .recipients)) (now (a .identities)) (now (a .keys)) (now (a .headers)))
-    (argumentsIn text (a .s)) (bodyIn text (a .s)) (a .s .taken) name line body
-    (verdictSaid (step .result .verdict)) (commandSaid name line n (step .result .command)) (takingSaid (c .before .before .answer-to .result)) (c .before .phase-received .result) _ _
-    (c .before .before .before .before .before .before .before .before .before .before .before .before .before .before .before .before .before .before .before .before .before .before .before .front .ensures) (c .before .before .before .before .before .before .before .before .before .before .before .before .before .before .before .before .before .before .before .before .before .before .arguments-of .ensures) (ap bodyOf (c .before .before .before .before .before .before .before .before .before .before .before .before .before .before .before .before .before .before .before .before .before .lines-of .ensures)) (e .1 .0) (e .0) (c .before .before .answer-to .ensures name line n) (c .before .phase-received .ensures name line n) (e .1 .1 .0) (e .1 .1 .1))
+    let n = length body in (
+      rw (c .moved .ensures)
+          (received-from (a .session .machine) (nameOf (a .session .name)) (a .session .screen) (a .session .phase) (tablesIn (a .session .tables) (now (a .slots)) (now (a .header-slots))) (buffersOf (now (a .recipients)) (now (a .identities)) (now (a .keys)) (now (a .headers)))
+          (argumentsIn text (a .s)) (bodyIn text (a .s)) (a .s .taken) name line body
+          (verdictSaid (step .result .verdict)) (commandSaid name line n (step .result .command)) (takingSaid (c .before .before .answer-to .result)) (c .before .phase-received .result) _ _
+          (c .before .before .before .before .before .before .before .before .before .before .before .before .before .before .before .before .before .before .before .before .before .before .before .front .ensures) (c .before .before .before .before .before .before .before .before .before .before .before .before .before .before .before .before .before .before .before .before .before .before .arguments-of .ensures) (ap bodyOf (c .before .before .before .before .before .before .before .before .before .before .before .before .before .before .before .before .before .before .before .before .before .lines-of .ensures)) (e .1 .0) (e .0) (c .before .before .answer-to .ensures name line n) (c .before .phase-received .ensures name line n) (e .1 .1 .0) (e .1 .1 .1)),
+      ap (λ s. s .name) (c .moved .ensures),
+    )
 
 pub receive-stanza-spec : {M : Type 1} → statement M
 receive-stanza-spec =

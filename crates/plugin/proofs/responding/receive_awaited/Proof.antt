@@ -31,20 +31,24 @@ receive-stanza-requires : tie.Need-receive-stanza-requires
 receive-stanza-requires c κs = sym (c .before .before .before .before .read .ensures) ∙ ap readSaid (c .before .before .first2 .given .1)
 
 returns : tie.Need-returns
-returns c =
-    λ xs hs.
-    let a = c .before .before .before .before .before .before .before .before .args in
-    rw (c .moved .ensures, c .before .phase-refused .ensures, sym (c .before .before .before .before .before .read .ensures), c .before .before .before .first .given .1) (response-refused (a .session .machine) (nameOf (a .session .name)) (a .session .screen) (a .session .phase) (tablesIn (a .session .tables) xs hs) (a .word) (numberOf (c .before .before .before .first .given .0 .0)) (now (a .out)))
+returns c = (
+  λ xs hs.
+      let a = c .before .before .before .before .before .before .before .before .args in
+      rw (c .moved .ensures, c .before .phase-refused .ensures, sym (c .before .before .before .before .before .read .ensures), c .before .before .before .first .given .1) (response-refused (a .session .machine) (nameOf (a .session .name)) (a .session .screen) (a .session .phase) (tablesIn (a .session .tables) xs hs) (a .word) (numberOf (c .before .before .before .first .given .0 .0)) (now (a .out))),
+  ap (λ s. s .name) (c .moved .ensures),
+)
 
 same-length : tie.Need-same-length
 same-length c = search needs
 
 returns-2 : tie.Need-returns-2
-returns-2 c =
-    λ xs hs.
-    let a = c .before .before .before .before .before .before .before .before .before .before .args in
-    c .before .before .receive-stanza .ensures xs hs
-    ∙ ap (λ r. respondedText r (a .word) (sessionOf (a .session) xs hs) (now (a .text)) (now (a .out))) (sym (ap readSaid (c .before .before .before .before .before .first2 .given .1)) ∙ c .before .before .before .before .before .before .before .read .ensures)
+returns-2 c = (
+  λ xs hs.
+      let a = c .before .before .before .before .before .before .before .before .before .before .args in
+      c .before .before .receive-stanza .ensures .0 xs hs
+      ∙ ap (λ r. respondedText r (a .word) (sessionOf (a .session) xs hs) (now (a .text)) (now (a .out))) (sym (ap readSaid (c .before .before .before .before .before .first2 .given .1)) ∙ c .before .before .before .before .before .before .before .read .ensures),
+  c .before .before .receive-stanza .ensures .1,
+)
 
 pub receive-awaited-spec : {M : Type 1} → statement M
 receive-awaited-spec =

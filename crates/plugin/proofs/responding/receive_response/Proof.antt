@@ -3,7 +3,7 @@ use borrow.Author.Needs.{needs}
 use Rattle.plugin.proofs.responding.receive_response.Statement.{statement}
 use Rattle.plugin.proofs.responding.receive_response.Tie as tie
 use Prim.Native.Nat.{ℕ}
-use mathlib.Core.Path.{_≡_, sym, ap, _∙_}
+use mathlib.Core.Path.{_≡_, refl, sym, ap, _∙_}
 use mathlib.Core.Bool.{false}
 use native.Mathlib.Omega.{arith}
 use Rattle.refusal.specs.Number.{numberOf}
@@ -34,15 +34,18 @@ receive-awaited-requires : tie.Need-receive-awaited-requires
 receive-awaited-requires c κs = search needs
 
 returns : tie.Need-returns
-returns c = λ xs hs.
-    let e = sym (ap dueSaid (c .before .due .given .1)) ∙ c .before .before .before .answer-due .ensures in
-    rw (sym e, undue-keeps (c .before .before .before .before .before .before .args .session .phase) (numberOf (c .before .due .given .0 .0)) e)
+returns c = (
+  λ xs hs.
+      let e = sym (ap dueSaid (c .before .due .given .1)) ∙ c .before .before .before .answer-due .ensures in
+      rw (sym e, undue-keeps (c .before .before .before .before .before .before .args .session .phase) (numberOf (c .before .due .given .0 .0)) e),
+  refl,
+)
 
 same-length : tie.Need-same-length
 same-length c = search needs
 
 returns-2 : tie.Need-returns-2
-returns-2 c = λ xs hs. rw (sym (c .before .before .before .before .before .before .before .answer-due .ensures), c .before .before .before .before .before .due2 .given .1) (c .before .before .receive-awaited .ensures xs hs)
+returns-2 c = (λ xs hs. rw (sym (c .before .before .before .before .before .before .before .answer-due .ensures), c .before .before .before .before .before .due2 .given .1) (c .before .before .receive-awaited .ensures .0 xs hs), c .before .before .receive-awaited .ensures .1)
 
 pub receive-response-spec : {M : Type 1} → statement M
 receive-response-spec =

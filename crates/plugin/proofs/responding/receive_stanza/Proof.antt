@@ -34,21 +34,25 @@ same-length : tie.Need-same-length
 same-length c = search needs
 
 returns : tie.Need-returns
-returns c =
-    λ xs hs.
-    let a = c .before .before .before .before .before .before .before .before .before .before .before .args in
-    let e : readingSaid (c .before .before .before .before .before .before .before .read-line .result) ≡ responseOf (argumentsIn (now (a .text)) (a .s)) = c .before .before .before .before .before .before .before .read-line .ensures ∙ ap responseOf (c .before .before .before .before .before .before .before .before .arguments-of .ensures) in
-    c .before .before .receive-fitting .ensures xs hs
-    ∙ ap (λ r. respondedAs (a .word) (sessionOf (a .session) xs hs) r (bodyIn (now (a .text)) (a .s)) (a .s .taken) (now (a .out))) (sym (ap readingSaid (c .before .before .before .before .before .reading .given .1)) ∙ e)
+returns c = (
+  λ xs hs.
+      let a = c .before .before .before .before .before .before .before .before .before .before .before .args in
+      let e : readingSaid (c .before .before .before .before .before .before .before .read-line .result) ≡ responseOf (argumentsIn (now (a .text)) (a .s)) = c .before .before .before .before .before .before .before .read-line .ensures ∙ ap responseOf (c .before .before .before .before .before .before .before .before .arguments-of .ensures) in
+      c .before .before .receive-fitting .ensures .0 xs hs
+      ∙ ap (λ r. respondedAs (a .word) (sessionOf (a .session) xs hs) r (bodyIn (now (a .text)) (a .s)) (a .s .taken) (now (a .out))) (sym (ap readingSaid (c .before .before .before .before .before .reading .given .1)) ∙ e),
+  c .before .before .receive-fitting .ensures .1,
+)
 
 returns-2 : tie.Need-returns-2
-returns-2 c =
-    λ xs hs.
-    let a = c .before .before .before .before .before .before .before .args in
-    let e : readingSaid (c .before .before .before .read-line .result) ≡ responseOf (argumentsIn (now (a .text)) (a .s)) = c .before .before .before .read-line .ensures ∙ ap responseOf (c .before .before .before .before .arguments-of .ensures) in
-    c .unfit .ensures xs hs (now (a .out))
-    ∙ responded-nothing (a .session .machine) (nameOf (a .session .name)) (a .session .screen) (a .session .phase) (tablesIn (a .session .tables) xs hs) (a .word) (bodyIn (now (a .text)) (a .s)) (a .s .taken) (now (a .out))
-    ∙ ap (λ r. respondedAs (a .word) (sessionOf (a .session) xs hs) r (bodyIn (now (a .text)) (a .s)) (a .s .taken) (now (a .out))) (sym (ap readingSaid (c .before .enum-told .given .1)) ∙ e)
+returns-2 c = (
+  λ xs hs.
+      let a = c .before .before .before .before .before .before .before .args in
+      let e : readingSaid (c .before .before .before .read-line .result) ≡ responseOf (argumentsIn (now (a .text)) (a .s)) = c .before .before .before .read-line .ensures ∙ ap responseOf (c .before .before .before .before .arguments-of .ensures) in
+      c .unfit .ensures .0 xs hs (now (a .out))
+      ∙ responded-nothing (a .session .machine) (nameOf (a .session .name)) (a .session .screen) (a .session .phase) (tablesIn (a .session .tables) xs hs) (a .word) (bodyIn (now (a .text)) (a .s)) (a .s .taken) (now (a .out))
+      ∙ ap (λ r. respondedAs (a .word) (sessionOf (a .session) xs hs) r (bodyIn (now (a .text)) (a .s)) (a .s .taken) (now (a .out))) (sym (ap readingSaid (c .before .enum-told .given .1)) ∙ e),
+  c .unfit .ensures .1,
+)
 
 pub receive-stanza-spec : {M : Type 1} → statement M
 receive-stanza-spec =

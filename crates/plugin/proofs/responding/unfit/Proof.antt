@@ -1,4 +1,5 @@
 -- 12 closes the session.
+use mathlib.Core.Path.{ap}
 use borrow.Author.Needs.{needs}
 use Rattle.plugin.proofs.responding.unfit.Statement.{statement}
 use Rattle.plugin.proofs.responding.unfit.Tie as tie
@@ -7,7 +8,7 @@ moved-requires : tie.Need-moved-requires
 moved-requires c κs = search needs
 
 returns : tie.Need-returns
-returns c = λ xs hs out. rw (c .moved .ensures)
+returns c = (λ xs hs out. rw (c .moved .ensures), ap (λ s. s .name) (c .moved .ensures))
 
 pub unfit-spec : {M : Type 1} → statement M
 unfit-spec = tie.close (tie.spec moved-requires returns)

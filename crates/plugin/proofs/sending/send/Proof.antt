@@ -2,7 +2,7 @@
 use borrow.Author.Needs.{needs}
 use Rattle.plugin.proofs.sending.send.Statement.{statement}
 use Rattle.plugin.proofs.sending.send.Tie as tie
-use mathlib.Core.Path.{sym, ap, _∙_}
+use mathlib.Core.Path.{refl, sym, ap, _∙_}
 use denote.Ref.{now}
 use Rattle.refusal.specs.Number.{numberOf}
 use Rattle.refusal.specs.Verdict.{verdictSaid}
@@ -26,8 +26,10 @@ send-due-requires c κs = search needs
 returns : tie.Need-returns
 returns c =
     let a = c .before .before .before .before .before .before .before .before .before .before .args in
-    let r = c .before .turn .given .0 .0 in
-    sent-out-of-turn (sessionOf (a .session) (now (a .slots)) (now (a .header-slots))) (a .word) (now (a .arguments)) (now (a .body)) (buffersOf (now (a .errors)) (now (a .stanzas)) (now (a .returned))) (now (a .out)) (numberOf r) (sym (ap verdictSaid (c .before .turn .given .1)) ∙ c .before .before .before .turn-two .ensures) (number-not-zero r)
+    let r = c .before .turn .given .0 .0 in (
+      sent-out-of-turn (sessionOf (a .session) (now (a .slots)) (now (a .header-slots))) (a .word) (now (a .arguments)) (now (a .body)) (buffersOf (now (a .errors)) (now (a .stanzas)) (now (a .returned))) (now (a .out)) (numberOf r) (sym (ap verdictSaid (c .before .turn .given .1)) ∙ c .before .before .before .turn-two .ensures) (number-not-zero r),
+      refl,
+    )
 
 same-length : tie.Need-same-length
 same-length c = search needs
@@ -43,9 +45,11 @@ same-length-4 c = search needs
 
 returns-2 : tie.Need-returns-2
 returns-2 c =
-    let a = c .before .before .before .before .before .before .before .before .before .before .before .before .before .before .before .before .before .before .before .before .before .before .before .before .args in
-    c .before .before .before .before .before .before .before .before .send-due .ensures
-    ∙ sent-in-turn (sessionOf (a .session) (now (a .slots)) (now (a .header-slots))) (a .word) (now (a .arguments)) (now (a .body)) (buffersOf (now (a .errors)) (now (a .stanzas)) (now (a .returned))) (now (a .out)) (sym (ap verdictSaid (c .before .before .before .before .before .before .before .before .before .before .before .before .before .before .before .enum-told .given .1)) ∙ c .before .before .before .before .before .before .before .before .before .before .before .before .before .before .before .before .before .turn-two .ensures)
+    let a = c .before .before .before .before .before .before .before .before .before .before .before .before .before .before .before .before .before .before .before .before .before .before .before .before .args in (
+      c .before .before .before .before .before .before .before .before .send-due .ensures .0
+          ∙ sent-in-turn (sessionOf (a .session) (now (a .slots)) (now (a .header-slots))) (a .word) (now (a .arguments)) (now (a .body)) (buffersOf (now (a .errors)) (now (a .stanzas)) (now (a .returned))) (now (a .out)) (sym (ap verdictSaid (c .before .before .before .before .before .before .before .before .before .before .before .before .before .before .before .enum-told .given .1)) ∙ c .before .before .before .before .before .before .before .before .before .before .before .before .before .before .before .before .before .turn-two .ensures),
+      c .before .before .before .before .before .before .before .before .send-due .ensures .1,
+    )
 
 pub send-spec : {M : Type 1} → statement M
 send-spec =

@@ -2,7 +2,7 @@
 use borrow.Author.Needs.{needs}
 use Rattle.plugin.proofs.sending.send_in.Statement.{statement}
 use Rattle.plugin.proofs.sending.send_in.Tie as tie
-use mathlib.Core.Path.{_≡_, sym, ap, _∙_}
+use mathlib.Core.Path.{_≡_, refl, sym, ap, _∙_}
 use lib.Dec.{ltb}
 use lib.ListN.{length}
 use denote.Ref.{now}
@@ -67,8 +67,10 @@ returns c =
     let l = lineSent (a .word) (now (a .arguments)) in
     let r = numberOf (c .before .composed .given .0 .0) in
     let put = c .before .before .before .before .before .before .before .put-line-two .ensures in
-    let z = composed-not l (now (a .store)) _ (now (a .body)) _ (put .0) (put .1) r (c .before .before .before .before .before .before .before .before .before .before .before .before .before .before .before .before .pre) (sym (ap composedSaid (c .before .composed .given .1)) ∙ c .before .before .before .compose .ensures) in
-    rw (z .1) (sent-unwritable (sessionOf (a .session) (now (a .slots)) (now (a .header-slots))) (buffersOf (now (a .errors)) (now (a .stanzas)) (now (a .returned))) l (now (a .body)) (now (a .out)) (z .0))
+    let z = composed-not l (now (a .store)) _ (now (a .body)) _ (put .0) (put .1) r (c .before .before .before .before .before .before .before .before .before .before .before .before .before .before .before .before .pre) (sym (ap composedSaid (c .before .composed .given .1)) ∙ c .before .before .before .compose .ensures) in (
+      rw (z .1) (sent-unwritable (sessionOf (a .session) (now (a .slots)) (now (a .header-slots))) (buffersOf (now (a .errors)) (now (a .stanzas)) (now (a .returned))) l (now (a .body)) (now (a .out)) (z .0)),
+      refl,
+    )
 
 same-length-2 : tie.Need-same-length-2
 same-length-2 c = c .before .before .before .before .before .before .before .before .before .before .before .before .before .before .before .before .before .before .before .before .before .before .before .before .before .before .before .before .before .before .before .before .before .put-line-two .kept .1 .1 .0
@@ -101,11 +103,13 @@ returns-2 c =
     let e : f ≡ l = c .before .before .before .before .before .before .before .before .before .before .before .before .before .before .before .before .before .before .before .before .before .before .before .front .ensures ∙ z .0 in
     let w = size-bytes f y o (composed .0 .1 .0) (z .1 ∙ ap (λ x. sized x y) (sym e)) in
     let step = c .before .before .before .before .before .before .before .before .before .before .before .before .before .before .step-two in
-    let hs = now (a .header-slots) in
-    rw (sym e, c .moved .ensures)
-    (sent-from (a .session .machine) (nameOf (a .session .name)) (a .session .screen) (a .session .phase) (tablesIn (a .session .tables) (now (a .slots)) hs) (buffersOf (now (a .errors)) (now (a .stanzas)) (now (a .returned))) f y o (w .0)
-    (commandSaid (c .before .before .before .before .before .before .before .before .before .before .before .before .before .before .before .before .before .before .before .before .before .before .parse-two .result)) (verdictSaid (c .before .before .before .before .before .before .before .before .before .before .before .before .before .before .before .before .before .before .before .before .rule-two .result)) (verdictSaid (c .before .before .before .before .before .before .before .before .before .before .before .before .before .before .before .before .before .before .before .check-output .result)) (verdictSaid (step .result .verdict)) (said (c .before .before .before .before .write-judged .result)) (c .before .phase-sent-two .result) _ _ _
-    (c .before .before .before .before .before .before .before .before .before .before .before .before .before .before .before .before .before .before .before .before .before .before .parse-two .ensures) (c .before .before .before .before .before .before .before .before .before .before .before .before .before .before .before .before .before .before .before .before .rule-two .ensures) (c .before .before .before .before .before .before .before .before .before .before .before .before .before .before .before .before .before .before .before .check-output .ensures ∙ ap (λ n. pick (ltb (length o) n) 15 0) (w .1)) (step .ensures .0 hs) (c .before .before .before .before .write-judged .ensures .0) (c .before .phase-sent-two .ensures) (step .ensures .1 .0 hs) (step .ensures .1 .1 hs) (c .before .before .before .before .write-judged .ensures .1))
+    let hs = now (a .header-slots) in (
+      rw (sym e, c .moved .ensures)
+          (sent-from (a .session .machine) (nameOf (a .session .name)) (a .session .screen) (a .session .phase) (tablesIn (a .session .tables) (now (a .slots)) hs) (buffersOf (now (a .errors)) (now (a .stanzas)) (now (a .returned))) f y o (w .0)
+          (commandSaid (c .before .before .before .before .before .before .before .before .before .before .before .before .before .before .before .before .before .before .before .before .before .before .parse-two .result)) (verdictSaid (c .before .before .before .before .before .before .before .before .before .before .before .before .before .before .before .before .before .before .before .before .rule-two .result)) (verdictSaid (c .before .before .before .before .before .before .before .before .before .before .before .before .before .before .before .before .before .before .before .check-output .result)) (verdictSaid (step .result .verdict)) (said (c .before .before .before .before .write-judged .result)) (c .before .phase-sent-two .result) _ _ _
+          (c .before .before .before .before .before .before .before .before .before .before .before .before .before .before .before .before .before .before .before .before .before .before .parse-two .ensures) (c .before .before .before .before .before .before .before .before .before .before .before .before .before .before .before .before .before .before .before .before .rule-two .ensures) (c .before .before .before .before .before .before .before .before .before .before .before .before .before .before .before .before .before .before .before .check-output .ensures ∙ ap (λ n. pick (ltb (length o) n) 15 0) (w .1)) (step .ensures .0 hs) (c .before .before .before .before .write-judged .ensures .0) (c .before .phase-sent-two .ensures) (step .ensures .1 .0 hs) (step .ensures .1 .1 hs) (c .before .before .before .before .write-judged .ensures .1)),
+      ap (λ s. s .name) (c .moved .ensures),
+    )
 
 pub send-in-spec : {M : Type 1} → statement M
 send-in-spec =

@@ -1,6 +1,7 @@
 -- By whether there are arguments and whether the text fits, which is tested by differences so that no sum wraps.
 use denote.Ref.{now}
 use native.Mathlib.Omega.{arith}
+use borrow.Author.Tests.{le-ltb}
 use Rattle.stanza.proofs.Laws.Writing.{join-short, join-alone, join-over, join-both}
 use borrow.Author.Needs.{needs}
 use Rattle.stanza.proofs.writing.join.Statement.{statement}
@@ -16,7 +17,7 @@ same-length : tie.Need-same-length
 same-length c = search needs
 
 returns-2 : tie.Need-returns-2
-returns-2 c = join-alone (now (c .before .before .before .before .before .before .before .before .before .args .command)) (now (c .before .before .before .before .before .before .before .before .before .args .arguments)) (now (c .before .before .before .before .before .before .before .before .before .args .out)) _ (c .before .before .before .before .if2 .taken) (c .before .before .before .before .before .if1 .left) (c .before .before .copy .ensures)
+returns-2 c = join-alone (now (c .before .before .before .before .before .before .before .before .before .args .command)) (now (c .before .before .before .before .before .before .before .before .before .args .arguments)) (now (c .before .before .before .before .before .before .before .before .before .args .out)) _ (c .before .before .before .before .if2 .taken) (c .before .before .before .before .before .if1 .left) (rw (le-ltb _ _ (c .before .before .before .before .before .if1 .left)) at (c .before .before .copy .ensures))
 
 returns-3 : tie.Need-returns-3
 returns-3 c = join-over (now (c .before .before .before .before .before .before .args .command)) (now (c .before .before .before .before .before .before .args .arguments)) (now (c .before .before .before .before .before .before .args .out)) (c .before .if2 .left) (omega arith)

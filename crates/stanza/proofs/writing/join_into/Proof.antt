@@ -1,9 +1,10 @@
 -- Command, space and arguments, one behind the other, are the text.
-use Prim.Native.Nat.{_+_, _-_}
+use Prim.Native.Nat.{_+_, _-_, _≤_}
 use mathlib.Core.Path.{_∙_}
 use denote.Ref.{now}
-use lib.ListN.{length, set, length-set, length-drop}
+use lib.ListN.{length, take, drop, set, length-set, length-drop}
 use native.Mathlib.Omega.{arith}
+use borrow.Author.Tests.{le-ltb}
 use borrow.Rule.Slice.PartMut.{same-len-mid}
 use Rattle.refusal.proofs.Laws.Lists.{part-rest, parts-joined}
 use borrow.Author.Needs.{needs}
@@ -29,10 +30,7 @@ part-copy-end : tie.Need-part-copy-end
 part-copy-end c = search needs
 
 copy-requires-2 : tie.Need-copy-requires-2
-copy-requires-2 c κs =
-    let n = length (now (c .before .before .before .before .before .before .before .before .args .command)) in
-    let b = set (c .before .before .before .copy .last .1 .0) n 32 in
-    rw (part-rest (n + 1) b) (simp (length-drop, length-set) (omega (arith, c .before .before .before .copy .kept .1 .0, c .before .before .before .before .before .before .before .before .pre)))
+copy-requires-2 c κs = search needs
 
 same-length : tie.Need-same-length
 same-length c =
@@ -42,7 +40,15 @@ same-length c =
 
 returns : tie.Need-returns
 returns c =
-    parts-joined (now (c .before .before .before .before .before .before .before .before .before .before .before .args .command)) (now (c .before .before .before .before .before .before .before .before .before .before .before .args .arguments)) (c .before .before .before .before .before .before .copy .last .1 .0) (now (c .before .before .before .before .before .before .before .before .before .before .before .args .out)) (c .before .before .copy2 .last .1 .0) 32 (c .before .before .before .before .before .before .copy .ensures) (omega (arith, c .before .before .before .before .before .before .before .before .before .before .before .pre)) (c .before .before .copy2 .ensures)
+    let command = now (c .before .before .before .before .before .before .before .before .before .before .before .args .command) in
+    let arguments = now (c .before .before .before .before .before .before .before .before .before .before .before .args .arguments) in
+    let o = now (c .before .before .before .before .before .before .before .before .before .before .before .args .out) in
+    let a = c .before .before .before .before .before .before .copy .last .1 .0 in
+    let b = set a (length command) 32 in
+    let f : length command ≤ length o = omega (arith, c .before .before .before .before .before .before .before .before .before .before .before .pre) in
+    let h : length arguments ≤ length (take (length b - (length command + 1)) (drop (length command + 1) b)) =
+    rw (part-rest (length command + 1) b) (simp (length-drop, length-set) (omega (arith, c .before .before .before .before .before .before .copy .kept .1 .0, c .before .before .before .before .before .before .before .before .before .before .before .pre))) in
+    parts-joined command arguments a o (c .before .before .copy2 .last .1 .0) 32 (rw (le-ltb _ _ f) at (c .before .before .before .before .before .before .copy .ensures)) (omega (arith, c .before .before .before .before .before .before .before .before .before .before .before .pre)) (rw (le-ltb _ _ h) at (c .before .before .copy2 .ensures))
 
 pub join-into-spec : {M : Type 1} → statement M
 join-into-spec =

@@ -1,9 +1,10 @@
 -- The three bytes, the arguments and the LF, one behind the other, are the first line.
-use Prim.Native.Nat.{_+_, _-_}
+use Prim.Native.Nat.{_+_, _-_, _≤_}
 use mathlib.Core.Path.{_≡_, _∙_}
 use mathlib.Core.List.{_++_}
 use lib.ListN.{length, take, drop, set, length-set, length-drop}
 use native.Mathlib.Omega.{arith}
+use borrow.Author.Tests.{le-ltb}
 use borrow.Rule.Slice.PartMut.{same-len-mid}
 use denote.Ref.{now}
 use Rattle.refusal.proofs.Laws.Lists.{part-rest}
@@ -31,7 +32,7 @@ part-copy-end : tie.Need-part-copy-end
 part-copy-end c = search needs
 
 copy-requires : tie.Need-copy-requires
-copy-requires c κs = rw (part-rest 3 (set (set (set (now (c .before .before .before .args .out)) 0 45) 1 62) 2 32), length-drop 3 (set (set (set (now (c .before .before .before .args .out)) 0 45) 1 62) 2 32)) (simp length-set (omega arith))
+copy-requires c κs = search needs
 
 add-at : tie.Need-add-at
 add-at c = search needs
@@ -48,7 +49,12 @@ same-length c =
     length-set (take 3 (set (set (set (now (c .before .before .before .before .before .before .args .out)) 0 45) 1 62) 2 32) ++ ((c .before .before .copy .last .1 .0) ++ drop (length (set (set (set (now (c .before .before .before .before .before .before .args .out)) 0 45) 1 62) 2 32) - 3) (drop 3 (set (set (set (now (c .before .before .before .before .before .before .args .out)) 0 45) 1 62) 2 32)))) (length (now (c .before .before .before .before .before .before .args .line)) + 3) 10 ∙ same-len-mid 3 (length (set (set (set (now (c .before .before .before .before .before .before .args .out)) 0 45) 1 62) 2 32) - 3) (set (set (set (now (c .before .before .before .before .before .before .args .out)) 0 45) 1 62) 2 32) (c .before .before .copy .last .1 .0) (c .before .before .copy .kept .1 .0) ∙ n
 
 returns : tie.Need-returns
-returns c = line-done (now (c .before .before .before .before .before .before .args .line)) (now (c .before .before .before .before .before .before .args .out)) (c .before .before .copy .last .1 .0) (c .before .before .before .before .before .before .pre) (c .before .before .copy .ensures)
+returns c =
+    let l = now (c .before .before .before .before .before .before .args .line) in
+    let o = now (c .before .before .before .before .before .before .args .out) in
+    let b = set (set (set o 0 45) 1 62) 2 32 in
+    let h : length l ≤ length (take (length b - 3) (drop 3 b)) = rw (part-rest 3 b, length-drop 3 b) (simp length-set (omega arith)) in
+    line-done l o (c .before .before .copy .last .1 .0) (c .before .before .before .before .before .before .pre) (rw (le-ltb _ _ h) at (c .before .before .copy .ensures))
 
 pub write-line-spec : {M : Type 1} → statement M
 write-line-spec =

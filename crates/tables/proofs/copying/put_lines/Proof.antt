@@ -1,9 +1,10 @@
 -- The line, the LF behind it, and the body behind both; the rest of the buffer stays.
-use Prim.Native.Nat.{_+_, _-_}
+use Prim.Native.Nat.{_+_, _-_, _≤_}
 use mathlib.Core.Path.{_∙_}
 use denote.Ref.{now}
 use lib.ListN.{length, set, length-set, length-drop}
 use native.Mathlib.Omega.{arith}
+use borrow.Author.Tests.{le-ltb}
 use borrow.Rule.Slice.PartMut.{same-len-mid}
 use Rattle.refusal.proofs.Laws.Lists.{part-rest, parts-joined}
 use Rattle.tables.specs.Bodies.{bodyFrom}
@@ -42,7 +43,9 @@ same-length c =
     same-len-mid (n + 1) (length (set a n 10) - (n + 1)) (set a n 10) (c .before .before .put-body .last .1 .1 .0) (c .before .before .put-body .kept .1 .1 .0) ∙ length-set a n 10 ∙ c .before .before .before .before .before .before .copy .kept .1 .0
 
 returns : tie.Need-returns
-returns c = parts-joined (now (c .before .before .before .before .before .before .before .before .before .before .before .args .line)) (bodyFrom (c .before .before .before .before .before .before .before .before .before .before .before .args .coding) (now (c .before .before .before .before .before .before .before .before .before .before .before .args .source))) (c .before .before .before .before .before .before .copy .last .1 .0) (now (c .before .before .before .before .before .before .before .before .before .before .before .args .out)) (c .before .before .put-body .last .1 .1 .0) 10 (c .before .before .before .before .before .before .copy .ensures) (omega (arith, c .before .before .before .before .before .before .before .before .before .before .before .pre)) (c .before .before .put-body .ensures)
+returns c =
+    let f : length (now (c .before .before .before .before .before .before .before .before .before .before .before .args .line)) ≤ length (now (c .before .before .before .before .before .before .before .before .before .before .before .args .out)) = omega (arith, c .before .before .before .before .before .before .before .before .before .before .before .pre) in
+    parts-joined (now (c .before .before .before .before .before .before .before .before .before .before .before .args .line)) (bodyFrom (c .before .before .before .before .before .before .before .before .before .before .before .args .coding) (now (c .before .before .before .before .before .before .before .before .before .before .before .args .source))) (c .before .before .before .before .before .before .copy .last .1 .0) (now (c .before .before .before .before .before .before .before .before .before .before .before .args .out)) (c .before .before .put-body .last .1 .1 .0) 10 (rw (le-ltb _ _ f) at (c .before .before .before .before .before .before .copy .ensures)) (omega (arith, c .before .before .before .before .before .before .before .before .before .before .before .pre)) (c .before .before .put-body .ensures)
 
 pub put-lines-spec : {M : Type 1} → statement M
 put-lines-spec =

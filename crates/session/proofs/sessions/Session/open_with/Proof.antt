@@ -14,7 +14,7 @@ open-tables-requires : tie.Need-open-tables-requires
 open-tables-requires c κs = search needs
 
 returns : tie.Need-returns
-returns c = rw (sym (c .before .before .before .read-settings .ensures), c .before .before .phase-opened .ensures, c .open-tables .ensures)
+returns c = (rw (sym (c .before .before .before .read-settings .ensures .0), c .before .before .phase-opened .ensures, c .open-tables .ensures), c .before .before .before .read-settings .ensures .1)
 
 pub open-with-spec : {M : Type 1} → statement M
 open-with-spec =
