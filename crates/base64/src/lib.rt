@@ -8,6 +8,7 @@ mod lines;
 
 pub use alphabet::characters;
 pub use alphabet::ends_well;
+pub use alphabet::is_character;
 pub use decoding::Size;
 pub use decoding::measure;
 pub use lines::LINE_CHARACTERS;

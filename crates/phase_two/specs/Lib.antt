@@ -2,3 +2,4 @@
 pub mod AtOnce
 pub mod Turns
 pub mod Steps
+pub mod Entering

@@ -1,0 +1,22 @@
+-- What is shown of input in chunks.
+pub mod Cutting
+pub mod Reading
+pub mod Cases
+pub mod Numbers
+pub mod Stanzas
+pub mod Runs
+pub mod Taking
+pub mod Cut
+pub mod Together
+pub mod Prefix
+pub mod Short
+pub mod Finish
+pub mod Reached
+pub mod Singles
+pub mod Calls
+pub mod Last
+pub mod Written
+pub mod Blocks
+pub mod Heard
+pub mod Orders
+pub mod Itself
