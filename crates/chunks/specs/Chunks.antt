@@ -6,7 +6,6 @@ use lib.Dec.{eqb, leb}
 use lib.ListN.{length}
 use Rattle.refusal.specs.Output.{filled}
 use Rattle.refusal.specs.Pick.{pick}
-use Rattle.stanza.specs.Automaton.{start}
 use Rattle.stanza.specs.Grammar.{stanzaText}
 use Rattle.responses.specs.Responses.{responseLine}
 use Rattle.responses.specs.declared.Response.{Response}
@@ -17,7 +16,7 @@ use Rattle.conversation.specs.Kinds.{Buffers}
 use Rattle.conversation.specs.Replying.{numberReplied}
 use Rattle.conversation.specs.TurnsTwo.{turnTwo, Due, due, undue, dueIn, answered}
 use Rattle.chunks.specs.Cutting.{cut}
-use Rattle.chunks.specs.Taking.{End, client, plugin, Intake, Last, no-stanza, Taken, takenAll}
+use Rattle.chunks.specs.Taking.{End, client, plugin, Intake, Last, no-stanza, Taken, takenAll, takenText}
 
 -- the number of a call, 0 where nothing was refused; how many stanzas were taken, which was the last and how many bytes were written; what the end keeps, the
 -- buffers and the output buffer afterwards
@@ -70,7 +69,7 @@ replyAhead text r = record { number = r .number; count = r .count; last = r .las
 
 -- what was kept back, received behind the reply
 abbrev pub takenBack : Intake → Buffers → Taken
-takenBack i b = let c = cut start [] (i .kept) in takenAll client (answered (i .session)) b [] (c .texts) (c .rest)
+takenBack i b = takenText client (answered (i .session)) b [] (i .kept)
 
 -- to the command that waits: 12, 17, then 15 of the whole
 unfoldable pub repliedTo : WordTwo → Intake → Buffers → Response → List ℕ → List ℕ → Outcome

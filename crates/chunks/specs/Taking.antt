@@ -15,7 +15,7 @@ use Rattle.phase_one.specs.Commands.{WordOne}
 use Rattle.conversation.specs.Calls as one-call
 use Rattle.conversation.specs.Calls.{Call, receive, receive-two, respond, outcome, writtenBy, Given}
 use Rattle.conversation.specs.Kinds.{Buffers}
-use Rattle.chunks.specs.Cutting.{Rest, unfinished, impossible, bytesOf}
+use Rattle.chunks.specs.Cutting.{Rest, unfinished, impossible, bytesOf, cut}
 
 -- the client's end and the plugin's
 pub data End : Type 0 where
@@ -111,9 +111,13 @@ keeping s q bytes a = record { session = s; reading = q; kept = bytes; awaited =
 abbrev pub lastOf : ℕ → Last → Last → Last
 lastOf n g h = pick (eqb n 0) g h
 
+-- what stands behind n stanzas, of which g was the last and for which w was written
+abbrev pub behind : ℕ → Last → List ℕ → Taken → Taken
+behind n g w r = record { number = r .number; count = n + r .count; last = lastOf (r .count) g (r .last); written = w ++ r .written; intake = r .intake; buffers = r .buffers }
+
 -- one stanza more, ahead of those behind it
 abbrev pub oneMore : Last → List ℕ → Taken → Taken
-oneMore g w r = record { number = r .number; count = 1 + r .count; last = lastOf (r .count) g (r .last); written = w ++ r .written; intake = r .intake; buffers = r .buffers }
+oneMore g w r = behind 1 g w r
 
 -- what stands behind the whole stanzas
 abbrev pub takenRest : Turn → Session → Buffers → List ℕ → Rest → Taken
@@ -143,3 +147,7 @@ takenAll e s b a (t ∷ ts) r =
     (pick (eqb (o .number) 0)
     (oneMore (lastIn (o .given)) (writtenBy s b c) (takenAll e (o .session) (o .buffers) (awaitedBehind e (o .session .phase) t) ts r))
     (noMore (o .number) (emptied (o .session) []) b))
+
+-- a text from the start of a stanza on: its stanzas, and what stands behind them
+abbrev pub takenText : End → Session → Buffers → List ℕ → List ℕ → Taken
+takenText e s b a bytes = let c = cut start [] bytes in takenAll e s b a (c .texts) (c .rest)
