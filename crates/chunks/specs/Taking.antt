@@ -6,14 +6,14 @@ use lib.Dec.{eqb}
 use lib.ListN.{length, replicate}
 use Rattle.refusal.specs.Pick.{pick}
 use Rattle.stanza.specs.Automaton.{State, start}
-use Rattle.responses.specs.declared.Response.{Response}
+use Rattle.responses.specs.Responses.{responseLine}
 use Rattle.session.specs.Session.{Session, closed}
-use Rattle.session.specs.declared.words.WordTwo.{WordTwo}
 use Rattle.session.specs.declared.phases.Phase.{Phase}
 use Rattle.session.specs.declared.phases.Phase.the-variants.{One, Two, Awaiting, Ended, Closed}
-use Rattle.phase_one.specs.Commands.{WordOne}
+use Rattle.phase_one.specs.Commands as one
 use Rattle.conversation.specs.Calls as one-call
 use Rattle.conversation.specs.Calls.{Call, receive, receive-two, respond, outcome, writtenBy, Given}
+use Rattle.conversation.specs.CommandsTwo as two
 use Rattle.conversation.specs.Kinds.{Buffers}
 use Rattle.chunks.specs.Cutting.{Rest, unfinished, impossible, bytesOf, cut}
 
@@ -71,18 +71,18 @@ pub record Intake : Type 0 where
   pub kept : List ℕ
   pub awaited : List ℕ
 
--- the last stanza that was taken: a command of phase one, one of phase two, or a response; or none was. A chunk hands back no count of bytes
+-- the last stanza that was taken: a command, by its word's text, which an unknown one has none of; or a response, by its line; or none was. A chunk hands back no
+-- count of bytes
 pub data Last : Type 0 where
   no-stanza : Last
-  command-one : WordOne → Last
-  command-two : WordTwo → Last
-  response : Response → Last
+  command : List ℕ → Last
+  response : List ℕ → Last
 
 -- by what the call of one stanza gives back
 abbrev pub lastIn : Given → Last
-lastIn (one-call.command-one w n) = command-one w
-lastIn (one-call.command-two w n m) = command-two w
-lastIn (one-call.response r n m) = response r
+lastIn (one-call.command-one w n) = command (one.textOfWord w)
+lastIn (one-call.command-two w n m) = command (two.textOfWord w)
+lastIn (one-call.response r n m) = response (responseLine r)
 lastIn (one-call.wrote n) = no-stanza
 lastIn one-call.nothing = no-stanza
 
