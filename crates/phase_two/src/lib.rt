@@ -13,8 +13,6 @@ pub use entering::enter_two;
 pub use entering::payload_size;
 pub use steps::StepTwo;
 pub use steps::step_two;
-pub use turns::Due;
-pub use turns::answer_due;
 pub use turns::phase_received_two;
 pub use turns::phase_sent_two;
 pub use turns::turn_two;

@@ -1,0 +1,3 @@
+-- What the code of receiving stands for.
+pub mod Turns
+pub mod Intake

@@ -1,0 +1,5 @@
+// The plugin end's receiving: the commands of phase one, and the client's responses in phase two.
+mod receiving;
+mod responding;
+
+pub use receiving::receive;
