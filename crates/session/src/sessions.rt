@@ -59,6 +59,11 @@ impl Session {
         + Session::RETURNED_STANZAS
         + Session::RETURNED_KEYS;
 
+    // How many bytes of input each end is lent a place for: the front of an unfinished stanza or what was kept back, and at the client end the stanza that waits.
+    pub const PLUGIN_INPUT: usize = stanza::LONGEST;
+
+    pub const CLIENT_INPUT: usize = 2 * stanza::LONGEST;
+
     // A client session in phase one with empty tables.
     pub fn open(machine: &[u8], name: &[u8]) -> Opening
         ensures opening { λ r. ⌜ openingSaid r ≡ opened (now (machine .entry)) (now (name .entry)) true ⌝ }
