@@ -20,3 +20,4 @@ pub mod Blocks
 pub mod Heard
 pub mod Orders
 pub mod Itself
+pub mod Fronts
