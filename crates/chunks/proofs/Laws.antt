@@ -21,3 +21,4 @@ pub mod Heard
 pub mod Orders
 pub mod Itself
 pub mod Fronts
+pub mod Texts
