@@ -22,3 +22,4 @@ pub mod Orders
 pub mod Itself
 pub mod Fronts
 pub mod Texts
+pub mod Rooms

@@ -63,7 +63,7 @@ at-once-short (writes r) = response-short r
 at-once-short silent = omega arith
 
 -- a body that was read
-body-short : (t : List ℕ) (q : Reading) → readFirst t ≡ q → length (bodyRead q t) ≤ 8192
+pub body-short : (t : List ℕ) (q : Reading) → readFirst t ≡ q → length (bodyRead q t) ≤ 8192
 body-short t (stanza e n k) h = omega (arith, body-limit t e n k h)
 body-short t (refused n) h = omega arith
 
