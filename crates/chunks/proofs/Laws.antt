@@ -23,3 +23,4 @@ pub mod Itself
 pub mod Fronts
 pub mod Texts
 pub mod Rooms
+pub mod Bounds

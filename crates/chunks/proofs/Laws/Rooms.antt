@@ -150,7 +150,7 @@ module _ (s : Session) (b : Buffers) (x : List ℕ) where
         given = one-call.command-two (wordOf c) k (length text);
         session = moved s (phaseReceived (s .screen) c) (two.applied (s .tables) (b .second) c p);
         buffers = buffersOf (b .first) (two.filledBy (s .tables) (b .second) c p);
-        short = at-once-short (receiving-two.atOnce (s .screen) c);
+        short = omega (arith, at-once-short (receiving-two.atOnce (s .screen) c));
       }
 
   stanza-two : (line body : List ℕ) (k : ℕ) (out : List ℕ) → receivedTwoOutcome (b .first) (receiving-two.receivedStanza s (b .second) out line body k) ≡ lent s b (answerTwo line body k) out
