@@ -66,7 +66,8 @@ module _ (s : Session) (b : Buffers) (t out : List ℕ) where
   pub accepted-long : outcome s b (receive-two t out) .number ≡ 0 → 6 ≤ length t
   accepted-long h = go (readFirst t) refl (first-iff (turnTwo (s .phase)) _ .0 (sym (given-receive-two s b t out) ∙ h) .1)
     where
-      go : (q : Reading) → readFirst t ≡ q → asRead q (firstOf (decidedTwo s b false (lineIn t) (bodyIn t)) (shortness (atOnceText s b (lineIn t) (bodyIn t)) out)) ≡ 0 → 6 ≤ length t
+      go : (q : Reading) → readFirst t ≡ q →
+          asRead q (firstOf (decidedTwo s b false (lineIn t) (bodyIn t)) (shortness (atOnceText s b (lineIn t) (bodyIn t)) out)) ≡ 0 → 6 ≤ length t
       go (stanza l m k) q z = omega (arith, stanza-long t l m k q, taken-iff t k .0 (l, m, q) .within)
       go (refused n) q z = absurd (text-number t n q z)
 
@@ -74,17 +75,20 @@ module _ (s : Session) (b : Buffers) (t out : List ℕ) where
   pub answer-short : length (writtenBy s b (receive-two t out)) ≤ 16
   answer-short =
       cases (eqb (outcome s b (receive-two t out) .number) 0)
-      (λ f. rw (at-once-text s b t out (eqb-true (outcome s b (receive-two t out) .number) 0 f)) (at-once-short (atOnce (s .screen) (commandIn (s .machine) t))))
+      (λ f. rw (at-once-text s b t out (eqb-true (outcome s b (receive-two t out) .number) 0 f))
+      (at-once-short (atOnce (s .screen) (commandIn (s .machine) t))))
       (λ f. rw (refusal s b (receive-two t out) (eqb-false (outcome s b (receive-two t out) .number) 0 f) .size) (omega arith))
 
 -- 16 bytes for 6 that came
 rest-written : (u : Turn) (s : Session) (b : Buffers) (a : List ℕ) (r : Rest) → takenRest u s b a r .written ≡ []
 rest-written reads s b a (unfinished q front) = refl
 rest-written reads s b a (impossible n text) = refl
-rest-written (drops n) s b a r = either (λ (x : Taken). x .written ≡ []) (eqb (length (bytesOf r)) 0) (noMore 0 (emptied s a) b) (noMore n (emptied s a) b) refl refl
+rest-written (drops n) s b a r =
+    either (λ (x : Taken). x .written ≡ []) (eqb (length (bytesOf r)) 0) (noMore 0 (emptied s a) b) (noMore n (emptied s a) b) refl refl
 rest-written keeps-back s b a r = refl
 
-all-written : (ts : List (List ℕ)) (s : Session) (b : Buffers) (a : List ℕ) (r : Rest) → 6 * length (takenAll client s b a ts r .written) ≤ 16 * length (joined ts (bytesOf r))
+all-written : (ts : List (List ℕ)) (s : Session) (b : Buffers) (a : List ℕ) (r : Rest) →
+    6 * length (takenAll client s b a ts r .written) ≤ 16 * length (joined ts (bytesOf r))
 unfolding takenAll joined
 all-written [] s b a r = rw (rest-written (turnAt client (s .phase)) s b a r) (omega arith)
 all-written (t ∷ ts) s b a r =
@@ -92,11 +96,18 @@ all-written (t ∷ ts) s b a r =
     let o = outcome s b c in
     let more = takenAll client (o .session) (o .buffers) (awaitedBehind client (o .session .phase) t) ts r in
     stanza-cases (λ x. 6 * length (x .written) ≤ 16 * length (t ++ joined ts (bytesOf r))) client s b a t ts r
-    (λ q z. omega (arith, all-written ts (o .session) (o .buffers) (awaitedBehind client (o .session .phase) t) r, accepted-long s b t room z, answer-short s b t room,
-    length-append (writtenBy s b c) (more .written), length-append t (joined ts (bytesOf r))))
+    (λ q z. omega (
+      arith,
+      all-written ts (o .session) (o .buffers) (awaitedBehind client (o .session .phase) t) r,
+      accepted-long s b t room z,
+      answer-short s b t room,
+      length-append (writtenBy s b c) (more .written),
+      length-append t (joined ts (bytesOf r)),
+    ))
     (λ q z. omega arith) (λ n q. omega arith) (λ q. omega arith)
 
-pub front-written : (s : Session) (b : Buffers) (a : List ℕ) (q : State) (front x : List ℕ) → 6 * length (takenCut client s b a (cut q front x) .written) ≤ 16 * length (front ++ x)
+pub front-written : (s : Session) (b : Buffers) (a : List ℕ) (q : State) (front x : List ℕ) →
+    6 * length (takenCut client s b a (cut q front x) .written) ≤ 16 * length (front ++ x)
 front-written s b a q front x = omega (arith, all-written (cut q front x .texts) s b a (cut q front x .rest), ap length (cut-joined x q front))
 
 pub text-written : (s : Session) (b : Buffers) (a x : List ℕ) → 6 * length (takenText client s b a x .written) ≤ 16 * length x
@@ -109,10 +120,12 @@ rest-kept : (u : Turn) (s : Session) (b : Buffers) (a : List ℕ) (r : Rest) →
 rest-kept reads s b a (unfinished q front) = omega arith
 rest-kept reads s b a (impossible n text) = omega arith
 rest-kept (drops n) s b a r =
-    either (λ (x : Taken). length (x .intake .kept) ≤ length (bytesOf r)) (eqb (length (bytesOf r)) 0) (noMore 0 (emptied s a) b) (noMore n (emptied s a) b) (omega arith) (omega arith)
+    either (λ (x : Taken). length (x .intake .kept) ≤ length (bytesOf r)) (eqb (length (bytesOf r)) 0) (noMore 0 (emptied s a) b) (noMore n (emptied s a) b)
+    (omega arith) (omega arith)
 rest-kept keeps-back s b a r = omega arith
 
-all-kept : (ts : List (List ℕ)) (e : End) (s : Session) (b : Buffers) (a : List ℕ) (r : Rest) → length (takenAll e s b a ts r .intake .kept) ≤ length (joined ts (bytesOf r))
+all-kept : (ts : List (List ℕ)) (e : End) (s : Session) (b : Buffers) (a : List ℕ) (r : Rest) →
+    length (takenAll e s b a ts r .intake .kept) ≤ length (joined ts (bytesOf r))
 unfolding takenAll joined
 all-kept [] e s b a r = rest-kept (turnAt e (s .phase)) s b a r
 all-kept (t ∷ ts) e s b a r =
@@ -121,14 +134,16 @@ all-kept (t ∷ ts) e s b a r =
     (λ q z. omega (arith, all-kept ts e (o .session) (o .buffers) (awaitedBehind e (o .session .phase) t) r, length-append t (joined ts (bytesOf r))))
     (λ q z. omega arith) (λ n q. omega arith) (λ q. omega arith)
 
-pub front-kept : (e : End) (s : Session) (b : Buffers) (a : List ℕ) (q : State) (front x : List ℕ) → length (takenCut e s b a (cut q front x) .intake .kept) ≤ length (front ++ x)
+pub front-kept : (e : End) (s : Session) (b : Buffers) (a : List ℕ) (q : State) (front x : List ℕ) →
+    length (takenCut e s b a (cut q front x) .intake .kept) ≤ length (front ++ x)
 front-kept e s b a q front x = omega (arith, all-kept (cut q front x .texts) e s b a (cut q front x .rest), ap length (cut-joined x q front))
 
 pub text-kept : (e : End) (s : Session) (b : Buffers) (a x : List ℕ) → length (takenText e s b a x .intake .kept) ≤ length x
 text-kept e s b a x = front-kept e s b a start [] x
 
--- where bytes are read, a stanza that has ended holds all of the front and at least one byte more: with 8,193 bytes behind the front no more than 8,192 are kept
-pub read-kept : (e : End) (s : Session) (b : Buffers) (a : List ℕ) (q : State) (front x : List ℕ) → turnAt e (s .phase) ≡ reads → length front ≤ 8191 → length x ≤ 8193 →
+-- where bytes are read, a stanza that has ended holds all of the front and at least one byte more: with 8,193 bytes behind the front at most 8,192 are kept
+pub read-kept : (e : End) (s : Session) (b : Buffers) (a : List ℕ) (q : State) (front x : List ℕ) → turnAt e (s .phase) ≡ reads →
+    length front ≤ 8191 → length x ≤ 8193 →
     length (takenCut e s b a (cut q front x) .intake .kept) ≤ 8192
 read-kept e s b a q front x turn l m = go (continued q (length front) x) refl
   where
@@ -138,10 +153,13 @@ read-kept e s b a q front x turn l m = go (continued q (length front) x) refl
         let w = whole-within x q (length front) k h in
         subst (λ (y : Taken). length (y .intake .kept) ≤ 8192) (sym (front-stanza e s b a turn q front x k h))
         (either (λ (y : Taken). length (y .intake .kept) ≤ 8192) (eqb (o .number) 0) _ _
-        (omega (arith, text-kept e (o .session) (o .buffers) (awaitedBehind e (o .session .phase) (front ++ take k x)) (drop k x), length-drop k x)) (omega arith))
+        (omega (arith, text-kept e (o .session) (o .buffers) (awaitedBehind e (o .session .phase) (front ++ take k x)) (drop k x), length-drop k x))
+        (omega arith))
     go (resuming.unfinished v) h =
-        subst (λ (y : Taken). length (y .intake .kept) ≤ 8192) (sym (front-left e s b a turn q v front x h)) (omega (arith, unfinished-is x q v (length front) h .1, length-append front x))
-    go (resuming.refused n) h = subst (λ (y : Taken). length (y .intake .kept) ≤ 8192) (sym (front-fault e s b a turn q front x n (omega arith) h)) (omega arith)
+        subst (λ (y : Taken). length (y .intake .kept) ≤ 8192) (sym (front-left e s b a turn q v front x h))
+        (omega (arith, unfinished-is x q v (length front) h .1, length-append front x))
+    go (resuming.refused n) h =
+        subst (λ (y : Taken). length (y .intake .kept) ≤ 8192) (sym (front-fault e s b a turn q front x n (omega arith) h)) (omega arith)
 
 -- the front of an unfinished stanza has at most 8,191 bytes
 abbrev ShortRest : Rest → Type 0
@@ -167,11 +185,13 @@ plugin-keeps (Awaiting w) h = let z : _≡_ {A = ℕ} 0 1 = cc in omega arith
 plugin-keeps Ended h = let z : _≡_ {A = ℕ} 0 1 = cc in omega arith
 plugin-keeps Closed h = let z : _≡_ {A = ℕ} 0 1 = cc in omega arith
 
-rest-short : (u : Turn) (s : Session) (b : Buffers) (a : List ℕ) (r : Rest) → (u ≡ keeps-back → ⊥) → ShortRest r → length (takenRest u s b a r .intake .kept) ≤ 8191
+rest-short : (u : Turn) (s : Session) (b : Buffers) (a : List ℕ) (r : Rest) → (u ≡ keeps-back → ⊥) → ShortRest r →
+    length (takenRest u s b a r .intake .kept) ≤ 8191
 rest-short reads s b a (unfinished q front) k h = h
 rest-short reads s b a (impossible n text) k h = omega arith
 rest-short (drops n) s b a r k h =
-    either (λ (x : Taken). length (x .intake .kept) ≤ 8191) (eqb (length (bytesOf r)) 0) (noMore 0 (emptied s a) b) (noMore n (emptied s a) b) (omega arith) (omega arith)
+    either (λ (x : Taken). length (x .intake .kept) ≤ 8191) (eqb (length (bytesOf r)) 0) (noMore 0 (emptied s a) b) (noMore n (emptied s a) b) (omega arith)
+    (omega arith)
 rest-short keeps-back s b a r k h = absurd (k refl)
 
 plugin-all : (ts : List (List ℕ)) (s : Session) (b : Buffers) (a : List ℕ) (r : Rest) → ShortRest r → length (takenAll plugin s b a ts r .intake .kept) ≤ 8191
@@ -180,7 +200,9 @@ plugin-all [] s b a r h = rest-short (turnAt plugin (s .phase)) s b a r (plugin-
 plugin-all (t ∷ ts) s b a r h =
     let o = outcome s b (stanzaCall plugin (s .phase) t) in
     stanza-cases (λ x. length (x .intake .kept) ≤ 8191) plugin s b a t ts r
-    (λ q z. plugin-all ts (o .session) (o .buffers) (awaitedBehind plugin (o .session .phase) t) r h) (λ q z. omega arith) (λ n q. omega arith) (λ q. absurd (plugin-keeps (s .phase) q))
+    (λ q z. plugin-all ts (o .session) (o .buffers) (awaitedBehind plugin (o .session .phase) t) r h) (λ q z. omega arith) (λ n q. omega arith)
+    (λ q. absurd (plugin-keeps (s .phase) q))
 
-pub plugin-kept : (s : Session) (b : Buffers) (a : List ℕ) (q : State) (front x : List ℕ) → length front ≤ 8191 → length (takenCut plugin s b a (cut q front x) .intake .kept) ≤ 8191
+pub plugin-kept : (s : Session) (b : Buffers) (a : List ℕ) (q : State) (front x : List ℕ) → length front ≤ 8191 →
+    length (takenCut plugin s b a (cut q front x) .intake .kept) ≤ 8191
 plugin-kept s b a q front x l = plugin-all (cut q front x .texts) s b a (cut q front x .rest) (cut-short x q front l)

@@ -46,12 +46,14 @@ continues-on q front b t c (refused m) h = c ∙ h ∙ ap (λ y. none (impossibl
 continues : (x : List ℕ) (q : State) (front : List ℕ) → length front < 8192 → Continues q front x (continued q (length front) x)
 unfolding continued cut led
 continues [] q front l = rw (lt-ltb (length front) 8192 l, append-nil front)
-continues (b ∷ t) q front l = subst (λ f. Continues q front (b ∷ t) (pick f (on (next q b)) (refused 3))) (sym (lt-ltb (length front) 8192 l)) (go (continues t) (step q front b))
+continues (b ∷ t) q front l =
+    subst (λ f. Continues q front (b ∷ t) (pick f (on (next q b)) (refused 3))) (sym (lt-ltb (length front) 8192 l)) (go (continues t) (step q front b))
   where
     on : State → Continued
     on v = led v (continued (next q b) (length front + 1) t)
 
-    go : ((q : State) (front : List ℕ) → length front < 8192 → Continues q front t (continued q (length front) t)) → Step q front b → Continues q front (b ∷ t) (on (next q b))
+    go : ((q : State) (front : List ℕ) → length front < 8192 → Continues q front t (continued q (length front) t)) → Step q front b →
+        Continues q front (b ∷ t) (on (next q b))
     go i (ends e c) = subst (λ v. Continues q front (b ∷ t) (on v)) (sym e) (c t)
     go i (fails e c) = subst (λ v. Continues q front (b ∷ t) (on v)) (sym e) (c t)
     go i (goes-on a d m c) =
@@ -60,7 +62,8 @@ continues (b ∷ t) q front l = subst (λ f. Continues q front (b ∷ t) (pick f
         (continues-on q front b t (c t) (continued (next q b) (length front + 1) t)
         (subst (λ n. Continues (next q b) (front ++ (b ∷ [])) t (continued (next q b) n t)) n (i (next q b) (front ++ (b ∷ [])) (omega arith))))
     go i (overruns a d m c) =
-        subst (Continues q front (b ∷ t)) (sym (led-on (next q b) (continued (next q b) (length front + 1) t) a d ∙ continued-over (next q b) (length front + 1) t 1 m)) (c t)
+        subst (Continues q front (b ∷ t))
+        (sym (led-on (next q b) (continued (next q b) (length front + 1) t) a d ∙ continued-over (next q b) (length front + 1) t 1 m)) (c t)
 
 -- behind 8,192 bytes nothing is read on
 front-short : (q : State) (front x : List ℕ) → (continued q (length front) x ≡ refused 3 → ⊥) → length front < 8192
@@ -69,16 +72,20 @@ front-short q front x h =
     (λ f. absurd (h (sym (behind-none (continued q (length front) x)) ∙ continued-over q (length front) x 0 (ltb-false (length front) 8192 f))))
 
 -- the stanza ends behind k bytes more
-pub front-whole : (q : State) (front x : List ℕ) (k : ℕ) → continued q (length front) x ≡ whole k → cut q front x ≡ ahead (front ++ take k x) (cut start [] (drop k x))
+pub front-whole : (q : State) (front x : List ℕ) (k : ℕ) → continued q (length front) x ≡ whole k →
+    cut q front x ≡ ahead (front ++ take k x) (cut start [] (drop k x))
 front-whole q front x k e =
-    subst (Continues q front x) e (continues x q front (front-short q front x (λ h. let z : whole k ≡ refused 3 = sym e ∙ h in let n : _≡_ {A = ℕ} 0 1 = cc in omega arith)))
+    subst (Continues q front x) e
+    (continues x q front (front-short q front x (λ h. let z : whole k ≡ refused 3 = sym e ∙ h in let n : _≡_ {A = ℕ} 0 1 = cc in omega arith)))
 
 -- the bytes are over and it has not ended
-pub front-unfinished : (q v : State) (front x : List ℕ) → continued q (length front) x ≡ resuming.unfinished v → cut q front x ≡ none (unfinished v (front ++ x))
+pub front-unfinished : (q v : State) (front x : List ℕ) → continued q (length front) x ≡ resuming.unfinished v →
+    cut q front x ≡ none (unfinished v (front ++ x))
 front-unfinished q v front x e =
     subst (Continues q front x) e
     (continues x q front (front-short q front x (λ h. let z : resuming.unfinished v ≡ refused 3 = sym e ∙ h in let n : _≡_ {A = ℕ} 0 1 = cc in omega arith)))
 
 -- a byte that no stanza can have there, or byte 8,192 without an end
-pub front-refused : (q : State) (front x : List ℕ) (m : ℕ) → length front < 8192 → continued q (length front) x ≡ refused m → cut q front x ≡ none (impossible m (front ++ x))
+pub front-refused : (q : State) (front x : List ℕ) (m : ℕ) → length front < 8192 → continued q (length front) x ≡ refused m →
+    cut q front x ≡ none (impossible m (front ++ x))
 front-refused q front x m l e = subst (Continues q front x) e (continues x q front l)

@@ -112,7 +112,8 @@ module _ (s : Session) (b : Buffers) where
         go : Case → f room .number ≡ 0 → f room .size ≤ length out → f out ≡ withOutput (f room) (filled (take (f room .size) (f room .output)) out)
         go (accepts z w) n l =
             let e = w room room-long in
-            w out (subst (λ (o : Outcome). o .size ≤ length out) e l) ∙ ap (λ y. withOutput (accepting a room) (filled y out)) (sym (all-written (a .text) room room-long))
+            w out (subst (λ (o : Outcome). o .size ≤ length out) e l)
+            ∙ ap (λ y. withOutput (accepting a room) (filled y out)) (sym (all-written (a .text) room room-long))
             ∙ sym (ap (λ o. withOutput o (filled (take (o .size) (o .output)) out)) e)
         go (declines z w) n l = absurd (z (sym (ap (λ (o : Outcome). o .number) (w room)) ∙ n))
 
@@ -123,7 +124,8 @@ module _ (s : Session) (b : Buffers) where
         go : Case → f room .number ≡ 0 → length out < f room .size → f out ≡ unfitting out
         go (accepts z w) n l =
             let e : firstOf (a .number) (shortness (a .text) out) ≡ 15 =
-            ap₂ firstOf z (ap (λ d. pick d 15 0) (lt-ltb (length out) (length (a .text)) (subst (λ (o : Outcome). length out < o .size) (w room room-long) l))) in
+            ap₂ firstOf z
+            (ap (λ d. pick d 15 0) (lt-ltb (length out) (length (a .text)) (subst (λ (o : Outcome). length out < o .size) (w room room-long) l))) in
             is out ∙ ap (λ n. pick (eqb n 0) (accepting a out) (refusedOutcome n out)) e
         go (declines z w) n l = absurd (z (sym (ap (λ (o : Outcome). o .number) (w room)) ∙ n))
 
@@ -153,10 +155,12 @@ module _ (s : Session) (b : Buffers) (x : List ℕ) where
         short = omega (arith, at-once-short (receiving-two.atOnce (s .screen) c));
       }
 
-  stanza-two : (line body : List ℕ) (k : ℕ) (out : List ℕ) → receivedTwoOutcome (b .first) (receiving-two.receivedStanza s (b .second) out line body k) ≡ lent s b (answerTwo line body k) out
+  stanza-two : (line body : List ℕ) (k : ℕ) (out : List ℕ) →
+      receivedTwoOutcome (b .first) (receiving-two.receivedStanza s (b .second) out line body k) ≡ lent s b (answerTwo line body k) out
   unfolding receiving-two.receivedStanza answerTwo
   stanza-two line body k out =
-      pick-in (eqb (firstOf (receiving-two.numberReceived s (b .second) line body) (shortness (atOnceText s b line body) out)) 0) (receivedTwoOutcome (b .first)) _ _
+      pick-in (eqb (firstOf (receiving-two.numberReceived s (b .second) line body) (shortness (atOnceText s b line body) out)) 0)
+      (receivedTwoOutcome (b .first)) _ _
 
   -- an answer for every buffer that is lent
   abbrev Lent : (List ℕ → Outcome) → Type 0
@@ -174,19 +178,29 @@ module _ (s : Session) (b : Buffers) (x : List ℕ) where
       as-read (refused n) h = refused-lent n (text-number x n h)
 
       go : (d : Bool) → eqb (turnTwo (s .phase)) 0 ≡ d →
-          Lent (λ out. receivedTwoOutcome (b .first) (pick d (receiving-two.receivedAs (readFirst x) s x (b .second) out) (receiving-two.refusedReceipt (turnTwo (s .phase)) s (b .second) out)))
+          Lent (λ out. receivedTwoOutcome (b .first)
+          (pick d (receiving-two.receivedAs (readFirst x) s x (b .second) out) (receiving-two.refusedReceipt (turnTwo (s .phase)) s (b .second) out)))
       go true h = as-read (readFirst x) refl
       go false h = refused-lent (turnTwo (s .phase)) (eqb-false (turnTwo (s .phase)) 0 h)
 
   response-lent : Lent (λ out. outcome s b (respond x out))
   response-lent = go (s .phase)
     where
-      as-response : (w : WordTwo) (r : ResponseRead) (body : List ℕ) (k : ℕ) → length body ≤ 8192 → Lent (λ out. respondedOutcome b (responding.respondedAs w s r body k out))
+      as-response : (w : WordTwo) (r : ResponseRead) (body : List ℕ) (k : ℕ) → length body ≤ 8192 →
+          Lent (λ out. respondedOutcome b (responding.respondedAs w s r body k out))
       as-response w nothing body k h = unfold responding.respondedAs in refused-lent 12 (λ z. omega arith)
       as-response w (response r) body k h =
-          unfold responding.respondedAs in
-          (record { number = pick (fitsWhole w r body) 0 12; text = body; given = one-call.response r k (length body); session = answered s; buffers = b; short = h },
-          λ out. pick-in (eqb (firstOf (pick (fitsWhole w r body) 0 12) (shortness body out)) 0) (respondedOutcome b) _ _)
+          unfold responding.respondedAs in (
+            record {
+              number = pick (fitsWhole w r body) 0 12;
+              text = body;
+              given = one-call.response r k (length body);
+              session = answered s;
+              buffers = b;
+              short = h;
+            },
+            λ out. pick-in (eqb (firstOf (pick (fitsWhole w r body) 0 12) (shortness body out)) 0) (respondedOutcome b) _ _,
+          )
 
       as-read : (w : WordTwo) (q : Reading) → readFirst x ≡ q → Lent (λ out. respondedOutcome b (responding.respondedText q w s x out))
       as-read w (stanza e n k) h = let q = stanza e n k in as-response w (responseOf (lineRead q x)) (bodyRead q x) k (body-short x q h)
@@ -208,7 +222,8 @@ module _ (s : Session) (b : Buffers) (x : List ℕ) where
       outcome s b (receive-two x out) ≡ unfitting s b out
   command-overflows = overflowing s b (λ out. outcome s b (receive-two x out)) (command-lent .0) (command-lent .1)
 
-  pub command-declined : (out : List ℕ) → (outcome s b (receive-two x room) .number ≡ 0 → ⊥) → outcome s b (receive-two x out) ≡ withOutput (outcome s b (receive-two x room)) out
+  pub command-declined : (out : List ℕ) → (outcome s b (receive-two x room) .number ≡ 0 → ⊥) →
+      outcome s b (receive-two x out) ≡ withOutput (outcome s b (receive-two x room)) out
   command-declined = declined s b (λ out. outcome s b (receive-two x out)) (command-lent .0) (command-lent .1)
 
   -- a response, of which the body is written
@@ -216,8 +231,10 @@ module _ (s : Session) (b : Buffers) (x : List ℕ) where
       outcome s b (respond x out) ≡ withOutput (outcome s b (respond x room)) (filled (writtenBy s b (respond x room)) out)
   response-fits = fits s b (λ out. outcome s b (respond x out)) (response-lent .0) (response-lent .1)
 
-  pub response-overflows : (out : List ℕ) → outcome s b (respond x room) .number ≡ 0 → length out < outcome s b (respond x room) .size → outcome s b (respond x out) ≡ unfitting s b out
+  pub response-overflows : (out : List ℕ) → outcome s b (respond x room) .number ≡ 0 → length out < outcome s b (respond x room) .size →
+      outcome s b (respond x out) ≡ unfitting s b out
   response-overflows = overflowing s b (λ out. outcome s b (respond x out)) (response-lent .0) (response-lent .1)
 
-  pub response-declined : (out : List ℕ) → (outcome s b (respond x room) .number ≡ 0 → ⊥) → outcome s b (respond x out) ≡ withOutput (outcome s b (respond x room)) out
+  pub response-declined : (out : List ℕ) → (outcome s b (respond x room) .number ≡ 0 → ⊥) →
+      outcome s b (respond x out) ≡ withOutput (outcome s b (respond x room)) out
   response-declined = declined s b (λ out. outcome s b (respond x out)) (response-lent .0) (response-lent .1)

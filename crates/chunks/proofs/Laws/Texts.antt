@@ -1,5 +1,5 @@
--- What a text comes to, stanza by stanza from the left: dropped, kept back, unfinished, at fault, or a stanza and what stands behind it. Each is said of the front of
--- a stanza with the bytes behind it, and of a text from the start of a stanza on.
+-- What a text comes to, stanza by stanza from the left: dropped, kept back, unfinished, at fault, or a stanza and what stands behind it. Each is said of the
+-- front of a stanza with the bytes behind it, and of a text from the start of a stanza on.
 use Prim.Native.Nat.{ℕ, _+_, _<_}
 use mathlib.Core.Path.{_≡_, refl, sym, ap, ap₂, subst, _∙_}
 use mathlib.Core.Bool.{Bool, true, false}
@@ -66,7 +66,8 @@ module _ (x : List ℕ) (l m k : ℕ) (h : readFirst x ≡ stanza l m k) where
   stanza-alone =
       let w = taken-iff x k .0 (l, m, h) in
       let e : take k (take k x) ≡ take k x = take-take k k x (omega arith) in
-      read-so (take k x) (record { within = omega (arith, length-take-le k x (w .within)); limit = w .limit; whole = subst IsStanza (sym e) (w .whole) }) e ∙ sym first ∙ h
+      read-so (take k x) (record { within = omega (arith, length-take-le k x (w .within)); limit = w .limit; whole = subst IsStanza (sym e) (w .whole) }) e
+      ∙ sym first ∙ h
 
   -- its arguments' text is the same, and its body
   line-alone : drop 3 (take l (take k x)) ≡ line
@@ -93,7 +94,8 @@ module _ (x : List ℕ) (l m k : ℕ) (h : readFirst x ≡ stanza l m k) where
       unfolding receiving-two.received
       received-two-alone =
           ap (λ r. receivedTwoOutcome (b .first) (pick (eqb (turnTwo (s .phase)) 0) r (receiving-two.refusedReceipt (turnTwo (s .phase)) s (b .second) out)))
-          (ap (λ r. receiving-two.receivedAs r s (take k x) (b .second) out) stanza-alone ∙ ap₂ (λ y z. receiving-two.receivedStanza s (b .second) out y z k) line-alone body-alone
+          (ap (λ r. receiving-two.receivedAs r s (take k x) (b .second) out) stanza-alone
+          ∙ ap₂ (λ y z. receiving-two.receivedStanza s (b .second) out y z k) line-alone body-alone
           ∙ sym (ap (λ r. receiving-two.receivedAs r s x (b .second) out) h))
 
       responded-alone : outcome s b (respond (take k x) out) ≡ outcome s b (respond x out)
@@ -101,7 +103,8 @@ module _ (x : List ℕ) (l m k : ℕ) (h : readFirst x ≡ stanza l m k) where
         where
           go : (d : Due) → responding.respondedBy d s (take k x) out ≡ responding.respondedBy d s x out
           go (due w) =
-              ap (λ r. responding.respondedText r w s (take k x) out) stanza-alone ∙ ap₂ (λ y z. responding.respondedAs w s (responseOf y) z k out) line-alone body-alone
+              ap (λ r. responding.respondedText r w s (take k x) out) stanza-alone
+              ∙ ap₂ (λ y z. responding.respondedAs w s (responseOf y) z k out) line-alone body-alone
               ∙ sym (ap (λ r. responding.respondedText r w s x out) h)
           go (undue n) = refl
 
@@ -151,7 +154,8 @@ module _ (e : End) (s : Session) (b : Buffers) (a : List ℕ) where
 
   dropped-some : (n : ℕ) (front : List ℕ) (c : ℕ) (t : List ℕ) → dropped n (front ++ c ∷ t) ≡ noMore n (emptied s a) b
   dropped-some n front c t =
-      ap (λ f. pick f (noMore 0 (emptied s a) b) (noMore n (emptied s a) b)) (ne-eqb (length (front ++ c ∷ t)) 0 (λ z. omega (arith, length-append front (c ∷ t))))
+      ap (λ f. pick f (noMore 0 (emptied s a) b) (noMore n (emptied s a) b))
+      (ne-eqb (length (front ++ c ∷ t)) 0 (λ z. omega (arith, length-append front (c ∷ t))))
 
   module _ (n : ℕ) (turn : turnAt e (s .phase) ≡ drops n) where
     pub front-dropped : (x : List ℕ) (q : State) (front : List ℕ) → takenCut (cut q front x) ≡ dropped n (front ++ x)
@@ -159,8 +163,10 @@ module _ (e : End) (s : Session) (b : Buffers) (a : List ℕ) where
     front-dropped [] q front = rest-by (drops n) turn (unfinished q front) ∙ ap (dropped n) (sym (append-nil front))
     front-dropped (c ∷ t) q front = go (front-dropped t) (step q front c)
       where
-        go : ((q : State) (front : List ℕ) → takenCut (cut q front t) ≡ dropped n (front ++ t)) → Step q front c → takenCut (cut q front (c ∷ t)) ≡ dropped n (front ++ c ∷ t)
-        go i (ends z w) = ap takenCut (w t) ∙ stanza-by (drops n) turn (front ++ (c ∷ [])) (cut start [] t .texts) (cut start [] t .rest) ∙ sym (dropped-some n front c t)
+        go : ((q : State) (front : List ℕ) → takenCut (cut q front t) ≡ dropped n (front ++ t)) → Step q front c →
+            takenCut (cut q front (c ∷ t)) ≡ dropped n (front ++ c ∷ t)
+        go i (ends z w) =
+            ap takenCut (w t) ∙ stanza-by (drops n) turn (front ++ (c ∷ [])) (cut start [] t .texts) (cut start [] t .rest) ∙ sym (dropped-some n front c t)
         go i (fails z w) = ap takenCut (w t) ∙ rest-by (drops n) turn (impossible 1 (front ++ c ∷ t))
         go i (goes-on y z m w) = ap takenCut (w t) ∙ i (next q c) (front ++ (c ∷ [])) ∙ ap (dropped n) (append-assoc front (c ∷ []) t)
         go i (overruns y z m w) = ap takenCut (w t) ∙ rest-by (drops n) turn (impossible 3 (front ++ c ∷ t))
@@ -182,7 +188,8 @@ module _ (e : End) (s : Session) (b : Buffers) (a : List ℕ) where
 
   module _ (turn : turnAt e (s .phase) ≡ reads) where
     -- the bytes are over before their stanza is
-    pub front-left : (q v : State) (front x : List ℕ) → continued q (length front) x ≡ resuming.unfinished v → takenCut (cut q front x) ≡ noMore 0 (keeping s v (front ++ x) a) b
+    pub front-left : (q v : State) (front x : List ℕ) → continued q (length front) x ≡ resuming.unfinished v →
+        takenCut (cut q front x) ≡ noMore 0 (keeping s v (front ++ x) a) b
     front-left q v front x h = ap takenCut (front-unfinished q v front x h) ∙ rest-by reads turn (unfinished v (front ++ x))
 
     pub text-left : (x : List ℕ) → readFirst x ≡ refused 2 → takenText e s b a x ≡ noMore 0 (keeping s (after start x) x a) b
@@ -199,9 +206,11 @@ module _ (e : End) (s : Session) (b : Buffers) (a : List ℕ) where
     -- a whole stanza
     pub front-stanza : (q : State) (front x : List ℕ) (k : ℕ) → continued q (length front) x ≡ whole k →
         takenCut (cut q front x) ≡ stanzaTaken e b (outcome s b (stanzaCall e (s .phase) (front ++ take k x))) (front ++ take k x) (drop k x)
-    front-stanza q front x k h = ap takenCut (front-whole q front x k h) ∙ stanza-by reads turn (front ++ take k x) (cut start [] (drop k x) .texts) (cut start [] (drop k x) .rest)
+    front-stanza q front x k h =
+        ap takenCut (front-whole q front x k h) ∙ stanza-by reads turn (front ++ take k x) (cut start [] (drop k x) .texts) (cut start [] (drop k x) .rest)
 
-    pub text-stanza : (x : List ℕ) (l m k : ℕ) → readFirst x ≡ stanza l m k → takenText e s b a x ≡ stanzaTaken e b (outcome s b (stanzaCall e (s .phase) x)) (take k x) (drop k x)
+    pub text-stanza : (x : List ℕ) (l m k : ℕ) → readFirst x ≡ stanza l m k →
+        takenText e s b a x ≡ stanzaTaken e b (outcome s b (stanzaCall e (s .phase) x)) (take k x) (drop k x)
     text-stanza x l m k h =
         front-stanza start [] x k (whole-iff x k .1 (l, m, h)) ∙ ap (λ o. stanzaTaken e b o (take k x) (drop k x)) (call-alone x l m k h s b e (s .phase))
 
@@ -218,7 +227,8 @@ behind-more n g g′ w w′ r =
     at c l y = record { number = r .number; count = c; last = l; written = y; intake = r .intake; buffers = r .buffers }
 
 -- where none is taken there is no last
-none-last : (ts : List (List ℕ)) (e : End) (s : Session) (b : Buffers) (a : List ℕ) (r : Rest) → takenAll e s b a ts r .count ≡ 0 → takenAll e s b a ts r .last ≡ no-stanza
+none-last : (ts : List (List ℕ)) (e : End) (s : Session) (b : Buffers) (a : List ℕ) (r : Rest) → takenAll e s b a ts r .count ≡ 0 →
+    takenAll e s b a ts r .last ≡ no-stanza
 unfolding takenAll
 none-last [] e s b a r = go (turnAt e (s .phase)) r
   where
@@ -227,14 +237,17 @@ none-last [] e s b a r = go (turnAt e (s .phase)) r
     go reads (impossible n text) z = refl
     go (drops n) r z = either (λ (x : Taken). x .last ≡ no-stanza) (eqb (length (bytesOf r)) 0) (noMore 0 (emptied s a) b) (noMore n (emptied s a) b) refl refl
     go keeps-back r z = refl
-none-last (t ∷ ts) e s b a r = stanza-cases (λ x. x .count ≡ 0 → x .last ≡ no-stanza) e s b a t ts r (λ q z c. absurd (omega arith)) (λ q z c. refl) (λ n q c. refl) (λ q c. refl)
+none-last (t ∷ ts) e s b a r =
+    stanza-cases (λ x. x .count ≡ 0 → x .last ≡ no-stanza) e s b a t ts r (λ q z c. absurd (omega arith)) (λ q z c. refl) (λ n q c. refl) (λ q c. refl)
 
-pub behind-none : (e : End) (s : Session) (b : Buffers) (a : List ℕ) (ts : List (List ℕ)) (r : Rest) → behind 0 no-stanza [] (takenAll e s b a ts r) ≡ takenAll e s b a ts r
+pub behind-none : (e : End) (s : Session) (b : Buffers) (a : List ℕ) (ts : List (List ℕ)) (r : Rest) →
+    behind 0 no-stanza [] (takenAll e s b a ts r) ≡ takenAll e s b a ts r
 behind-none e s b a ts r = go (takenAll e s b a ts r) (none-last ts e s b a r)
   where
     go : (x : Taken) → (x .count ≡ 0 → x .last ≡ no-stanza) → behind 0 no-stanza [] x ≡ x
     go x h =
-        ap₂ (λ c l. record { number = x .number; count = c; last = l; written = x .written; intake = x .intake; buffers = x .buffers }) (omega arith) (last (eqb (x .count) 0) refl)
+        ap₂ (λ c l. record { number = x .number; count = c; last = l; written = x .written; intake = x .intake; buffers = x .buffers }) (omega arith)
+        (last (eqb (x .count) 0) refl)
       where
         last : (f : Bool) → eqb (x .count) 0 ≡ f → pick f no-stanza (x .last) ≡ x .last
         last true z = sym (h (eqb-true (x .count) 0 z))
