@@ -2,7 +2,6 @@
 use Prim.Native.Nat.{ℕ, _≤_}
 use mathlib.Core.Path.{_≡_, refl, sym, ap, ap₂, subst, _∙_}
 use mathlib.Core.Bool.{Bool, true, false, false≢true}
-use mathlib.Core.Logic.{⊎-elim}
 use mathlib.Core.List.{List, [], _∷_, _++_, append-assoc, append-nil}
 use lib.Dec.{eqb}
 use lib.ListN.{length, take}
@@ -27,7 +26,7 @@ use Rattle.chunks.proofs.Laws.Cutting.{restOn, cut-append, IsWhole, cut
 use Rattle.chunks.proofs.Laws.Stanzas.{stepped}
 use Rattle.chunks.proofs.Laws.Cases.{held}
 use Rattle.chunks.proofs.Laws.Runs.{judged-not-15}
-use Rattle.chunks.proofs.Laws.Taking.{turn-reads, turn-drops, turn-says, turn-waits, closed-turn, chunked-read}
+use Rattle.chunks.proofs.Laws.Taking.{turn-reads, turn-waits, closed-turn, chunked-read}
 use Rattle.chunks.proofs.Laws.Cut.{chunk-refused}
 
 -- ---- one stanza ahead of others
@@ -73,11 +72,11 @@ pub record Ahead (v : List ℕ) (r x : Taken) : Type 0 where
   pub buffers : x .buffers ≡ r .buffers
   pub written : x .written ≡ v ++ r .written
 
--- all are taken; a refusal or the end stops them; or bytes are dropped with 14, or the client waits
+-- all are taken; a refusal stops them, or bytes are dropped; or the client waits
 pub data Course (e : End) (s : Session) (w : List ℕ) (b : Buffers) (ts : List (List ℕ)) : Type 0 where
   goes-on : (s′ : Session) (w′ : List ℕ) (b′ : Buffers) (v : List ℕ) → ((us : List (List ℕ)) (r : Rest) → Ahead v (takenAll e s′ b′ w′ us r) (takenAll e s b w (ts ++ us) r)) → Course e s w b ts
-  stops : (n : ℕ) (i : Intake) (b′ : Buffers) (v : List ℕ) → turnAt e (i .session .phase) ≡ drops 13 → ((us : List (List ℕ)) (r : Rest) → Ahead v (noMore n i b′) (takenAll e s b w (ts ++ us) r)) → Course e s w b ts
-  held-up : ((us : List (List ℕ)) (r : Rest) → takenAll e s b w (ts ++ us) r .number ≡ 14) → Course e s w b ts
+  stops : (n m : ℕ) (s′ : Session) (w′ : List ℕ) (b′ : Buffers) (v : List ℕ) → turnAt e (s′ .phase) ≡ drops m →
+      ((us : List (List ℕ)) (r : Rest) → Ahead v (noMore n (emptied s′ w′) b′) (takenAll e s b w (ts ++ us) r)) → Course e s w b ts
   waits : ((us : List (List ℕ)) (r : Rest) → isWaiting e (takenAll e s b w (ts ++ us) r .intake .session .phase) ≡ true) → Course e s w b ts
 
 ahead-is : (v : List ℕ) (r x : Taken) → x ≡ r → v ≡ [] → Ahead v r x
@@ -103,20 +102,17 @@ module _ (e : End) (s : Session) (w : List ℕ) (b : Buffers) (t : List ℕ) (wh
 
       to : Course e (outcome s b (stanzaCall e (s .phase) t) .session) (awaitedBehind e (outcome s b (stanzaCall e (s .phase) t) .session .phase) t) (outcome s b (stanzaCall e (s .phase) t) .buffers) ts → Course e s w b (t ∷ ts)
       to (goes-on s′ w′ b′ v k) = goes-on s′ w′ b′ (u ++ v) (λ us r. more-ahead v us r (takenAll e s′ b′ w′ us r) (k us r))
-      to (stops n i b′ v c k) = stops n i b′ (u ++ v) c (λ us r. more-ahead v us r (noMore n i b′) (k us r))
-      to (held-up k) = held-up (λ us r. ap (λ x. x .number) (taken-more e s w b t (ts ++ us) r h z) ∙ k us r)
+      to (stops n m s′ w′ b′ v c k) = stops n m s′ w′ b′ (u ++ v) c (λ us r. more-ahead v us r (noMore n (emptied s′ w′) b′) (k us r))
       to (waits k) = waits (λ us r. ap (λ x. isWaiting e (x .intake .session .phase)) (taken-more e s w b t (ts ++ us) r h z) ∙ k us r)
 
   course-one : (ts : List (List ℕ)) (u : Turn) → turnAt e (s .phase) ≡ u → (turnAt e (s .phase) ≡ reads → outcome s b (stanzaCall e (s .phase) t) .number ≡ 0 → Course e s w b (t ∷ ts)) → Course e s w b (t ∷ ts)
   course-one ts reads h f =
       let n = outcome s b (stanzaCall e (s .phase) t) .number in
       cases (eqb n 0) (λ z. f h (eqb-true n 0 z))
-      (λ z. stops n (emptied (outcome s b (stanzaCall e (s .phase) t) .session) []) b []
+      (λ z. stops n 13 (outcome s b (stanzaCall e (s .phase) t) .session) [] b []
       (ap (λ x. turnAt e (x .phase)) (stepped s b t whole e h .closing (eqb-false n 0 z) .session) ∙ closed-turn e)
       (λ us r. ahead-is [] _ _ (taken-refused e s w b t (ts ++ us) r h (eqb-false n 0 z)) refl))
-  course-one ts (drops n) h f =
-      ⊎-elim (λ (z : n ≡ 13). stops n (emptied s w) b [] (h ∙ ap drops z) (λ us r. ahead-is [] _ _ (taken-dropped e s w b t (ts ++ us) r n h) refl))
-      (λ (z : n ≡ 14). held-up (λ us r. ap (λ x. x .number) (taken-dropped e s w b t (ts ++ us) r n h) ∙ z)) (turn-drops e (s .phase) n h)
+  course-one ts (drops n) h f = stops n n s w b [] h (λ us r. ahead-is [] _ _ (taken-dropped e s w b t (ts ++ us) r n h) refl)
   course-one ts keeps-back h f = waits (λ us r. ap (λ x. isWaiting e (x .intake .session .phase)) (taken-kept e s w b t (ts ++ us) r h) ∙ turn-waits e (s .phase) h)
 
 pub course : (ts : List (List ℕ)) (e : End) (s : Session) (w : List ℕ) (b : Buffers) → All IsWhole ts → Course e s w b ts
@@ -201,10 +197,9 @@ module _ (e : End) (i : Intake) (b : Buffers) (x y first-out second-out whole-ou
         output = ap₂ (λ u v. u ++ v) (f .output) (ap (λ (o : Outcome). take (o .size) (o .output)) k ∙ g .output) ∙ q ∙ sym (h .output);
       }
 
-  -- behind the end
-  together-over : (i′ : Intake) (b′ : Buffers) (v : List ℕ) → turnAt e (i′ .session .phase) ≡ drops 13 → Is first i′ b′ v → Is whole i′ b′ v → Together first second whole
-  together-over i′ b′ v t f h =
-      together-of f (is-untaken _ 13 i′ b′ second-out (chunk-refused e i′ b′ 13 y second-out (turn-says e (i′ .session .phase) .ended t .1) refl)) h (append-nil v)
+  -- where bytes are dropped
+  together-over : (s : Session) (w : List ℕ) (b′ : Buffers) (n : ℕ) (v : List ℕ) → turnAt e (s .phase) ≡ drops n → Is first (emptied s w) b′ v → Is whole (emptied s w) b′ v → Together first second whole
+  together-over s w b′ n v t f h = together-of f (chunk-drops e s w b′ n y second-out t) h (append-nil v)
 
   -- the first chunk's stanzas and rest, and both chunks'
   abbrev cut-first : Cut
@@ -256,7 +251,7 @@ module _ (e : End) (i : Intake) (b : Buffers) (x y first-out second-out whole-ou
           let i′ = emptied (closed s) [] in
           let m = both [] (impossible n (z ++ y))
           (cut-append x y (i .reading) (i .kept) ∙ ap (λ r. restOn r (cut-first .texts) y) h ∙ ap (λ u. record { texts = u; rest = impossible n (z ++ y) }) (sym (append-nil (cut-first .texts)))) in
-          together-over i′ b′ (v ++ []) (closed-turn e) (is-first v (noMore n i′ b′) (at-rest (impossible n z) h reads t))
+          together-over (closed s) [] b′ 13 (v ++ []) (closed-turn e) (is-first v (noMore n i′ b′) (at-rest (impossible n z) h reads t))
           (is-whole v (noMore n i′ b′) (subst (λ r. Ahead v r (taken e i b (x ++ y))) (ap (λ u. takenRest u s b′ w (impossible n (z ++ y))) t) m))
 
       goes : (u : Turn) → turnAt e (s .phase) ≡ u → (second .number ≡ 15 → ⊥) → isWaiting e (first .intake .session .phase) ≡ false → Together first second whole
@@ -274,28 +269,34 @@ module _ (e : End) (i : Intake) (b : Buffers) (x y first-out second-out whole-ou
       goes keeps-back t g z =
           absurd (false≢true (sym z ∙ ap (λ (o : Outcome). isWaiting e (o .intake .session .phase)) first-is ∙ ap (λ (i : Intake). isWaiting e (i .session .phase)) (at-rest (cut-first .rest) refl keeps-back t .intake) ∙ turn-waits e (s .phase) t))
 
-    by-course : Course e (i .session) (i .awaited) b (cut-first .texts) → (first .number ≡ 14 → ⊥) → (second .number ≡ 15 → ⊥) → isWaiting e (first .intake .session .phase) ≡ false → Together first second whole
-    by-course (goes-on s w b′ v k) f g z = goes s w b′ v k (turnAt e (s .phase)) refl g z
-    by-course (stops n i′ b′ v t k) f g z = together-over i′ b′ (v ++ []) t (is-first v (noMore n i′ b′) (of-first (Ahead v (noMore n i′ b′)) k)) (is-whole v (noMore n i′ b′) (of-whole (Ahead v (noMore n i′ b′)) k))
-    by-course (held-up k) f g z = absurd (f (ap (λ (o : Outcome). o .number) first-is ∙ of-first (λ r. r .number ≡ 14) k))
-    by-course (waits k) f g z = absurd (false≢true (sym z ∙ ap (λ (o : Outcome). isWaiting e (o .intake .session .phase)) first-is ∙ of-first (λ r. isWaiting e (r .intake .session .phase) ≡ true) k))
+    by-course : Course e (i .session) (i .awaited) b (cut-first .texts) → (second .number ≡ 15 → ⊥) → isWaiting e (first .intake .session .phase) ≡ false → Together first second whole
+    by-course (goes-on s w b′ v k) g z = goes s w b′ v k (turnAt e (s .phase)) refl g z
+    by-course (stops n m s w b′ v t k) g z =
+        let r = noMore n (emptied s w) b′ in
+        together-over s w b′ m (v ++ []) t (is-first v r (of-first (Ahead v r) k)) (is-whole v r (of-whole (Ahead v r) k))
+    by-course (waits k) g z = absurd (false≢true (sym z ∙ ap (λ (o : Outcome). isWaiting e (o .intake .session .phase)) first-is ∙ of-first (λ r. isWaiting e (r .intake .session .phase) ≡ true) k))
 
-  -- a chunk and then another, from an intake that can be reached
-  pub together : Bounded e i → ((first .number ≡ 14 → ⊥) × (first .number ≡ 15 → ⊥)) → ((second .number ≡ 14 → ⊥) × (second .number ≡ 15 → ⊥)) → ((whole .number ≡ 14 → ⊥) × (whole .number ≡ 15 → ⊥)) →
+  -- a chunk and then another, from an intake that can be reached: where bytes are dropped with 14, too
+  pub together-dropped : Bounded e i → (first .number ≡ 15 → ⊥) → (second .number ≡ 15 → ⊥) → (whole .number ≡ 15 → ⊥) →
       isWaiting e (first .intake .session .phase) ≡ false → Together first second whole
-  together h f g k z = cases (eqb (turnOf e (i .session .phase)) 0) in-turn out-of-turn
+  together-dropped h f g k z = cases (eqb (turnOf e (i .session .phase)) 0) in-turn out-of-turn
     where
       in-turn : eqb (turnOf e (i .session .phase)) 0 ≡ true → Together first second whole
       in-turn t =
           let n = eqb-true (turnOf e (i .session .phase)) 0 t in
           let o = chunked-read e i b x first-out n in
           let p = chunked-read e i b (x ++ y) whole-out n in
-          let c = judged-not-15 i b first-out (taken e i b x) (λ z. f .1 (ap (λ (o : Outcome). o .number) o ∙ z)) in
-          let d = judged-not-15 i b whole-out (taken e i b (x ++ y)) (λ z. k .1 (ap (λ (o : Outcome). o .number) p ∙ z)) in
-          by-course (c .1) (o ∙ c .0) (d .1) (p ∙ d .0) (course (cut-first .texts) e (i .session) (i .awaited) b (cut-parts x (i .reading) (i .kept) (h .front (turn-zero e (i .session .phase) n)) .texts)) (f .0) (g .1) z
+          let c = judged-not-15 i b first-out (taken e i b x) (λ z. f (ap (λ (o : Outcome). o .number) o ∙ z)) in
+          let d = judged-not-15 i b whole-out (taken e i b (x ++ y)) (λ z. k (ap (λ (o : Outcome). o .number) p ∙ z)) in
+          by-course (c .1) (o ∙ c .0) (d .1) (p ∙ d .0) (course (cut-first .texts) e (i .session) (i .awaited) b (cut-parts x (i .reading) (i .kept) (h .front (turn-zero e (i .session .phase) n)) .texts)) g z
 
       out-of-turn : eqb (turnOf e (i .session .phase)) 0 ≡ false → Together first second whole
       out-of-turn t =
           let n = turnOf e (i .session .phase) in
           together-of (is-untaken first n i b first-out (chunk-refused e i b n x first-out refl t)) (is-untaken (chunked e i b y second-out) n i b second-out (chunk-refused e i b n y second-out refl t))
           (is-untaken whole n i b whole-out (chunk-refused e i b n (x ++ y) whole-out refl t)) refl
+
+  -- .. where none of the three is refused with 14 or 15
+  pub together : Bounded e i → ((first .number ≡ 14 → ⊥) × (first .number ≡ 15 → ⊥)) → ((second .number ≡ 14 → ⊥) × (second .number ≡ 15 → ⊥)) → ((whole .number ≡ 14 → ⊥) × (whole .number ≡ 15 → ⊥)) →
+      isWaiting e (first .intake .session .phase) ≡ false → Together first second whole
+  together h f g k z = together-dropped h (f .1) (g .1) (k .1) z
