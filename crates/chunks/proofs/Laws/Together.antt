@@ -24,7 +24,7 @@ use Rattle.chunks.specs.Uncut.{isWaiting, Together}
 use Rattle.chunks.specs.Reached.{Bounded}
 use Rattle.chunks.proofs.Laws.Cutting.{restOn, cut-append, IsWhole, cut-parts}
 use Rattle.chunks.proofs.Laws.Stanzas.{stepped}
-use Rattle.chunks.proofs.Laws.Cases.{held}
+use Rattle.chunks.proofs.Laws.Cases.{drops-not-reads, held}
 use Rattle.chunks.proofs.Laws.Runs.{judged-not-15}
 use Rattle.chunks.proofs.Laws.Taking.{turn-reads, turn-waits, closed-turn, chunked-read}
 use Rattle.chunks.proofs.Laws.Cut.{chunk-refused}
@@ -197,9 +197,17 @@ module _ (e : End) (i : Intake) (b : Buffers) (x y first-out second-out whole-ou
         output = ap₂ (λ u v. u ++ v) (f .output) (ap (λ (o : Outcome). take (o .size) (o .output)) k ∙ g .output) ∙ q ∙ sym (h .output);
       }
 
-  -- where bytes are dropped
-  together-over : (s : Session) (w : List ℕ) (b′ : Buffers) (n : ℕ) (v : List ℕ) → turnAt e (s .phase) ≡ drops n → Is first (emptied s w) b′ v → Is whole (emptied s w) b′ v → Together first second whole
-  together-over s w b′ n v t f h = together-of f (chunk-drops e s w b′ n y second-out t) h (append-nil v)
+  -- they come to the same, and the second gives the number of both where the first is accepted and reading goes on behind it
+  pub record Joint : Type 0 where
+    pub together : Together first second whole
+    pub number : turnAt e (first .intake .session .phase) ≡ reads → first .number ≡ 0 → second .number ≡ whole .number
+
+  -- where bytes are dropped behind the first, nothing is read on
+  joint-dropped : (s : Session) (w : List ℕ) (n : ℕ) → turnAt e (s .phase) ≡ drops n → first .intake ≡ emptied s w → Together first second whole → Joint
+  joint-dropped s w n t f g = record { together = g; number = λ u z. absurd (drops-not-reads n (sym (ap (λ (i : Intake). turnAt e (i .session .phase)) f ∙ t) ∙ u)) }
+
+  together-over : (s : Session) (w : List ℕ) (b′ : Buffers) (n : ℕ) (v : List ℕ) → turnAt e (s .phase) ≡ drops n → Is first (emptied s w) b′ v → Is whole (emptied s w) b′ v → Joint
+  together-over s w b′ n v t f h = joint-dropped s w n t (f .intake) (together-of f (chunk-drops e s w b′ n y second-out t) h (append-nil v))
 
   -- the first chunk's stanzas and rest, and both chunks'
   abbrev cut-first : Cut
@@ -236,7 +244,7 @@ module _ (e : End) (i : Intake) (b : Buffers) (x y first-out second-out whole-ou
       both us r h = subst (λ c. Ahead v (takenAll e s b′ w us r) (takenAll e (i .session) b (i .awaited) (c .texts) (c .rest))) (sym h) (k us r)
 
       -- .. and the rest is read
-      read-on : (r : Rest) → cut-first .rest ≡ r → turnAt e (s .phase) ≡ reads → (second .number ≡ 15 → ⊥) → Together first second whole
+      read-on : (r : Rest) → cut-first .rest ≡ r → turnAt e (s .phase) ≡ reads → (second .number ≡ 15 → ⊥) → Joint
       unfolding takenAll
       read-on (unfinished q f) h t g =
           let i′ = keeping s q f w in
@@ -246,7 +254,10 @@ module _ (e : End) (i : Intake) (b : Buffers) (x y first-out second-out whole-ou
           let o = chunked-read e i′ b′ y second-out (turn-reads e (s .phase) t) in
           let d = judged-not-15 i′ b′ second-out r (λ z. g (ap (λ (o : Outcome). o .number) (j ∙ o) ∙ z)) in
           let m = both (cut q f y .texts) (cut q f y .rest) (cut-append x y (i .reading) (i .kept) ∙ ap (λ r. restOn r (cut-first .texts) y) h) in
-          together-of a (is-held (chunked e i′ b′ y second-out) second-out [] r r (o ∙ d .0) (d .1) (ahead-is [] r r refl refl)) (is-whole v r m) (ap (λ u. u ++ r .written) (append-nil v))
+          record {
+            together = together-of a (is-held (chunked e i′ b′ y second-out) second-out [] r r (o ∙ d .0) (d .1) (ahead-is [] r r refl refl)) (is-whole v r m) (ap (λ u. u ++ r .written) (append-nil v));
+            number = λ u z. ap (λ (o : Outcome). o .number) (j ∙ o ∙ d .0) ∙ sym (ap (λ (o : Outcome). o .number) whole-is ∙ m .number);
+          }
       read-on (impossible n z) h t g =
           let i′ = emptied (closed s) [] in
           let m = both [] (impossible n (z ++ y))
@@ -254,12 +265,13 @@ module _ (e : End) (i : Intake) (b : Buffers) (x y first-out second-out whole-ou
           together-over (closed s) [] b′ 13 (v ++ []) (closed-turn e) (is-first v (noMore n i′ b′) (at-rest (impossible n z) h reads t))
           (is-whole v (noMore n i′ b′) (subst (λ r. Ahead v r (taken e i b (x ++ y))) (ap (λ u. takenRest u s b′ w (impossible n (z ++ y))) t) m))
 
-      goes : (u : Turn) → turnAt e (s .phase) ≡ u → (second .number ≡ 15 → ⊥) → isWaiting e (first .intake .session .phase) ≡ false → Together first second whole
+      goes : (u : Turn) → turnAt e (s .phase) ≡ u → (second .number ≡ 15 → ⊥) → isWaiting e (first .intake .session .phase) ≡ false → Joint
       goes reads t g z = read-on (cut-first .rest) refl t g
       goes (drops n) t g z =
           let a = of-first Dropped dropped in
           let c = of-whole Dropped dropped in
-          together-of (is-first v (noMore (a .0) (emptied s w) b′) (a .1)) (chunk-drops e s w b′ n y second-out t) (is-whole v (noMore (c .0) (emptied s w) b′) (c .1)) (append-nil (v ++ []))
+          let f = is-first v (noMore (a .0) (emptied s w) b′) (a .1) in
+          joint-dropped s w n t (f .intake) (together-of f (chunk-drops e s w b′ n y second-out t) (is-whole v (noMore (c .0) (emptied s w) b′) (c .1)) (append-nil (v ++ [])))
         where
           Dropped : Taken → Type 0
           Dropped r = (m : ℕ) × Ahead v (noMore m (emptied s w) b′) r
@@ -269,7 +281,7 @@ module _ (e : End) (i : Intake) (b : Buffers) (x y first-out second-out whole-ou
       goes keeps-back t g z =
           absurd (false≢true (sym z ∙ ap (λ (o : Outcome). isWaiting e (o .intake .session .phase)) first-is ∙ ap (λ (i : Intake). isWaiting e (i .session .phase)) (at-rest (cut-first .rest) refl keeps-back t .intake) ∙ turn-waits e (s .phase) t))
 
-    by-course : Course e (i .session) (i .awaited) b (cut-first .texts) → (second .number ≡ 15 → ⊥) → isWaiting e (first .intake .session .phase) ≡ false → Together first second whole
+    by-course : Course e (i .session) (i .awaited) b (cut-first .texts) → (second .number ≡ 15 → ⊥) → isWaiting e (first .intake .session .phase) ≡ false → Joint
     by-course (goes-on s w b′ v k) g z = goes s w b′ v k (turnAt e (s .phase)) refl g z
     by-course (stops n m s w b′ v t k) g z =
         let r = noMore n (emptied s w) b′ in
@@ -277,11 +289,10 @@ module _ (e : End) (i : Intake) (b : Buffers) (x y first-out second-out whole-ou
     by-course (waits k) g z = absurd (false≢true (sym z ∙ ap (λ (o : Outcome). isWaiting e (o .intake .session .phase)) first-is ∙ of-first (λ r. isWaiting e (r .intake .session .phase) ≡ true) k))
 
   -- a chunk and then another, from an intake that can be reached: where bytes are dropped with 14, too
-  pub together-dropped : Bounded e i → (first .number ≡ 15 → ⊥) → (second .number ≡ 15 → ⊥) → (whole .number ≡ 15 → ⊥) →
-      isWaiting e (first .intake .session .phase) ≡ false → Together first second whole
-  together-dropped h f g k z = cases (eqb (turnOf e (i .session .phase)) 0) in-turn out-of-turn
+  pub joint : Bounded e i → (first .number ≡ 15 → ⊥) → (second .number ≡ 15 → ⊥) → (whole .number ≡ 15 → ⊥) → isWaiting e (first .intake .session .phase) ≡ false → Joint
+  joint h f g k z = cases (eqb (turnOf e (i .session .phase)) 0) in-turn out-of-turn
     where
-      in-turn : eqb (turnOf e (i .session .phase)) 0 ≡ true → Together first second whole
+      in-turn : eqb (turnOf e (i .session .phase)) 0 ≡ true → Joint
       in-turn t =
           let n = eqb-true (turnOf e (i .session .phase)) 0 t in
           let o = chunked-read e i b x first-out n in
@@ -290,13 +301,17 @@ module _ (e : End) (i : Intake) (b : Buffers) (x y first-out second-out whole-ou
           let d = judged-not-15 i b whole-out (taken e i b (x ++ y)) (λ z. k (ap (λ (o : Outcome). o .number) p ∙ z)) in
           by-course (c .1) (o ∙ c .0) (d .1) (p ∙ d .0) (course (cut-first .texts) e (i .session) (i .awaited) b (cut-parts x (i .reading) (i .kept) (h .front (turn-zero e (i .session .phase) n)) .texts)) g z
 
-      out-of-turn : eqb (turnOf e (i .session .phase)) 0 ≡ false → Together first second whole
+      out-of-turn : eqb (turnOf e (i .session .phase)) 0 ≡ false → Joint
       out-of-turn t =
           let n = turnOf e (i .session .phase) in
-          together-of (is-untaken first n i b first-out (chunk-refused e i b n x first-out refl t)) (is-untaken (chunked e i b y second-out) n i b second-out (chunk-refused e i b n y second-out refl t))
-          (is-untaken whole n i b whole-out (chunk-refused e i b n (x ++ y) whole-out refl t)) refl
+          let q = chunk-refused e i b n x first-out refl t in
+          record {
+            together = together-of (is-untaken first n i b first-out q) (is-untaken (chunked e i b y second-out) n i b second-out (chunk-refused e i b n y second-out refl t))
+                (is-untaken whole n i b whole-out (chunk-refused e i b n (x ++ y) whole-out refl t)) refl;
+            number = λ u z. absurd (eqb-false n 0 t (sym (ap (λ (o : Outcome). o .number) q) ∙ z));
+          }
 
   -- .. where none of the three is refused with 14 or 15
   pub together : Bounded e i → ((first .number ≡ 14 → ⊥) × (first .number ≡ 15 → ⊥)) → ((second .number ≡ 14 → ⊥) × (second .number ≡ 15 → ⊥)) → ((whole .number ≡ 14 → ⊥) × (whole .number ≡ 15 → ⊥)) →
       isWaiting e (first .intake .session .phase) ≡ false → Together first second whole
-  together h f g k z = together-dropped h (f .1) (g .1) (k .1) z
+  together h f g k z = joint h (f .1) (g .1) (k .1) z .together
