@@ -24,3 +24,4 @@ pub mod Fronts
 pub mod Texts
 pub mod Rooms
 pub mod Bounds
+pub mod PhaseOne
