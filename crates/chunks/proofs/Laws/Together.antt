@@ -2,6 +2,7 @@
 use Prim.Native.Nat.{ℕ, _≤_}
 use mathlib.Core.Path.{_≡_, refl, sym, ap, ap₂, subst, _∙_}
 use mathlib.Core.Bool.{Bool, true, false, false≢true}
+use mathlib.Core.Logic.{_⊎_, inl, inr, ⊎-elim}
 use mathlib.Core.List.{List, [], _∷_, _++_, append-assoc, append-nil}
 use lib.Dec.{eqb}
 use lib.ListN.{length, take}
@@ -26,6 +27,7 @@ use Rattle.chunks.proofs.Laws.Cutting.{restOn, cut-append, IsWhole, cut
 use Rattle.chunks.proofs.Laws.Stanzas.{stepped}
 use Rattle.chunks.proofs.Laws.Cases.{drops-not-reads, held}
 use Rattle.chunks.proofs.Laws.Runs.{judged-not-15}
+use Rattle.chunks.proofs.Laws.Texts.{front-dropped}
 use Rattle.chunks.proofs.Laws.Taking.{turn-reads, turn-waits, closed-turn, chunked-read}
 use Rattle.chunks.proofs.Laws.Cut.{chunk-refused}
 
@@ -140,6 +142,11 @@ is-held o out v x a q l h = record {
 is-untaken : (o : Outcome) (n : ℕ) (i : Intake) (b : Buffers) (out : List ℕ) → o ≡ untaken n i b out → Is o i b []
 is-untaken o n i b out q = record { intake = ap (λ (o : Outcome). o .intake) q; buffers = ap (λ (o : Outcome). o .buffers) q; output = ap (λ (o : Outcome). take (o .size) (o .output)) q }
 
+-- bytes are dropped with a number, and more of them with the same
+more-dropped : (f y : List ℕ) (n : ℕ) → (pick (eqb (length f) 0) 0 n ≡ 0) ⊎ (pick (eqb (length (f ++ y)) 0) 0 n ≡ pick (eqb (length f) 0) 0 n)
+more-dropped [] y n = inl refl
+more-dropped (c ∷ f) y n = inr (rw (ne-eqb (length (c ∷ f)) 0 (λ h. omega arith), ne-eqb (length ((c ∷ f) ++ y)) 0 (λ h. omega arith)))
+
 -- where bytes are dropped nothing is taken
 drops-taken : (us : List (List ℕ)) (e : End) (s : Session) (w : List ℕ) (b : Buffers) (n : ℕ) → turnAt e (s .phase) ≡ drops n → (r : Rest) → (m : ℕ) × (takenAll e s b w us r ≡ noMore m (emptied s w) b)
 unfolding takenAll
@@ -197,17 +204,22 @@ module _ (e : End) (i : Intake) (b : Buffers) (x y first-out second-out whole-ou
         output = ap₂ (λ u v. u ++ v) (f .output) (ap (λ (o : Outcome). take (o .size) (o .output)) k ∙ g .output) ∙ q ∙ sym (h .output);
       }
 
-  -- they come to the same, and the second gives the number of both where the first is accepted and reading goes on behind it
+  -- a refused one gives the number of both
+  abbrev FirstNumber : Type 0
+  FirstNumber = (first .number ≡ 0) ⊎ (whole .number ≡ first .number)
+
+  -- they come to the same; the second gives the number of both where reading goes on behind the first, and else a refused first one does
   pub record Joint : Type 0 where
     pub together : Together first second whole
-    pub number : turnAt e (first .intake .session .phase) ≡ reads → first .number ≡ 0 → second .number ≡ whole .number
+    pub number : turnAt e (first .intake .session .phase) ≡ reads → second .number ≡ whole .number
+    pub first-number : FirstNumber
 
   -- where bytes are dropped behind the first, nothing is read on
-  joint-dropped : (s : Session) (w : List ℕ) (n : ℕ) → turnAt e (s .phase) ≡ drops n → first .intake ≡ emptied s w → Together first second whole → Joint
-  joint-dropped s w n t f g = record { together = g; number = λ u z. absurd (drops-not-reads n (sym (ap (λ (i : Intake). turnAt e (i .session .phase)) f ∙ t) ∙ u)) }
+  joint-dropped : (s : Session) (w : List ℕ) (n : ℕ) → turnAt e (s .phase) ≡ drops n → first .intake ≡ emptied s w → FirstNumber → Together first second whole → Joint
+  joint-dropped s w n t f m g = record { together = g; number = λ u. absurd (drops-not-reads n (sym (ap (λ (i : Intake). turnAt e (i .session .phase)) f ∙ t) ∙ u)); first-number = m }
 
-  together-over : (s : Session) (w : List ℕ) (b′ : Buffers) (n : ℕ) (v : List ℕ) → turnAt e (s .phase) ≡ drops n → Is first (emptied s w) b′ v → Is whole (emptied s w) b′ v → Joint
-  together-over s w b′ n v t f h = joint-dropped s w n t (f .intake) (together-of f (chunk-drops e s w b′ n y second-out t) h (append-nil v))
+  together-over : (s : Session) (w : List ℕ) (b′ : Buffers) (n : ℕ) (v : List ℕ) → turnAt e (s .phase) ≡ drops n → Is first (emptied s w) b′ v → Is whole (emptied s w) b′ v → FirstNumber → Joint
+  together-over s w b′ n v t f h m = joint-dropped s w n t (f .intake) m (together-of f (chunk-drops e s w b′ n y second-out t) h (append-nil v))
 
   -- the first chunk's stanzas and rest, and both chunks'
   abbrev cut-first : Cut
@@ -220,6 +232,12 @@ module _ (e : End) (i : Intake) (b : Buffers) (x y first-out second-out whole-ou
 
     is-whole : (v : List ℕ) (r : Taken) → Ahead v r (taken e i b (x ++ y)) → Is whole (r .intake) (r .buffers) (v ++ r .written)
     is-whole v r a = is-held whole whole-out v r (taken e i b (x ++ y)) whole-is fits-whole a
+
+    first-number : (v : List ℕ) (r : Taken) → Ahead v r (taken e i b x) → first .number ≡ r .number
+    first-number v r a = ap (λ (o : Outcome). o .number) first-is ∙ a .number
+
+    whole-number : (v : List ℕ) (r : Taken) → Ahead v r (taken e i b (x ++ y)) → whole .number ≡ r .number
+    whole-number v r a = ap (λ (o : Outcome). o .number) whole-is ∙ a .number
 
     -- by the first chunk's stanzas
     of-first : (P : Taken → Type 0) → ((us : List (List ℕ)) (r : Rest) → P (takenAll e (i .session) b (i .awaited) (cut-first .texts ++ us) r)) → P (taken e i b x)
@@ -256,23 +274,48 @@ module _ (e : End) (i : Intake) (b : Buffers) (x y first-out second-out whole-ou
           let m = both (cut q f y .texts) (cut q f y .rest) (cut-append x y (i .reading) (i .kept) ∙ ap (λ r. restOn r (cut-first .texts) y) h) in
           record {
             together = together-of a (is-held (chunked e i′ b′ y second-out) second-out [] r r (o ∙ d .0) (d .1) (ahead-is [] r r refl refl)) (is-whole v r m) (ap (λ u. u ++ r .written) (append-nil v));
-            number = λ u z. ap (λ (o : Outcome). o .number) (j ∙ o ∙ d .0) ∙ sym (ap (λ (o : Outcome). o .number) whole-is ∙ m .number);
+            number = λ u. ap (λ (o : Outcome). o .number) (j ∙ o ∙ d .0) ∙ sym (whole-number v r m);
+            first-number = inl (first-number v (noMore 0 i′ b′) (at-rest (unfinished q f) h reads t));
           }
       read-on (impossible n z) h t g =
           let i′ = emptied (closed s) [] in
           let m = both [] (impossible n (z ++ y))
           (cut-append x y (i .reading) (i .kept) ∙ ap (λ r. restOn r (cut-first .texts) y) h ∙ ap (λ u. record { texts = u; rest = impossible n (z ++ y) }) (sym (append-nil (cut-first .texts)))) in
-          together-over (closed s) [] b′ 13 (v ++ []) (closed-turn e) (is-first v (noMore n i′ b′) (at-rest (impossible n z) h reads t))
-          (is-whole v (noMore n i′ b′) (subst (λ r. Ahead v r (taken e i b (x ++ y))) (ap (λ u. takenRest u s b′ w (impossible n (z ++ y))) t) m))
+          let a = at-rest (impossible n z) h reads t in
+          let c = subst (λ r. Ahead v r (taken e i b (x ++ y))) (ap (λ u. takenRest u s b′ w (impossible n (z ++ y))) t) m in
+          together-over (closed s) [] b′ 13 (v ++ []) (closed-turn e) (is-first v (noMore n i′ b′) a) (is-whole v (noMore n i′ b′) c)
+          (inr (whole-number v (noMore n i′ b′) c ∙ sym (first-number v (noMore n i′ b′) a)))
 
       goes : (u : Turn) → turnAt e (s .phase) ≡ u → (second .number ≡ 15 → ⊥) → isWaiting e (first .intake .session .phase) ≡ false → Joint
+      unfolding takenAll
       goes reads t g z = read-on (cut-first .rest) refl t g
       goes (drops n) t g z =
           let a = of-first Dropped dropped in
           let c = of-whole Dropped dropped in
           let f = is-first v (noMore (a .0) (emptied s w) b′) (a .1) in
-          joint-dropped s w n t (f .intake) (together-of f (chunk-drops e s w b′ n y second-out t) (is-whole v (noMore (c .0) (emptied s w) b′) (c .1)) (append-nil (v ++ [])))
+          joint-dropped s w n t (f .intake) (dropped-number (cut-first .rest) refl) (together-of f (chunk-drops e s w b′ n y second-out t) (is-whole v (noMore (c .0) (emptied s w) b′) (c .1)) (append-nil (v ++ [])))
         where
+          pick-number : (d : Bool) → pick d (noMore 0 (emptied s w) b′) (noMore n (emptied s w) b′) .number ≡ pick d 0 n
+          pick-number true = refl
+          pick-number false = refl
+
+          number-of : (f : List ℕ) → first .number ≡ pick (eqb (length f) 0) 0 n → whole .number ≡ pick (eqb (length (f ++ y)) 0) 0 n → FirstNumber
+          number-of f p q = ⊎-elim (λ h. inl (p ∙ h)) (λ h. inr (q ∙ h ∙ sym p)) (more-dropped f y n)
+
+          -- the bytes behind the first chunk's stanzas are among those behind them in both
+          dropped-number : (r : Rest) → cut-first .rest ≡ r → FirstNumber
+          dropped-number (unfinished q f) h =
+              number-of f
+              (first-number v _ (at-rest (unfinished q f) h (drops n) t) ∙ pick-number (eqb (length f) 0))
+              (whole-number v _ (both (cut q f y .texts) (cut q f y .rest) (cut-append x y (i .reading) (i .kept) ∙ ap (λ r. restOn r (cut-first .texts) y) h))
+              ∙ ap (λ (r : Taken). r .number) (front-dropped e s b′ w n t y q f) ∙ pick-number (eqb (length (f ++ y)) 0))
+          dropped-number (impossible m z) h =
+              number-of z
+              (first-number v _ (at-rest (impossible m z) h (drops n) t) ∙ pick-number (eqb (length z) 0))
+              (whole-number v _ (both [] (impossible m (z ++ y))
+              (cut-append x y (i .reading) (i .kept) ∙ ap (λ r. restOn r (cut-first .texts) y) h ∙ ap (λ u. record { texts = u; rest = impossible m (z ++ y) }) (sym (append-nil (cut-first .texts)))))
+              ∙ ap (λ u. takenRest u s b′ w (impossible m (z ++ y)) .number) t ∙ pick-number (eqb (length (z ++ y)) 0))
+
           Dropped : Taken → Type 0
           Dropped r = (m : ℕ) × Ahead v (noMore m (emptied s w) b′) r
 
@@ -285,7 +328,9 @@ module _ (e : End) (i : Intake) (b : Buffers) (x y first-out second-out whole-ou
     by-course (goes-on s w b′ v k) g z = goes s w b′ v k (turnAt e (s .phase)) refl g z
     by-course (stops n m s w b′ v t k) g z =
         let r = noMore n (emptied s w) b′ in
-        together-over s w b′ m (v ++ []) t (is-first v r (of-first (Ahead v r) k)) (is-whole v r (of-whole (Ahead v r) k))
+        let a = of-first (Ahead v r) k in
+        let c = of-whole (Ahead v r) k in
+        together-over s w b′ m (v ++ []) t (is-first v r a) (is-whole v r c) (inr (whole-number v r c ∙ sym (first-number v r a)))
     by-course (waits k) g z = absurd (false≢true (sym z ∙ ap (λ (o : Outcome). isWaiting e (o .intake .session .phase)) first-is ∙ of-first (λ r. isWaiting e (r .intake .session .phase) ≡ true) k))
 
   -- a chunk and then another, from an intake that can be reached: where bytes are dropped with 14, too
@@ -308,7 +353,8 @@ module _ (e : End) (i : Intake) (b : Buffers) (x y first-out second-out whole-ou
           record {
             together = together-of (is-untaken first n i b first-out q) (is-untaken (chunked e i b y second-out) n i b second-out (chunk-refused e i b n y second-out refl t))
                 (is-untaken whole n i b whole-out (chunk-refused e i b n (x ++ y) whole-out refl t)) refl;
-            number = λ u z. absurd (eqb-false n 0 t (sym (ap (λ (o : Outcome). o .number) q) ∙ z));
+            number = λ u. absurd (eqb-false n 0 t (turn-reads e (i .session .phase) (sym (ap (λ (o : Outcome). turnAt e (o .intake .session .phase)) q) ∙ u)));
+            first-number = inr (ap (λ (o : Outcome). o .number) (chunk-refused e i b n (x ++ y) whole-out refl t) ∙ sym (ap (λ (o : Outcome). o .number) q));
           }
 
   -- .. where none of the three is refused with 14 or 15
