@@ -19,6 +19,7 @@ pub mod Written
 pub mod Blocks
 pub mod Heard
 pub mod Orders
+pub mod AnyCalls
 pub mod Itself
 pub mod Fronts
 pub mod Texts

@@ -6,3 +6,4 @@ pub mod Uncut
 pub mod Calls
 pub mod Reached
 pub mod Orders
+pub mod AnyCalls
