@@ -7,3 +7,4 @@ pub mod Calls
 pub mod Reached
 pub mod Orders
 pub mod AnyCalls
+pub mod Sent

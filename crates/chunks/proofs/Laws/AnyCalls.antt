@@ -50,10 +50,10 @@ use Rattle.chunks.proofs.Laws.Taking.{room-fits}
 
 -- ---- what a text comes to, by calls of one stanza
 
-record As (s : Session) (b : Buffers) (s′ : Session) (b′ : Buffers) (v : List ℕ) (cs : List Call) : Type 0 where
-  session : s′ ≡ one-call.after s b cs .session
-  buffers : b′ ≡ one-call.after s b cs .buffers
-  written : v ≡ joined (one-call.written s b cs) []
+pub record As (s : Session) (b : Buffers) (s′ : Session) (b′ : Buffers) (v : List ℕ) (cs : List Call) : Type 0 where
+  pub session : s′ ≡ one-call.after s b cs .session
+  pub buffers : b′ ≡ one-call.after s b cs .buffers
+  pub written : v ≡ joined (one-call.written s b cs) []
 
 abbrev TakenAs : Session → Buffers → Taken → List Call → Type 0
 TakenAs s b x cs = As s b (x .intake .session) (x .buffers) (x .written) cs
@@ -209,7 +209,7 @@ reply-as i b r body out =
         (subst (λ b′. As (answered s) b′ (x .intake .session) (x .buffers) (x .written) ds) buffers m)))
 
 -- any call
-call-as : (e : End) (i : Intake) (b : Buffers) (c : AnyCall) → Has e c → Keeps e i → As (i .session) b (intakeAfter e i b c .session) (buffersAfter e i b c) (writtenAt e i b c) (callsIn e i b c)
+pub call-as : (e : End) (i : Intake) (b : Buffers) (c : AnyCall) → Has e c → Keeps e i → As (i .session) b (intakeAfter e i b c .session) (buffersAfter e i b c) (writtenAt e i b c) (callsIn e i b c)
 call-as e i b (piece (chunk bytes out)) h k = chunk-as e i b bytes out k
 call-as client i b (piece (reply r body out)) h k = reply-as i b r body out
 call-as plugin i b (piece (reply r body out)) h k = as-none (i .session) b
@@ -219,7 +219,7 @@ call-as e i b finishes h k = as-none (i .session) b
 
 -- ---- lists
 
-joined-front : (ts : List (List ℕ)) (x : List ℕ) → joined ts [] ++ x ≡ joined ts x
+pub joined-front : (ts : List (List ℕ)) (x : List ℕ) → joined ts [] ++ x ≡ joined ts x
 unfolding joined
 joined-front [] x = refl
 joined-front (t ∷ ts) x = append-assoc t (joined ts []) x ∙ ap (λ y. t ++ y) (joined-front ts x)
