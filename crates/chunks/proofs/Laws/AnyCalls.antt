@@ -1,14 +1,12 @@
 -- Any calls of an end, refused with whatever number, come to calls of one stanza: so what holds of every list of those holds of every list of calls on chunks.
-use Prim.Native.Nat.{ℕ, _≤_}
+use Prim.Native.Nat.{ℕ}
 use mathlib.Core.Path.{_≡_, refl, sym, ap, ap₂, subst, _∙_}
 use mathlib.Core.Bool.{Bool, true, false}
-use mathlib.Core.Logic.{⊎-elim}
 use mathlib.Core.List.{List, [], _∷_, _++_, append-assoc, append-nil}
 use lib.Dec.{T, eqb, leb}
 use lib.ListN.{length, take}
 use native.Mathlib.Omega.{arith}
 use borrow.Author.Tests.{eqb-false, ne-eqb, leb-true}
-use Rattle.refusal.specs.Output.{filled}
 use Rattle.refusal.specs.Pick.{pick}
 use Rattle.refusal.proofs.Laws.Booleans.{and-true}
 use Rattle.stanza.specs.Automaton.{start}
@@ -33,12 +31,12 @@ use Rattle.conversation.proofs.Laws.StepsTwo.{all-written}
 use Rattle.conversation.proofs.Laws.Tables.{tables-opened}
 use Rattle.chunks.specs.Cutting.{Rest, unfinished, impossible, bytesOf, cut}
 use Rattle.chunks.specs.Taking.{End, client, plugin, Turn, reads, drops, keeps-back, turnAt, room, stanzaCall, awaitedBehind, Intake, Taken, lastIn, noMore, emptied, oneMore, joined, takenRest, takenBy, takenAll}
-use Rattle.chunks.specs.Chunks.{Outcome, untaken, isHeld, taken, turnOf, chunked, replyAhead, takenBack, replied}
+use Rattle.chunks.specs.Chunks.{Outcome, isHeld, taken, turnOf, chunked, takenBack, replied}
 use Rattle.chunks.specs.Uncut.{chunk, reply, State, isUnfit}
 use Rattle.chunks.specs.Reached.{AnyCall, piece, sends-one, sends-two, finishes, Has, intakeAfter}
 use Rattle.chunks.specs.AnyCalls.{buffersAfter, writtenAt, afterAny, writtenAny, restCalls, turnCalls, stanzaCalls, callsIn, callsAll, ComesTo}
-use Rattle.chunks.proofs.Laws.Calls.{Does, last-does}
-use Rattle.chunks.proofs.Laws.Cases.{drops-not-reads, keeps-not-reads, held, isTurned, chunk-cases, isUntaken, answering, reply-cases}
+use Rattle.chunks.proofs.Laws.Calls.{last-does}
+use Rattle.chunks.proofs.Laws.Cases.{drops-not-reads, keeps-not-reads, held, isTurned, chunk-cases, answering, reply-cases}
 use Rattle.chunks.proofs.Laws.Cut.{last-held, reply-alone, reply-room}
 use Rattle.chunks.proofs.Laws.Cutting.{IsRest, cut-parts, none-front}
 use Rattle.chunks.proofs.Laws.Finish.{turn-not-waiting}
