@@ -86,7 +86,7 @@ unfolding All Wholes
 wholes-alone [] h = tt
 wholes-alone (t ∷ ts) h = (refl, (h .0, wholes-alone ts (h .1)))
 
-text-alone : (ts : List (List ℕ)) (x : List ℕ) → textIn (map alone ts) ++ x ≡ joined ts x
+pub text-alone : (ts : List (List ℕ)) (x : List ℕ) → textIn (map alone ts) ++ x ≡ joined ts x
 unfolding textIn joined
 text-alone [] x = refl
 text-alone (t ∷ ts) x = append-assoc t (textIn (map alone ts)) x ∙ ap (λ y. t ++ y) (text-alone ts x)
