@@ -19,6 +19,8 @@ pub mod Written
 pub mod Blocks
 pub mod Heard
 pub mod Orders
+pub mod AnyCalls
+pub mod Sent
 pub mod Itself
 pub mod Fronts
 pub mod Texts

@@ -2,7 +2,7 @@
 -- host answers while it waits, at least one, and no call is refused with 14 or 15").
 use Prim.Native.Nat.{ℕ}
 use mathlib.Core.Path.{_≡_}
-use mathlib.Core.Bool.{Bool, true, false, _&&_}
+use mathlib.Core.Bool.{_&&_}
 use mathlib.Core.List.{List, [], _∷_, _++_, map}
 use mathlib.Core.Logic.{_↔_}
 use Rattle.refusal.specs.Pick.{pick}
@@ -12,7 +12,7 @@ use Rattle.conversation.specs.Calls.{AllZero}
 use Rattle.conversation.specs.Kinds.{Buffers}
 use Rattle.conversation.specs.Phases.{Reply, Block, Supply, Part, one-part, two-part, Phase, blocksOf, responsesTo, SameTables}
 use Rattle.chunks.specs.Taking.{End, client, plugin, room, Intake, emptied, joined}
-use Rattle.chunks.specs.Uncut.{Piece, chunk, reply, outcomeOf, after, numbers, written, isClosed, NoneHeldUp, NoneBehind, alone, uncut}
+use Rattle.chunks.specs.Uncut.{Piece, reply, outcomeOf, after, numbers, written, isClosed, NoneHeldUp, NoneBehind, alone, uncut, isReply}
 
 -- ---- cuts of a phase
 
@@ -28,11 +28,6 @@ replyAlone r = reply (r .response) (r .body) room
 unfoldable pub uncutCalls : List Block → List Piece
 uncutCalls [] = []
 uncutCalls (x ∷ xs) = (alone (x .text) ∷ map replyAlone (x .replies)) ++ uncutCalls xs
-
--- a call is a reply
-abbrev pub isReply : Piece → Bool
-isReply (chunk bytes out) = false
-isReply (reply r body out) = true
 
 -- a list without the replies that are made when the session is closed: no command waits for them any more
 unfoldable pub heard : End → Intake → Buffers → List Piece → List Piece

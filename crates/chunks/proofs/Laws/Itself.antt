@@ -21,8 +21,8 @@ use Rattle.conversation.proofs.Laws.Accepted.{accepted}
 use Rattle.chunks.specs.Cutting.{Cut, cut}
 use Rattle.chunks.specs.Taking.{End, client, plugin, reads, turnAt, room, stanzaCall, Intake, emptied, joined}
 use Rattle.chunks.specs.Chunks.{chunked, takenBack, replied}
-use Rattle.chunks.specs.Uncut.{Piece, reply, outcomeOf, numbers, isClosed, Parted, receivedMore, parted, partedChunk, alone, isOver, isWaiting, isUnfit, uncut, NoneHeldUp, isEnded, NoneBehind}
-use Rattle.chunks.specs.Orders.{replyAlone, uncutCalls, isReply, heard, IsCut, endOf, rooms}
+use Rattle.chunks.specs.Uncut.{Piece, reply, outcomeOf, numbers, isClosed, Parted, receivedMore, parted, partedChunk, alone, isOver, isWaiting, isUnfit, uncut, NoneHeldUp, isEnded, NoneBehind, isReply}
+use Rattle.chunks.specs.Orders.{replyAlone, uncutCalls, heard, IsCut, endOf, rooms}
 use Rattle.chunks.proofs.Laws.Reading.{cut-whole}
 use Rattle.chunks.proofs.Laws.Cases.{isUntaken, reply-cases}
 use Rattle.chunks.proofs.Laws.Stanzas.{Open}

@@ -39,12 +39,12 @@ use Rattle.chunks.proofs.Laws.Blocks.{Ready, blocks-same}
 
 -- ---- what is written, one behind the other
 
-joined-append : (xs ys : List (List ℕ)) (z : List ℕ) → joined (xs ++ ys) z ≡ joined xs (joined ys z)
+pub joined-append : (xs ys : List (List ℕ)) (z : List ℕ) → joined (xs ++ ys) z ≡ joined xs (joined ys z)
 unfolding joined
 joined-append [] ys z = refl
 joined-append (x ∷ xs) ys z = ap (λ r. x ++ r) (joined-append xs ys z)
 
-written-append : (s : Session) (b : Buffers) (xs ys : List Call) → one-call.written s b (xs ++ ys) ≡ one-call.written s b xs ++ one-call.written (one-call.after s b xs .session) (one-call.after s b xs .buffers) ys
+pub written-append : (s : Session) (b : Buffers) (xs ys : List Call) → one-call.written s b (xs ++ ys) ≡ one-call.written s b xs ++ one-call.written (one-call.after s b xs .session) (one-call.after s b xs .buffers) ys
 unfolding one-call.written one-call.after
 written-append s b [] ys = refl
 written-append s b (c ∷ xs) ys = ap (λ r. writtenBy s b c ∷ r) (written-append (outcome s b c .session) (outcome s b c .buffers) xs ys)
