@@ -1,7 +1,1 @@
--- What is shown of judging.
-pub mod Examples
-pub mod Reading
-pub mod Slots
-pub mod Steps
-pub mod Turns
-pub mod Windows
+pub mod Cuts

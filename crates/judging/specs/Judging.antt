@@ -1,12 +1,10 @@
 -- Judging a recorded phase one (document 01, "The judging program"; document 02, No. 1: its input comes in pieces).
 use Prim.Native.Nat.{ℕ}
-use mathlib.Core.Bool.{Bool, true, false}
+use mathlib.Core.Bool.{false}
 use mathlib.Core.List.{List, [], _∷_}
-use lib.Dec.{eqb}
 use lib.ListN.{replicate}
-use Rattle.refusal.specs.Pick.{pick}
 use Rattle.session.specs.Tables.{Tables}
-use Rattle.session.specs.Session.{Session, openedSession}
+use Rattle.session.specs.Session.{openedSession}
 use Rattle.session.specs.declared.opening.Machine.the-variants.{RecipientV1}
 use Rattle.session.specs.declared.phases.Phase.{Phase}
 use Rattle.session.specs.declared.phases.Phase.the-variants.{One, Two, Awaiting, Ended, Closed}
@@ -40,19 +38,17 @@ pub record State : Type 0 where
 
 -- ---- one chunk
 
--- done has been read
-abbrev pub isDone : Phase → Bool
-isDone One = false
-isDone Two = true
-isDone (Awaiting w) = true
-isDone Ended = true
-isDone Closed = false
+-- behind a chunk, by the phase: phase one goes on; it "stops at done", whatever stands behind it; or a refusal has closed the session, and "the counts are those
+-- before it"
+abbrev pub behindPhase : Phase → ℕ → Intake → Standing
+behindPhase One n i = going i
+behindPhase Two n i = stopped (counted (i .session .tables) 0)
+behindPhase (Awaiting w) n i = stopped (counted (i .session .tables) 0)
+behindPhase Ended n i = stopped (counted (i .session .tables) 0)
+behindPhase Closed n i = stopped (counted (i .session .tables) n)
 
--- behind a chunk: it "stops at done", whatever stands behind it; a refusal stops it too, and "the counts are those before it"; else it goes on
 abbrev pub behindChunk : Outcome → Standing
-behindChunk o =
-    pick (isDone (o .intake .session .phase)) (stopped (counted (o .intake .session .tables) 0))
-    (pick (eqb (o .number) 0) (going (o .intake)) (stopped (counted (o .intake .session .tables) (o .number))))
+behindChunk o = behindPhase (o .intake .session .phase) (o .number) (o .intake)
 
 -- a chunk, where judging stands. Phase one writes nothing
 abbrev pub judgedFrom : Standing → Buffers → List ℕ → State
