@@ -1,1 +1,3 @@
+-- What is shown of judging.
 pub mod Cuts
+pub mod Examples
