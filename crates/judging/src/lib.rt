@@ -76,3 +76,98 @@ fn behind_chunk(session: Session, verdict: Verdict) -> Progress
         Phase::Closed => Progress::Stopped(count(session.tables, number(verdict))),
     }
 }
+
+impl Judging {
+    // Nothing judged yet: a session of recipient-v1 just opened. The plugin's name does not show in the numbers.
+    pub fn open() -> Judging
+        ensures start { λ r. ⌜ ((input : List ℕ) → standingOf r openedSlots openedHeaderSlots input ≡ going start) ⌝ }
+        ensures carried { λ r. ⌜ carriedBy (r .session) ≡ carriedFirst (held (start .session .name)) ⌝ }
+    {
+        let opening = Session::open_plugin(b"recipient-v1", b"judge");
+        let session = opening.session;
+        Judging {
+            session: session,
+            progress: Progress::GoesOn,
+        }
+    }
+
+    // A chunk of the input. However it is cut, it is judged alike.
+    pub fn judge_chunk(
+        self,
+        chunk: &[u8],
+        input: &mut [u8; Session::PLUGIN_INPUT],
+        slots: &mut [[usize; 4]; Session::OTHER_SLOTS],
+        header_slots: &mut [[usize; 4]; Session::HEADER_STANZAS],
+        recipients: &mut [u8],
+        identities: &mut [u8],
+        keys: &mut [u8],
+    ) -> Judging
+        ensures state { λ r. ⌜ ((c : BuffersTwo) → stateSaid r (now (slots .exit)) (now («header_slots» .exit)) (now (input .exit))
+            (buffersIn (now (recipients .exit)) (now (identities .exit)) (now (keys .exit)) c) ≡
+            judgedFrom (standingOf self (now (slots .entry)) (now («header_slots» .entry)) (now (input .entry)))
+            (buffersIn (now (recipients .entry)) (now (identities .entry)) (now (keys .entry)) c) (now (chunk .entry))) ⌝ }
+        ensures name { λ r. ⌜ r .session .name ≡ self .session .name ⌝ }
+    {
+        let progress = self.progress;
+        let session = self.session;
+        match progress {
+            Progress::Stopped(_) => self,
+            Progress::GoesOn => {
+                let mut headers = [0u8; 0];
+                let mut out = [0u8; 0];
+                let received = plugin_receiving::receive(
+                    session,
+                    chunk,
+                    input,
+                    slots,
+                    header_slots,
+                    recipients,
+                    identities,
+                    keys,
+                    &mut headers,
+                    &mut out,
+                );
+                let after = received.session;
+                Judging {
+                    session: after,
+                    progress: behind_chunk(after, received.verdict),
+                }
+            }
+        }
+    }
+
+    // The five numbers behind the input's end. Where judging goes on it has ended before done: 2.
+    pub fn numbers(self) -> Judged
+        ensures { λ r. ⌜ ((xs hs : List (List ℕ)) (input : List ℕ) → judgedSaid r ≡ numbersOf (standingOf self xs hs input)) ⌝ }
+    {
+        let progress = self.progress;
+        let session = self.session;
+        match progress {
+            Progress::Stopped(x) => x,
+            Progress::GoesOn => count(session.tables, number(intake::finish(session))),
+        }
+    }
+}
+
+// A whole text: the five numbers. The judging program lends 16,384, 16,384 and 1,024 bytes of zeros. Header stanzas need no buffer: recipient-v1 has none.
+pub fn judge(text: &[u8], recipients: &mut [u8], identities: &mut [u8], keys: &mut [u8]) -> Judged
+    ensures numbers { λ r. ⌜ ((c : BuffersTwo) → judgedSaid r ≡
+        numbersOf (judgedText (buffersIn (now (recipients .entry)) (now (identities .entry)) (now (keys .entry)) c) (now (text .entry)) .standing)) ⌝ }
+    ensures buffers { λ _. ⌜ ((c : BuffersTwo) → buffersIn (now (recipients .exit)) (now (identities .exit)) (now (keys .exit)) c ≡
+        judgedText (buffersIn (now (recipients .entry)) (now (identities .entry)) (now (keys .entry)) c) (now (text .entry)) .buffers) ⌝ }
+{
+    let begun = Judging::open();
+    let mut input = [0u8; Session::PLUGIN_INPUT];
+    let mut slots = Session::open_slots();
+    let mut header_slots = Session::open_header_slots();
+    let judging = begun.judge_chunk(
+        text,
+        &mut input,
+        &mut slots,
+        &mut header_slots,
+        recipients,
+        identities,
+        keys,
+    );
+    judging.numbers()
+}
