@@ -10,7 +10,7 @@ use session::front;
 use stanza::First;
 
 // Its whole text, a part of the input; empty where nothing waits.
-pub fn text<'a>(session: Session, input: &'a [u8]) -> &'a [u8]
+pub fn awaited_text<'a>(session: Session, input: &'a [u8]) -> &'a [u8]
     ensures { λ r. ⌜ now r ≡ awaitedText session (now (input .entry)) ⌝ }
 {
     let phase = session.phase;
@@ -24,11 +24,11 @@ pub fn text<'a>(session: Session, input: &'a [u8]) -> &'a [u8]
 }
 
 // Its message, decoded to the front of `out`: how many bytes, or 15 and nothing written. Empty where nothing waits.
-pub fn message(session: Session, input: &[u8], out: &mut [u8]) -> Written
+pub fn awaited_message(session: Session, input: &[u8], out: &mut [u8]) -> Written
     ensures answer { λ r. ⌜ said r ≡ answered (messageIn (awaitedText session (now (input .entry)))) (now (out .entry)) ⌝ }
     ensures buffer { λ r. ⌜ now (out .exit) ≡ filled (messageIn (awaitedText session (now (input .entry)))) (now (out .entry)) ⌝ }
 {
-    let waiting = text(session, input);
+    let waiting = awaited_text(session, input);
     let first = stanza::read(waiting);
     match first {
         First::Stanza(s) => stanza::body_of(waiting, s, out),
@@ -40,7 +40,7 @@ pub fn message(session: Session, input: &[u8], out: &mut [u8]) -> Written
 fn line<'a>(session: Session, input: &'a [u8]) -> &'a [u8]
     ensures { λ r. ⌜ now r ≡ lineIn (awaitedText session (now (input .entry))) ⌝ }
 {
-    let waiting = text(session, input);
+    let waiting = awaited_text(session, input);
     let first = stanza::read(waiting);
     match first {
         First::Stanza(s) => stanza::arguments_of(waiting, s),
@@ -49,18 +49,18 @@ fn line<'a>(session: Session, input: &'a [u8]) -> &'a [u8]
 }
 
 // How many labels it has: a confirm has one or two, any other none.
-pub fn labels(session: Session, input: &[u8]) -> usize
+pub fn awaited_labels(session: Session, input: &[u8]) -> usize
     ensures { λ r. ⌜ r ≡ labelCount (awaitedText session (now (input .entry))) ⌝ }
 {
     stanza::count(line(session, input)) - 1
 }
 
 // A label by its number, counted from 0, decoded to the front of `out`: how many bytes, or 15 and nothing written. Empty where there is none.
-pub fn label(session: Session, input: &[u8], n: usize, out: &mut [u8]) -> Written
+pub fn awaited_label(session: Session, input: &[u8], n: usize, out: &mut [u8]) -> Written
     ensures answer { λ r. ⌜ said r ≡ answered (labelIn n (awaitedText session (now (input .entry)))) (now (out .entry)) ⌝ }
     ensures buffer { λ r. ⌜ now (out .exit) ≡ filled (labelIn n (awaitedText session (now (input .entry)))) (now (out .entry)) ⌝ }
 {
-    if labels(session, input) <= n {
+    if awaited_labels(session, input) <= n {
         return Written::Bytes(0);
     }
     base64::decode(stanza::argument(line(session, input), n + 1), out)

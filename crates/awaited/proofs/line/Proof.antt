@@ -8,8 +8,8 @@ use borrow.Author.Needs.{needs}
 use Rattle.awaited.proofs.line.Statement.{statement}
 use Rattle.awaited.proofs.line.Tie as tie
 
-text-requires : tie.Need-text-requires
-text-requires c κs = search needs
+awaited-text-requires : tie.Need-awaited-text-requires
+awaited-text-requires c κs = search needs
 
 read-requires : tie.Need-read-requires
 read-requires c κs = search needs
@@ -28,19 +28,19 @@ slice-aggregate-result c = search needs
 
 returns : tie.Need-returns
 returns c =
-    let t = now (c .before .before .before .before .before .text .result) in
-    c .arguments-of .ensures ∙ ap (λ r. lineRead r t) (sym (ap readSaid (c .before .before .first .given .1)) ∙ c .before .before .before .before .read .ensures) ∙ ap lineIn (c .before .before .before .before .before .text .ensures)
+    let t = now (c .before .before .before .before .before .awaited-text .result) in
+    c .arguments-of .ensures ∙ ap (λ r. lineRead r t) (sym (ap readSaid (c .before .before .first .given .1)) ∙ c .before .before .before .before .read .ensures) ∙ ap lineIn (c .before .before .before .before .before .awaited-text .ensures)
 
 returns-2 : tie.Need-returns-2
 returns-2 c =
-    let t = now (c .before .before .before .before .text .result) in
-    ap (λ r. lineRead r t) (sym (ap readSaid (c .before .enum-told .given .1)) ∙ c .before .before .before .read .ensures) ∙ ap lineIn (c .before .before .before .before .text .ensures)
+    let t = now (c .before .before .before .before .awaited-text .result) in
+    ap (λ r. lineRead r t) (sym (ap readSaid (c .before .enum-told .given .1)) ∙ c .before .before .before .read .ensures) ∙ ap lineIn (c .before .before .before .before .awaited-text .ensures)
 
 pub line-spec : {M : Type 1} → statement M
 line-spec =
     tie.close
     (tie.spec
-    text-requires
+    awaited-text-requires
     read-requires
     enum-known-first
     arguments-of-requires

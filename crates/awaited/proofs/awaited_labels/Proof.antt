@@ -6,8 +6,8 @@ use native.Mathlib.Omega.{arith}
 use Rattle.stanza.specs.Arguments.{countOf}
 use Rattle.stanza.proofs.Laws.Arguments.{words-some}
 use borrow.Author.Needs.{needs}
-use Rattle.awaited.proofs.labels.Statement.{statement}
-use Rattle.awaited.proofs.labels.Tie as tie
+use Rattle.awaited.proofs.awaited_labels.Statement.{statement}
+use Rattle.awaited.proofs.awaited_labels.Tie as tie
 
 line-requires : tie.Need-line-requires
 line-requires c κs = search needs
@@ -21,5 +21,5 @@ sub-result c = omega (arith, c .count .ensures, words-some (now (c .before .line
 returns : tie.Need-returns
 returns c = ap (λ n. n - 1) (c .count .ensures ∙ ap countOf (c .before .line .ensures))
 
-pub labels-spec : {M : Type 1} → statement M
-labels-spec = tie.close (tie.spec line-requires count-requires sub-result returns)
+pub awaited-labels-spec : {M : Type 1} → statement M
+awaited-labels-spec = tie.close (tie.spec line-requires count-requires sub-result returns)

@@ -4,8 +4,8 @@ use lib.ListN.{take}
 use denote.Ref.{now}
 use Rattle.awaited.proofs.Laws.Awaited.{front-within}
 use borrow.Author.Needs.{needs}
-use Rattle.awaited.proofs.text.Statement.{statement}
-use Rattle.awaited.proofs.text.Tie as tie
+use Rattle.awaited.proofs.awaited_text.Statement.{statement}
+use Rattle.awaited.proofs.awaited_text.Tie as tie
 
 enum-told : tie.Need-enum-told
 enum-told c = search needs
@@ -56,8 +56,8 @@ returns-4 c = rw (c .before .enum-told4 .given .1)
 returns-5 : tie.Need-returns-5
 returns-5 c = rw (c .before .enum-told5 .given .1)
 
-pub text-spec : {M : Type 1} → statement M
-text-spec =
+pub awaited-text-spec : {M : Type 1} → statement M
+awaited-text-spec =
     tie.close
     (tie.spec
     enum-told

@@ -8,11 +8,11 @@ use Rattle.conversation.specs.Calls.{bodyRead}
 use Rattle.awaited.specs.Awaited.{awaitedText, messageIn}
 use Rattle.awaited.proofs.Laws.Awaited.{nothing-written}
 use borrow.Author.Needs.{needs}
-use Rattle.awaited.proofs.message.Statement.{statement}
-use Rattle.awaited.proofs.message.Tie as tie
+use Rattle.awaited.proofs.awaited_message.Statement.{statement}
+use Rattle.awaited.proofs.awaited_message.Tie as tie
 
-text-requires : tie.Need-text-requires
-text-requires c κs = search needs
+awaited-text-requires : tie.Need-awaited-text-requires
+awaited-text-requires c κs = search needs
 
 read-requires : tie.Need-read-requires
 read-requires c κs = search needs
@@ -31,25 +31,25 @@ same-length c = search needs
 
 returns : tie.Need-returns
 returns c =
-    let t = now (c .before .before .before .before .before .before .before .before .text .result) in
+    let t = now (c .before .before .before .before .before .before .before .before .awaited-text .result) in
     let s = c .before .before .before .before .before .first .given .0 .0 in
     let z : bodyIn t s ≡ messageIn (awaitedText (c .before .before .before .before .before .before .before .before .before .before .before .args .session) (now (c .before .before .before .before .before .before .before .before .before .before .before .args .input))) =
-    ap (λ r. bodyRead r t) (sym (ap readSaid (c .before .before .before .before .before .first .given .1)) ∙ c .before .before .before .before .before .before .before .read .ensures) ∙ ap messageIn (c .before .before .before .before .before .before .before .before .text .ensures) in
+    ap (λ r. bodyRead r t) (sym (ap readSaid (c .before .before .before .before .before .first .given .1)) ∙ c .before .before .before .before .before .before .before .read .ensures) ∙ ap messageIn (c .before .before .before .before .before .before .before .before .awaited-text .ensures) in
     rw (← z) (c .before .before .body-of .ensures)
 
 returns-2 : tie.Need-returns-2
 returns-2 c =
     let a = c .before .before .before .before .before .before .args in
-    let t = now (c .before .before .before .text .result) in
+    let t = now (c .before .before .before .awaited-text .result) in
     let z : [] ≡ messageIn (awaitedText (a .session) (now (a .input))) =
-    ap (λ r. bodyRead r t) (sym (ap readSaid (c .enum-told .given .1)) ∙ c .before .before .read .ensures) ∙ ap messageIn (c .before .before .before .text .ensures) in
+    ap (λ r. bodyRead r t) (sym (ap readSaid (c .enum-told .given .1)) ∙ c .before .before .read .ensures) ∙ ap messageIn (c .before .before .before .awaited-text .ensures) in
     rw (← z) (nothing-written (now (a .out)))
 
-pub message-spec : {M : Type 1} → statement M
-message-spec =
+pub awaited-message-spec : {M : Type 1} → statement M
+awaited-message-spec =
     tie.close
     (tie.spec
-    text-requires
+    awaited-text-requires
     read-requires
     enum-known-first
     body-of-requires

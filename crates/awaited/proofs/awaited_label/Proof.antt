@@ -13,17 +13,17 @@ use Rattle.stanza.specs.Arguments.{argumentOf}
 use Rattle.awaited.specs.Awaited.{awaitedText, labelCount, labelIn, lineIn}
 use Rattle.awaited.proofs.Laws.Awaited.{nothing-written}
 use borrow.Author.Needs.{needs}
-use Rattle.awaited.proofs.label.Statement.{statement}
-use Rattle.awaited.proofs.label.Tie as tie
+use Rattle.awaited.proofs.awaited_label.Statement.{statement}
+use Rattle.awaited.proofs.awaited_label.Tie as tie
 
-labels-requires : tie.Need-labels-requires
-labels-requires c κs = search needs
+awaited-labels-requires : tie.Need-awaited-labels-requires
+awaited-labels-requires c κs = search needs
 
 returns : tie.Need-returns
 returns c =
     let a = c .before .before .before .before .args in
     let t = awaitedText (a .session) (now (a .input)) in
-    let z : ltb (a .n) (labelCount t) ≡ false = le-ltb (a .n) (labelCount t) (omega (arith, c .if1 .taken, c .before .labels .ensures)) in
+    let z : ltb (a .n) (labelCount t) ≡ false = le-ltb (a .n) (labelCount t) (omega (arith, c .if1 .taken, c .before .awaited-labels .ensures)) in
     rw z (nothing-written (now (a .out)))
 
 line-requires : tie.Need-line-requires
@@ -45,15 +45,15 @@ returns-2 : tie.Need-returns-2
 returns-2 c =
     let a = c .before .before .before .before .before .before .before .before .before .before .args in
     let t = awaitedText (a .session) (now (a .input)) in
-    let z : ltb (a .n) (labelCount t) ≡ true = lt-ltb (a .n) (labelCount t) (omega (arith, c .before .before .before .before .before .before .if1 .left, c .before .before .before .before .before .before .before .labels .ensures)) in
+    let z : ltb (a .n) (labelCount t) ≡ true = lt-ltb (a .n) (labelCount t) (omega (arith, c .before .before .before .before .before .before .if1 .left, c .before .before .before .before .before .before .before .awaited-labels .ensures)) in
     let y = c .before .before .before .before .argument .ensures ∙ ap (λ l. argumentOf l (a .n + 1)) (c .before .before .before .before .before .line .ensures) in
     rw (z, ← y) (c .before .before .decode .ensures)
 
-pub label-spec : {M : Type 1} → statement M
-label-spec =
+pub awaited-label-spec : {M : Type 1} → statement M
+awaited-label-spec =
     tie.close
     (tie.spec
-    labels-requires
+    awaited-labels-requires
     returns
     line-requires
     add-argument
