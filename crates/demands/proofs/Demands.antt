@@ -51,7 +51,7 @@ use Rattle.conversation.specs.Given.{GivenBack}
 use Rattle.conversation.specs.Kinds.{AnyKind, Buffers, tableOf, viewOf, ofFile}
 use Rattle.conversation.specs.Numbers.{Condition, orderOf, FirstOf, bufferFor}
 use Rattle.conversation.specs.PhaseTwo.{stanzasFor, hasKey, isHeldBack}
-use Rattle.conversation.specs.Phases.{All, Part, one-part, two-part, Phase, blocksOf, IsPhase, Supply, callsOf, LongEnough, Starts, JustDone, JustReceived, SameStart, Rearranged, SameOutcome, commandIn, textsOf, CallWith, afterEach, Whole}
+use Rattle.conversation.specs.Phases.{All, Part, one-part, two-part, Phase, blocksOf, IsPhase, Supply, callsOf, LongEnough, Starts, JustDone, JustReceived, SameStart, Rearranged, SameTables, SameOutcome, commandIn, textsOf, CallWith, afterEach, Whole}
 use Rattle.conversation.specs.ReceivingTwo.{writes, atOnce}
 use Rattle.conversation.specs.Receiving.{received}
 use Rattle.conversation.specs.Sending.{sent, shortness}
@@ -76,7 +76,7 @@ use Rattle.chunks.specs.Uncut.{Piece, isClosed, NoneHeldUp, isWaiting, alone, p
 use Rattle.chunks.specs.Calls as chunk-calls
 use Rattle.chunks.specs.Calls.{callsFor, lastFrom, AsCalls}
 use Rattle.chunks.specs.Reached.{AnyCall, sends-one, Has, intakeAfter, AnyWith, intakeAfterAll, Bounded, isIdle}
-use Rattle.chunks.specs.Orders.{IsCut, endOf, AllTaken, SameCuts}
+use Rattle.chunks.specs.Orders.{uncutCalls, rooms, IsCut, endOf, OneByOne, AllTaken, SameCuts}
 use Rattle.chunks.specs.AnyCalls.{afterAny, callsAll, ComesTo}
 use Rattle.chunks.specs.Sent.{sentAny, OfBytes, textSent, stanzasSent, textsSent}
 use Rattle.refusal.proofs.Laws.Output as outputs
@@ -113,6 +113,7 @@ use Rattle.chunks.proofs.Laws.AnyCalls as any-calls
 use Rattle.chunks.proofs.Laws.Calls as chunks-called
 use Rattle.chunks.proofs.Laws.Cut as cutting
 use Rattle.chunks.proofs.Laws.Finish as finishing
+use Rattle.chunks.proofs.Laws.Itself as itself
 use Rattle.chunks.proofs.Laws.Last as last-taken
 use Rattle.chunks.proofs.Laws.Orders as orders-of-cuts
 use Rattle.chunks.proofs.Laws.Prefix as prefixes
@@ -628,9 +629,20 @@ pub demand-3 : (part : Part) (x y : State) → Starts part (x .session) → Star
     IsCut (endOf part) (x .session) (x .buffers) cs (blocksOf p) → IsCut (endOf part) (y .session) (y .buffers) ds (blocksOf q) → SameCuts part x y p q cs ds
 demand-3 = orders-of-cuts.order-of-cuts
 
--- a stanza to a call, on which it rests: there calls refused with 14 are among the others
+-- a stanza to a call is the instance with one stanza to a chunk: so received, a phase's blocks are a cut of themselves
+pub demand-3-itself : (part : Part) (x : State) (p : Phase) → Starts part (x .session) → IsPhase part p → OneByOne part x p → IsCut (endOf part) (x .session) (x .buffers) (uncutCalls (blocksOf p)) (blocksOf p)
+demand-3-itself part x p st ph h = itself.blocks-cut part (x .session) (x .buffers) p st ph (h .none-held-up) (h .none-behind)
+
+-- .. and demand 3 of two such lists follows from it
 pub demand-3-stanzas : (part : Part) (x y : State) → Starts part (x .session) → Starts part (y .session) → SameStart part x y → (p q : Phase) → IsPhase part p → IsPhase part q →
+    Rearranged part (x .session .machine) (x .session .name) p q → OneByOne part x p → OneByOne part y q →
+    let cs = callsOf part rooms (blocksOf p) in let ds = callsOf part rooms (blocksOf q) in (Accepted (x .session) (x .buffers) cs ↔ Accepted (y .session) (y .buffers) ds)
+    × (Accepted (x .session) (x .buffers) cs → SameTables (after (x .session) (x .buffers) cs) (after (y .session) (y .buffers) ds))
+demand-3-stanzas = itself.order-of-stanzas
+
+-- what both rest on, as demand 3 was read before: a stanza to a call, of any output buffers that are long enough, calls refused with 14 among the others
+pub demand-3-calls : (part : Part) (x y : State) → Starts part (x .session) → Starts part (y .session) → SameStart part x y → (p q : Phase) → IsPhase part p → IsPhase part q →
     Rearranged part (x .session .machine) (x .session .name) p q → (outs outs′ : Supply) →
     LongEnough (x .session) (x .buffers) (callsOf part outs (blocksOf p)) → LongEnough (y .session) (y .buffers) (callsOf part outs′ (blocksOf q)) →
     SameOutcome part x y p q outs outs′
-demand-3-stanzas = ordering.order
+demand-3-calls = ordering.order

@@ -452,11 +452,11 @@ unfolding numbers NoneHeldUp
 none-behind e i b c cs o q h = subst (λ (o : Outcome). ((o .number ≡ 14 → ⊥) × (o .number ≡ 15 → ⊥)) × NoneHeldUp (numbers e (o .intake) (o .buffers) cs)) q h
 
 -- no call behind the end, from the second on
-none-behind-on : (e : End) (i : Intake) (b : Buffers) (c : Piece) (cs : List Piece) (o : Outcome) → outcomeOf e i b c ≡ o → NoneBehind e i b (c ∷ cs) → NoneBehind e (o .intake) (o .buffers) cs
+pub none-behind-on : (e : End) (i : Intake) (b : Buffers) (c : Piece) (cs : List Piece) (o : Outcome) → outcomeOf e i b c ≡ o → NoneBehind e i b (c ∷ cs) → NoneBehind e (o .intake) (o .buffers) cs
 unfolding NoneBehind
 none-behind-on e i b c cs o q h = subst (λ (o : Outcome). NoneBehind e (o .intake) (o .buffers) cs) q (h .1)
 
-closed-turn-of : (e : End) → turnOf e Closed ≡ 13
+pub closed-turn-of : (e : End) → turnOf e Closed ≡ 13
 closed-turn-of client = refl
 closed-turn-of plugin = refl
 

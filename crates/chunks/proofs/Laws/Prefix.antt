@@ -65,7 +65,7 @@ abbrev Faulty : ℕ → Type 0
 Faulty n = (closes n ≡ true) ⊎ ((n ≡ 13) ⊎ (n ≡ 14))
 
 -- what stands at a fault is refused with this number in a call of its own
-abbrev Refuses : End → Session → List ℕ → Buffers → List ℕ → ℕ → Type 0
+abbrev pub Refuses : End → Session → List ℕ → Buffers → List ℕ → ℕ → Type 0
 Refuses e s w b x n = outcomeOf e (emptied s w) b (alone x) .number ≡ n
 
 -- what a text came to, where the stanzas zs were taken before its fault
@@ -82,7 +82,7 @@ pub record Before (e : End) (s : Session) (w : List ℕ) (b : Buffers) (text : L
 
 module _ (e : End) (s : Session) (w : List ℕ) (b : Buffers) where
   -- bytes that are dropped
-  drops-number : (n : ℕ) (x : List ℕ) → turnAt e (s .phase) ≡ drops n → eqb (length x) 0 ≡ false → Refuses e s w b x n
+  pub drops-number : (n : ℕ) (x : List ℕ) → turnAt e (s .phase) ≡ drops n → eqb (length x) 0 ≡ false → Refuses e s w b x n
   drops-number n x h v =
       let by = ⊎-elim (λ (z : n ≡ 13). inr (turn-says e (s .phase) .ended (h ∙ ap drops z) .1 ∙ sym z)) (λ (z : n ≡ 14). ⊎-elim (λ y. inl y) (λ y. inr (y ∙ sym z)) (turn-says e (s .phase) .still (h ∙ ap drops z))) (turn-drops e (s .phase) n h) in
       ⊎-elim (λ (z : turnOf e (s .phase) ≡ 0). ap (λ (o : Outcome). o .number) (chunk-held e (emptied s w) b x room (noMore n (emptied s w) b) z (all (cut start [] x .texts) (cut start [] x .rest) (cut-joined x start [])) (omega arith) (omega arith)))
@@ -162,11 +162,11 @@ module _ (e : End) (s : Session) (w : List ℕ) (b : Buffers) where
         }
 
 -- a stanza has a byte
-empty-apart : {t : List ℕ} → IsWhole t → t ≡ [] → ⊥
+pub empty-apart : {t : List ℕ} → IsWhole t → t ≡ [] → ⊥
 unfolding cut
 empty-apart w z = let e = sym (ap (λ x. cut start [] x .texts) z) ∙ ap (λ c. c .texts) (w .alone) in let y : _≡_ {A = ℕ} 0 1 = cc in omega arith
 
-some : (t x : List ℕ) → (t ≡ [] → ⊥) → eqb (length (t ++ x)) 0 ≡ false
+pub some : (t x : List ℕ) → (t ≡ [] → ⊥) → eqb (length (t ++ x)) 0 ≡ false
 some [] x h = absurd (h refl)
 some (a ∷ t) x h = ne-eqb (length (a ∷ (t ++ x))) 0 (λ z. omega arith)
 
