@@ -1,5 +1,6 @@
 // The plugin end's receiving: the commands of phase one, and the client's responses in phase two.
+mod commands;
 mod receiving;
 mod responding;
 
-pub use receiving::receive;
+pub use commands::receive_text;
