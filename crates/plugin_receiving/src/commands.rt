@@ -77,7 +77,8 @@ fn settle_commands(so_far: Received, rest: &[u8], input: &mut [u8]) -> Received
     let session = so_far.session;
     match verdict {
         Verdict::Accepted => {
-            let turn = intake::turn_plugin(session.phase);
+            let phase = session.phase;
+            let turn = intake::turn_plugin(phase);
             intake::settle(so_far, turn, &[], rest, input)
         }
         Verdict::Refused(_) => {
@@ -118,7 +119,9 @@ pub fn receive_text(
     let mut at: usize = 0;
     loop {
         let session = answer.session;
-        let next = next_command(answer.verdict, session.phase, &text[at..]);
+        let phase = session.phase;
+        let verdict = answer.verdict;
+        let next = next_command(verdict, phase, &text[at..]);
         let First::Stanza(s) = next else {
             return settle_commands(answer, &text[at..], input);
         };

@@ -3,4 +3,5 @@ mod commands;
 mod receiving;
 mod responding;
 
+
 pub use commands::receive_text;

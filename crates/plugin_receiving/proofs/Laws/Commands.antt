@@ -1,0 +1,195 @@
+-- The commands of a text, one by one: what one comes to, and that what is left may be settled.
+use Prim.Native.Nat.{ℕ, _+_, _≤_}
+use mathlib.Core.Path.{_≡_, refl, sym, ap, subst, _∙_}
+use mathlib.Core.Bool.{Bool, true, false, false≢true}
+use mathlib.Core.List.{List, []}
+use lib.Dec.{eqb}
+use lib.ListN.{length, take, drop}
+use native.Mathlib.Omega.{arith}
+use borrow.Author.Tests.{eqb-true, eqb-false, le-ltb}
+use Rattle.refusal.specs.Number.{numberOf}
+use Rattle.refusal.specs.Output.{filled}
+use Rattle.refusal.specs.Pick.{pick}
+use Rattle.refusal.specs.Verdict.{verdictSaid}
+use Rattle.refusal.proofs.Laws.Number.{number-not-zero}
+use Rattle.base64.specs.Lines.{bodyOf}
+use Rattle.stanza.specs.Reading.{Reading, stanza, refused, readFirst}
+use Rattle.session.specs.Phases.{closes}
+use Rattle.session.specs.Session.{Session, sessionOf, closed}
+use Rattle.session.specs.declared.phases.Phase.{Phase}
+use Rattle.session.specs.declared.phases.Phase.the-variants.{One, Two, Awaiting, Ended, Closed}
+use Rattle.session.specs.declared.sessions.Session.{Session as CodeSession}
+use Rattle.phase_one.specs.Commands as one
+use Rattle.phase_one.specs.Commands.{CommandOne, WordOne, recipient, identity, key, header, done, other, bad, wordSaid}
+use Rattle.phase_one.specs.PhaseOne.{BuffersOne, commandIn, numberOne}
+use Rattle.phase_one.specs.Turns.{turnOne, phaseAfter}
+use Rattle.conversation.specs.Calls.{Outcome, receive, outcome, receivedOutcome, takingNumber, takingGiven}
+use Rattle.conversation.specs.Kinds.{Buffers, buffersOf}
+use Rattle.conversation.specs.PhaseTwo.{BuffersTwo}
+use Rattle.conversation.specs.Receiving.{Taking, took, declined, Received, received, receivedAs, receivedStanza}
+use Rattle.conversation.proofs.Laws.Receiving.{received-in-turn}
+use Rattle.conversation.proofs.Laws.Refusals.{either, refusal}
+use Rattle.chunks.specs.Taking.{client, plugin, Turn, reads, keeps-back, turnAt, stanzaCall, no-stanza, command, Taken, noMore, emptied, behind, oneMore, takenText}
+use Rattle.chunks.specs.Uncut.{isWaiting}
+use Rattle.chunks.proofs.Laws.Cases.{drops-not-reads, keeps-not-reads, keeps-not-drops}
+use Rattle.chunks.proofs.Laws.Texts.{stanzaTaken, text-stanza, behind-more}
+use Rattle.intake.specs.Intake.{lastSaid}
+use Rattle.intake.specs.Settling.{MaySettle}
+use Rattle.intake.specs.declared.answers.Received.{Received as CodeReceived}
+use Rattle.plugin_receiving.specs.Commands.{nextIn, answerBehind, comesTo, NoneDue}
+use Rattle.plugin_receiving.specs.Receiving.{takingSaid}
+use Rattle.plugin_receiving.specs.declared.receiving.Taking.{Taking as CodeTaking}
+use Rattle.plugin_receiving.specs.declared.receiving.Taking.the-variants as the
+
+-- ---- one command
+
+module _ (s : Session) (b : BuffersOne) (c : BuffersTwo) (x : List ℕ) (first : s .phase ≡ One) where
+  -- a text that is received in phase one
+  in-turn : outcome s (buffersOf b c) (stanzaCall plugin (s .phase) x) ≡ receivedOutcome c (receivedAs (readFirst x) s x b)
+  in-turn = ap (λ p. outcome s (buffersOf b c) (stanzaCall plugin p x)) first ∙ ap (receivedOutcome c) (sym (received-in-turn s x b (sym (ap turnOne first))))
+
+  module _ (l m k : ℕ) (h : readFirst x ≡ stanza l m k) (r : Received)
+      (is : r ≡ receivedStanza s b (drop 3 (take l x)) (bodyOf (drop (l + 1) (take k x))) k) where
+    call-is : outcome s (buffersOf b c) (stanzaCall plugin (s .phase) x) ≡ receivedOutcome c r
+    call-is = in-turn ∙ ap (receivedOutcome c) (ap (λ q. receivedAs q s x b) h ∙ sym is)
+
+    by-answer : (a : Taking) → r .answer ≡ a → takenText plugin s (buffersOf b c) [] x ≡
+        stanzaTaken plugin (buffersOf b c) (record {
+          number = takingNumber a;
+          given = takingGiven a;
+          session = r .session;
+          buffers = buffersOf (r .buffers) c;
+          output = [];
+          size = 0;
+        }) (take k x) (drop k x)
+    by-answer a e =
+        text-stanza plugin s (buffersOf b c) [] (ap (turnAt plugin) first) x l m k h
+        ∙ ap (λ o. stanzaTaken plugin (buffersOf b c) o (take k x) (drop k x)) call-is
+        ∙ ap (λ a. stanzaTaken plugin (buffersOf b c) (record {
+          number = takingNumber a;
+          given = takingGiven a;
+          session = r .session;
+          buffers = buffersOf (r .buffers) c;
+          output = [];
+          size = 0;
+        }) (take k x) (drop k x)) e
+
+    -- it is accepted
+    command-taken : (w : WordOne) (j : ℕ) → r .answer ≡ took w j →
+        takenText plugin s (buffersOf b c) [] x ≡
+        oneMore (command (one.textOfWord w)) [] (takenText plugin (r .session) (buffersOf (r .buffers) c) [] (drop k x))
+    command-taken w j e = by-answer (took w j) e
+
+    -- or refused: the buffers stay
+    command-refused : (n : ℕ) → eqb n 0 ≡ false → r .answer ≡ declined n →
+        takenText plugin s (buffersOf b c) [] x ≡ noMore n (emptied (r .session) []) (buffersOf (r .buffers) c)
+    command-refused n z e =
+        by-answer (declined n) e
+        ∙ ap (λ f. pick f (oneMore no-stanza [] (takenText plugin (r .session) (buffersOf (r .buffers) c) [] (drop k x)))
+        (noMore n (emptied (r .session) []) (buffersOf b c))) z
+        ∙ ap (noMore n (emptied (r .session) [])) (sym same)
+      where
+        same : buffersOf (r .buffers) c ≡ buffersOf b c
+        same =
+            let o = outcome s (buffersOf b c) (receive x) in
+            let e′ : o ≡ receivedOutcome c r = sym (ap (λ p. outcome s (buffersOf b c) (stanzaCall plugin p x)) first) ∙ call-is in
+            let n′ : o .number ≡ n = ap (λ (o : Outcome). o .number) e′ ∙ ap takingNumber e in
+            sym (ap (λ (o : Outcome). o .buffers) e′) ∙ refusal s (buffersOf b c) (receive x) (λ q. eqb-false n 0 z (sym n′ ∙ q)) .buffers
+
+    -- no response is due behind it
+    command-phase : isWaiting client (r .session .phase) ≡ false
+    unfolding receivedStanza
+    command-phase =
+        let line = drop 3 (take l x) in
+        let body = bodyOf (drop (l + 1) (take k x)) in
+        let n = numberOne (s .machine) (s .name) (s .tables) b 0 line body in
+        ap (λ (r : Received). isWaiting client (r .session .phase)) is
+        ∙ either (λ (r : Received). isWaiting client (r .session .phase) ≡ false) (eqb n 0) _ _ (after (commandIn (s .machine) (s .name) line body))
+        (either (λ (s : Session). isWaiting client (s .phase) ≡ false) (closes n) (closed s) s refl (ap (isWaiting client) first))
+      where
+        after : (d : CommandOne) → isWaiting client (phaseAfter d) ≡ false
+        after (recipient m) = refl
+        after (identity m) = refl
+        after key = refl
+        after (header i m) = refl
+        after done = refl
+        after other = refl
+        after (bad n) = refl
+
+-- .. behind the commands of an answer
+module _ (r : CodeReceived) (xs hs xs′ hs′ : List (List ℕ)) (b b′ : BuffersOne) (x : List ℕ) (l m k : ℕ) (answer : CodeTaking) (after : CodeSession)
+    (accepted : verdictSaid (r .verdict) ≡ 0) (first : r .session .phase ≡ One) (h : readFirst x ≡ stanza l m k)
+    (is : record { answer = takingSaid answer; session = sessionOf after xs′ hs′; buffers = b′ } ≡
+        receivedStanza (sessionOf (r .session) xs hs) b (drop 3 (take l x)) (bodyOf (drop (l + 1) (take k x))) k) where
+  pub comes-on : (c : BuffersTwo) →
+      comesTo r xs hs (buffersOf b c) x ≡ comesTo (answerBehind r answer after) xs′ hs′ (buffersOf b′ c) (drop k x)
+  comes-on c = going ∙ by answer is
+    where
+      going : comesTo r xs hs (buffersOf b c) x ≡ behind (r .count) (lastSaid (r .last)) [] (takenText plugin (sessionOf (r .session) xs hs) (buffersOf b c) [] x)
+      going = ap (λ n. behind (r .count) (lastSaid (r .last)) [] (pick (eqb n 0) (takenText plugin (sessionOf (r .session) xs hs) (buffersOf b c) [] x) (noMore n (emptied (sessionOf (r .session) xs hs) []) (buffersOf b c)))) accepted
+
+      by : (a : CodeTaking) → record { answer = takingSaid a; session = sessionOf after xs′ hs′; buffers = b′ } ≡
+          receivedStanza (sessionOf (r .session) xs hs) b (drop 3 (take l x)) (bodyOf (drop (l + 1) (take k x))) k →
+          behind (r .count) (lastSaid (r .last)) [] (takenText plugin (sessionOf (r .session) xs hs) (buffersOf b c) [] x) ≡
+          comesTo (answerBehind r a after) xs′ hs′ (buffersOf b′ c) (drop k x)
+      by (the.Command w j) is =
+          ap (behind (r .count) (lastSaid (r .last)) [])
+          (command-taken (sessionOf (r .session) xs hs) b c x first l m k h (record { answer = took (wordSaid w) j; session = sessionOf after xs′ hs′; buffers = b′ }) is (wordSaid w) j refl)
+          ∙ behind-more (r .count) (lastSaid (r .last)) (command (one.textOfWord (wordSaid w))) [] [] (takenText plugin (sessionOf after xs′ hs′) (buffersOf b′ c) [] (drop k x))
+      by (the.Refused q) is =
+          ap (behind (r .count) (lastSaid (r .last)) [])
+          (command-refused (sessionOf (r .session) xs hs) b c x first l m k h (record { answer = declined (numberOf q); session = sessionOf after xs′ hs′; buffers = b′ }) is (numberOf q) (number-not-zero q) refl)
+          ∙ ap (λ f. behind (r .count) (lastSaid (r .last)) [] (pick f (takenText plugin (sessionOf after xs′ hs′) (buffersOf b′ c) [] (drop k x)) (noMore (numberOf q) (emptied (sessionOf after xs′ hs′) []) (buffersOf b′ c)))) (sym (number-not-zero q))
+
+  pub none-due-on : (c : BuffersTwo) → NoneDue (answerBehind r answer after)
+  none-due-on c = by answer is
+    where
+      by : (a : CodeTaking) → record { answer = takingSaid a; session = sessionOf after xs′ hs′; buffers = b′ } ≡
+          receivedStanza (sessionOf (r .session) xs hs) b (drop 3 (take l x)) (bodyOf (drop (l + 1) (take k x))) k → NoneDue (answerBehind r a after)
+      by (the.Command w j) is z = command-phase (sessionOf (r .session) xs hs) b c x first l m k h _ is
+      by (the.Refused q) is z = command-phase (sessionOf (r .session) xs hs) b c x first l m k h _ is
+
+-- ---- what is left
+
+-- the next command is a whole stanza, in phase one and behind no refusal
+pub next-stanza : (n : ℕ) (p : Phase) (q : Reading) (l m k : ℕ) → stanza l m k ≡ nextIn n p q → (n ≡ 0) × (p ≡ One) × (q ≡ stanza l m k)
+next-stanza n p q l m k e = go (eqb n 0) refl p e
+  where
+    go : (f : Bool) → eqb n 0 ≡ f → (p : Phase) → stanza l m k ≡ pick f (pick (eqb (turnOne p) 0) q (refused (turnOne p))) (refused n) →
+        (n ≡ 0) × (p ≡ One) × (q ≡ stanza l m k)
+    go true f One e = (eqb-true n 0 f, refl, sym e)
+    go true f Two e = let z : _≡_ {A = ℕ} 0 1 = cc in absurd (omega arith)
+    go true f (Awaiting w) e = let z : _≡_ {A = ℕ} 0 1 = cc in absurd (omega arith)
+    go true f Ended e = let z : _≡_ {A = ℕ} 0 1 = cc in absurd (omega arith)
+    go true f Closed e = let z : _≡_ {A = ℕ} 0 1 = cc in absurd (omega arith)
+    go false f p e = let z : _≡_ {A = ℕ} 0 1 = cc in absurd (omega arith)
+
+-- where there is none, what is left may be settled
+pub may-settle : (p : Phase) (t : Turn) (rest input : List ℕ) → isWaiting client p ≡ false → t ≡ turnAt plugin p → 8192 ≤ length input →
+    ((l m k : ℕ) → nextIn 0 p (readFirst rest) ≡ stanza l m k → ⊥) → MaySettle plugin p t [] rest input
+may-settle p t rest input w e long none = record {
+  turn = sym e;
+  none-waits = λ k. refl;
+  no-stanza = λ r. go p (sym e ∙ r) w none;
+  short = λ k. absurd (plugin-keeps p (sym e ∙ k));
+  long = long;
+}
+  where
+    go : (p : Phase) → turnAt plugin p ≡ reads → isWaiting client p ≡ false → ((l m k : ℕ) → nextIn 0 p (readFirst rest) ≡ stanza l m k → ⊥) →
+        (l m k : ℕ) → readFirst rest ≡ stanza l m k → ⊥
+    go One t w none = none
+    go Two t w none = absurd (drops-not-reads 14 t)
+    go (Awaiting x) t w none = absurd (false≢true (sym w))
+    go Ended t w none = absurd (drops-not-reads 13 t)
+    go Closed t w none = absurd (drops-not-reads 13 t)
+
+    plugin-keeps : (p : Phase) → turnAt plugin p ≡ keeps-back → ⊥
+    plugin-keeps One h = keeps-not-reads (sym h)
+    plugin-keeps Two h = keeps-not-drops 14 (sym h)
+    plugin-keeps (Awaiting w) h = keeps-not-reads (sym h)
+    plugin-keeps Ended h = keeps-not-drops 13 (sym h)
+    plugin-keeps Closed h = keeps-not-drops 13 (sym h)
+
+-- nothing is kept, and the input is as it was
+pub filled-nothing : (input : List ℕ) → input ≡ filled [] input
+filled-nothing input = rw (le-ltb (length input) 0 (omega arith))
