@@ -11,9 +11,12 @@ use Rattle.refusal.specs.Number.{numberOf}
 use Rattle.refusal.specs.Output.{filled}
 use Rattle.refusal.specs.Pick.{pick}
 use Rattle.refusal.specs.Verdict.{verdictSaid}
+use Rattle.refusal.specs.declared.Refusal.{Refusal}
+use Rattle.refusal.specs.declared.Verdict.the-variants as the-verdict
 use Rattle.refusal.proofs.Laws.Number.{number-not-zero}
 use Rattle.base64.specs.Lines.{bodyOf}
 use Rattle.stanza.specs.Reading.{Reading, stanza, refused, readFirst}
+use Rattle.stanza.specs.declared.places.Place.the-variants.{Start}
 use Rattle.session.specs.Phases.{closes}
 use Rattle.session.specs.Session.{Session, sessionOf, closed}
 use Rattle.session.specs.declared.phases.Phase.{Phase}
@@ -33,8 +36,8 @@ use Rattle.chunks.specs.Taking.{client, plugin, Turn, reads, keeps-back, turnAt
 use Rattle.chunks.specs.Uncut.{isWaiting}
 use Rattle.chunks.proofs.Laws.Cases.{drops-not-reads, keeps-not-reads, keeps-not-drops}
 use Rattle.chunks.proofs.Laws.Texts.{stanzaTaken, text-stanza, behind-more}
-use Rattle.intake.specs.Intake.{lastSaid}
-use Rattle.intake.specs.Settling.{MaySettle}
+use Rattle.intake.specs.Intake.{intakeOf, storedIn, lastSaid}
+use Rattle.intake.specs.Settling.{MaySettle, Says}
 use Rattle.intake.specs.declared.answers.Received.{Received as CodeReceived}
 use Rattle.plugin_receiving.specs.Commands.{nextIn, answerBehind, comesTo, NoneDue}
 use Rattle.plugin_receiving.specs.Receiving.{takingSaid}
@@ -96,32 +99,31 @@ module _ (s : Session) (b : BuffersOne) (c : BuffersTwo) (x : List ℕ) (first :
             let n′ : o .number ≡ n = ap (λ (o : Outcome). o .number) e′ ∙ ap takingNumber e in
             sym (ap (λ (o : Outcome). o .buffers) e′) ∙ refusal s (buffersOf b c) (receive x) (λ q. eqb-false n 0 z (sym n′ ∙ q)) .buffers
 
-    -- no response is due behind it
-    command-phase : isWaiting client (r .session .phase) ≡ false
-    unfolding receivedStanza
-    command-phase =
-        let line = drop 3 (take l x) in
-        let body = bodyOf (drop (l + 1) (take k x)) in
-        let n = numberOne (s .machine) (s .name) (s .tables) b 0 line body in
-        ap (λ (r : Received). isWaiting client (r .session .phase)) is
-        ∙ either (λ (r : Received). isWaiting client (r .session .phase) ≡ false) (eqb n 0) _ _ (after (commandIn (s .machine) (s .name) line body))
-        (either (λ (s : Session). isWaiting client (s .phase) ≡ false) (closes n) (closed s) s refl (ap (isWaiting client) first))
-      where
-        after : (d : CommandOne) → isWaiting client (phaseAfter d) ≡ false
-        after (recipient m) = refl
-        after (identity m) = refl
-        after key = refl
-        after (header i m) = refl
-        after done = refl
-        after other = refl
-        after (bad n) = refl
+-- no response is due behind it
+command-phase : (s : Session) (b : BuffersOne) (line body : List ℕ) (k : ℕ) (r : Received) → s .phase ≡ One → r ≡ receivedStanza s b line body k →
+    isWaiting client (r .session .phase) ≡ false
+unfolding receivedStanza
+command-phase s b line body k r first is =
+    let n = numberOne (s .machine) (s .name) (s .tables) b 0 line body in
+    ap (λ (r : Received). isWaiting client (r .session .phase)) is
+    ∙ either (λ (r : Received). isWaiting client (r .session .phase) ≡ false) (eqb n 0) _ _ (after (commandIn (s .machine) (s .name) line body))
+    (either (λ (s : Session). isWaiting client (s .phase) ≡ false) (closes n) (closed s) s refl (ap (isWaiting client) first))
+  where
+    after : (d : CommandOne) → isWaiting client (phaseAfter d) ≡ false
+    after (recipient m) = refl
+    after (identity m) = refl
+    after key = refl
+    after (header i m) = refl
+    after done = refl
+    after other = refl
+    after (bad n) = refl
 
 -- .. behind the commands of an answer
 module _ (r : CodeReceived) (xs hs xs′ hs′ : List (List ℕ)) (b b′ : BuffersOne) (x : List ℕ) (l m k : ℕ) (answer : CodeTaking) (after : CodeSession)
     (accepted : verdictSaid (r .verdict) ≡ 0) (first : r .session .phase ≡ One) (h : readFirst x ≡ stanza l m k)
     (is : record { answer = takingSaid answer; session = sessionOf after xs′ hs′; buffers = b′ } ≡
         receivedStanza (sessionOf (r .session) xs hs) b (drop 3 (take l x)) (bodyOf (drop (l + 1) (take k x))) k) where
-  pub comes-on : (c : BuffersTwo) →
+  comes-on : (c : BuffersTwo) →
       comesTo r xs hs (buffersOf b c) x ≡ comesTo (answerBehind r answer after) xs′ hs′ (buffersOf b′ c) (drop k x)
   comes-on c = going ∙ by answer is
     where
@@ -141,13 +143,12 @@ module _ (r : CodeReceived) (xs hs xs′ hs′ : List (List ℕ)) (b b′ : Buff
           (command-refused (sessionOf (r .session) xs hs) b c x first l m k h (record { answer = declined (numberOf q); session = sessionOf after xs′ hs′; buffers = b′ }) is (numberOf q) (number-not-zero q) refl)
           ∙ ap (λ f. behind (r .count) (lastSaid (r .last)) [] (pick f (takenText plugin (sessionOf after xs′ hs′) (buffersOf b′ c) [] (drop k x)) (noMore (numberOf q) (emptied (sessionOf after xs′ hs′) []) (buffersOf b′ c)))) (sym (number-not-zero q))
 
-  pub none-due-on : (c : BuffersTwo) → NoneDue (answerBehind r answer after)
-  none-due-on c = by answer is
+  none-due-on : NoneDue (answerBehind r answer after)
+  none-due-on = by answer (command-phase (sessionOf (r .session) xs hs) b (drop 3 (take l x)) (bodyOf (drop (l + 1) (take k x))) k _ first is)
     where
-      by : (a : CodeTaking) → record { answer = takingSaid a; session = sessionOf after xs′ hs′; buffers = b′ } ≡
-          receivedStanza (sessionOf (r .session) xs hs) b (drop 3 (take l x)) (bodyOf (drop (l + 1) (take k x))) k → NoneDue (answerBehind r a after)
-      by (the.Command w j) is z = command-phase (sessionOf (r .session) xs hs) b c x first l m k h _ is
-      by (the.Refused q) is z = command-phase (sessionOf (r .session) xs hs) b c x first l m k h _ is
+      by : (a : CodeTaking) → isWaiting client (after .phase) ≡ false → NoneDue (answerBehind r a after)
+      by (the.Command w j) e z = e
+      by (the.Refused q) e z = e
 
 -- ---- what is left
 
@@ -164,13 +165,50 @@ next-stanza n p q l m k e = go (eqb n 0) refl p e
     go true f Closed e = let z : _≡_ {A = ℕ} 0 1 = cc in absurd (omega arith)
     go false f p e = let z : _≡_ {A = ℕ} 0 1 = cc in absurd (omega arith)
 
+-- what it does to an answer
+pub record Stepped (r r′ : CodeReceived) (xs hs xs′ hs′ : List (List ℕ)) (b b′ : BuffersOne) (x : List ℕ) (k : ℕ) (after : CodeSession) : Type 0 where
+  pub comes : (c : BuffersTwo) → comesTo r xs hs (buffersOf b c) x ≡ comesTo r′ xs′ hs′ (buffersOf b′ c) (drop k x)
+  pub none-due : NoneDue r′
+  pub count : r′ .count ≤ r .count + 1
+  pub written : r′ .written ≡ r .written
+  pub session : r′ .session ≡ after
+
+pub stepped : (r r′ : CodeReceived) (xs hs xs′ hs′ : List (List ℕ)) (b b′ : BuffersOne) (x : List ℕ) (l m k : ℕ) (answer : CodeTaking) (after : CodeSession) →
+    verdictSaid (r .verdict) ≡ 0 → r .session .phase ≡ One → readFirst x ≡ stanza l m k →
+    record { answer = takingSaid answer; session = sessionOf after xs′ hs′; buffers = b′ } ≡
+        receivedStanza (sessionOf (r .session) xs hs) b (drop 3 (take l x)) (bodyOf (drop (l + 1) (take k x))) k →
+    r′ ≡ answerBehind r answer after → Stepped r r′ xs hs xs′ hs′ b b′ x k after
+stepped r r′ xs hs xs′ hs′ b b′ x l m k answer after accepted first h is e =
+    subst (λ z. Stepped r z xs hs xs′ hs′ b b′ x k after) (sym e) (record {
+      comes = comes-on r xs hs xs′ hs′ b b′ x l m k answer after accepted first h is;
+      none-due = none-due-on r xs hs xs′ hs′ b b′ x l m k answer after accepted first h is;
+      count = count answer;
+      written = written answer;
+      session = session answer;
+    })
+  where
+    count : (a : CodeTaking) → answerBehind r a after .count ≤ r .count + 1
+    count (the.Command w j) = omega arith
+    count (the.Refused q) = omega arith
+
+    written : (a : CodeTaking) → answerBehind r a after .written ≡ r .written
+    written (the.Command w j) = refl
+    written (the.Refused q) = refl
+
+    session : (a : CodeTaking) → answerBehind r a after .session ≡ after
+    session (the.Command w j) = refl
+    session (the.Refused q) = refl
+
+pub stanza-not-refused : (n l m k : ℕ) → refused n ≡ stanza l m k → ⊥
+stanza-not-refused n l m k e = let z : _≡_ {A = ℕ} 0 1 = cc in omega arith
+
 -- where there is none, what is left may be settled
-pub may-settle : (p : Phase) (t : Turn) (rest input : List ℕ) → isWaiting client p ≡ false → t ≡ turnAt plugin p → 8192 ≤ length input →
-    ((l m k : ℕ) → nextIn 0 p (readFirst rest) ≡ stanza l m k → ⊥) → MaySettle plugin p t [] rest input
-may-settle p t rest input w e long none = record {
+pub may-settle : (n : ℕ) (p : Phase) (t : Turn) (rest input : List ℕ) → n ≡ 0 → (n ≡ 0 → isWaiting client p ≡ false) → t ≡ turnAt plugin p →
+    8192 ≤ length input → ((l m k : ℕ) → nextIn n p (readFirst rest) ≡ stanza l m k → ⊥) → MaySettle plugin p t [] rest input
+may-settle n p t rest input z w e long none = record {
   turn = sym e;
   none-waits = λ k. refl;
-  no-stanza = λ r. go p (sym e ∙ r) w none;
+  no-stanza = λ r. go p (sym e ∙ r) (w z) (subst (λ n. (l m k : ℕ) → nextIn n p (readFirst rest) ≡ stanza l m k → ⊥) z none);
   short = λ k. absurd (plugin-keeps p (sym e ∙ k));
   long = long;
 }
@@ -193,3 +231,32 @@ may-settle p t rest input w e long none = record {
 -- nothing is kept, and the input is as it was
 pub filled-nothing : (input : List ℕ) → input ≡ filled [] input
 filled-nothing input = rw (le-ltb (length input) 0 (omega arith))
+
+-- nothing is taken behind a refusal, and nothing is kept
+pub refusal-stands : (r : CodeReceived) (q : Refusal) (s : CodeSession) (xs hs : List (List ℕ)) (b : Buffers) (input rest : List ℕ) → r .verdict ≡ the-verdict.Refused q →
+    s ≡ record {
+      machine = r .session .machine;
+      phase = r .session .phase;
+      screen = r .session .screen;
+      name = r .session .name;
+      tables = r .session .tables;
+      reading = Start;
+      kept = 0;
+      awaited = 0;
+    } → Says plugin (record { verdict = r .verdict; count = r .count; last = r .last; written = r .written; session = s }) xs hs input input [] b (comesTo r xs hs b rest)
+refusal-stands r q s xs hs b input rest v e = record { taken = rw (e, v, number-not-zero q) (ap (λ n. at n) (omega arith)); input = rw e (filled-nothing input) }
+  where
+    at : ℕ → Taken
+    at n = record {
+      number = numberOf q;
+      count = n;
+      last = lastSaid (r .last);
+      written = [];
+      intake = emptied (sessionOf (r .session) xs hs) [];
+      buffers = b;
+    }
+
+-- an answer that says one thing says what is the same
+pub says-same : (r : CodeReceived) (xs hs : List (List ℕ)) (before before′ after : List ℕ) (b : Buffers) (t t′ : Taken) → before ≡ before′ → t ≡ t′ →
+    Says plugin r xs hs before after [] b t → Says plugin r xs hs before′ after [] b t′
+says-same r xs hs before before′ after b t t′ i e h = record { taken = h .taken ∙ e; input = h .input ∙ ap (storedIn (intakeOf plugin (r .session) xs hs after)) i }
