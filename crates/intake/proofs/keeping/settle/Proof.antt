@@ -53,8 +53,8 @@ same-length-2 : tie.Need-same-length-2
 same-length-2 c = search needs
 
 returns-3 : tie.Need-returns-3
-returns-3 c = (
-  (λ e xs hs w b m. c .before .before .settle-back .ensures .0 e xs hs w b (subst (λ t. MaySettle e _ t _ _ _) (ap turnSaid (c .before .before .before .before .enum-told2 .given .1)) m)),
+returns-3 c = let a = c .before .before .before .before .before .before .before .before .before .args in (
+  (λ e xs hs w b m. c .before .before .settle-back .ensures .0 e xs hs w b (subst (λ t. MaySettle e (a .so-far .session .phase) t (now (a .awaited)) (now (a .rest)) (now (a .input))) (ap turnSaid (c .before .before .before .before .enum-told2 .given .1)) m)),
   c .before .before .settle-back .ensures .1,
 )
 
