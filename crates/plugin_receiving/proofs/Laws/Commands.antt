@@ -1,10 +1,11 @@
 -- The commands of a text, one by one: what one comes to, and that what is left may be settled.
-use Prim.Native.Nat.{ℕ, _+_, _≤_}
+use Prim.Native.Nat.{ℕ, _+_, _-_, _≤_}
 use mathlib.Core.Path.{_≡_, refl, sym, ap, subst, _∙_}
 use mathlib.Core.Bool.{Bool, true, false, false≢true}
 use mathlib.Core.List.{List, []}
 use lib.Dec.{eqb}
-use lib.ListN.{length, take, drop}
+use lib.ListN.{length, take, drop, length-drop}
+use lib.Seq.{take-all, drop-drop}
 use native.Mathlib.Omega.{arith}
 use borrow.Author.Tests.{eqb-true, eqb-false, le-ltb}
 use Rattle.refusal.specs.Number.{numberOf}
@@ -16,7 +17,10 @@ use Rattle.refusal.specs.declared.Verdict.the-variants as the-verdict
 use Rattle.refusal.proofs.Laws.Number.{number-not-zero}
 use Rattle.base64.specs.Lines.{bodyOf}
 use Rattle.stanza.specs.Reading.{Reading, stanza, refused, readFirst}
+use Rattle.stanza.specs.Parts.{argumentsIn, bodyIn}
 use Rattle.stanza.specs.declared.places.Place.the-variants.{Start}
+use Rattle.stanza.specs.declared.reading.Stanza.{Stanza}
+use Rattle.stanza.proofs.Laws.Exact.{taken-iff}
 use Rattle.session.specs.Phases.{closes}
 use Rattle.session.specs.Session.{Session, sessionOf, closed}
 use Rattle.session.specs.declared.phases.Phase.{Phase}
@@ -34,6 +38,7 @@ use Rattle.conversation.proofs.Laws.Receiving.{received-in-turn}
 use Rattle.conversation.proofs.Laws.Refusals.{either, refusal}
 use Rattle.chunks.specs.Taking.{client, plugin, Turn, reads, keeps-back, turnAt, stanzaCall, no-stanza, command, Taken, noMore, emptied, behind, oneMore, takenText}
 use Rattle.chunks.specs.Uncut.{isWaiting}
+use Rattle.chunks.proofs.Laws.Bounds.{stanza-long}
 use Rattle.chunks.proofs.Laws.Cases.{drops-not-reads, keeps-not-reads, keeps-not-drops}
 use Rattle.chunks.proofs.Laws.Texts.{stanzaTaken, text-stanza, behind-more}
 use Rattle.intake.specs.Intake.{intakeOf, storedIn, lastSaid}
@@ -166,14 +171,14 @@ next-stanza n p q l m k e = go (eqb n 0) refl p e
     go false f p e = let z : _≡_ {A = ℕ} 0 1 = cc in absurd (omega arith)
 
 -- what it does to an answer
-pub record Stepped (r r′ : CodeReceived) (xs hs xs′ hs′ : List (List ℕ)) (b b′ : BuffersOne) (x : List ℕ) (k : ℕ) (after : CodeSession) : Type 0 where
-  pub comes : (c : BuffersTwo) → comesTo r xs hs (buffersOf b c) x ≡ comesTo r′ xs′ hs′ (buffersOf b′ c) (drop k x)
-  pub none-due : NoneDue r′
-  pub count : r′ .count ≤ r .count + 1
-  pub written : r′ .written ≡ r .written
-  pub session : r′ .session ≡ after
+record Stepped (r r′ : CodeReceived) (xs hs xs′ hs′ : List (List ℕ)) (b b′ : BuffersOne) (x : List ℕ) (k : ℕ) (after : CodeSession) : Type 0 where
+  comes : (c : BuffersTwo) → comesTo r xs hs (buffersOf b c) x ≡ comesTo r′ xs′ hs′ (buffersOf b′ c) (drop k x)
+  none-due : NoneDue r′
+  count : r′ .count ≤ r .count + 1
+  written : r′ .written ≡ r .written
+  session : r′ .session ≡ after
 
-pub stepped : (r r′ : CodeReceived) (xs hs xs′ hs′ : List (List ℕ)) (b b′ : BuffersOne) (x : List ℕ) (l m k : ℕ) (answer : CodeTaking) (after : CodeSession) →
+stepped : (r r′ : CodeReceived) (xs hs xs′ hs′ : List (List ℕ)) (b b′ : BuffersOne) (x : List ℕ) (l m k : ℕ) (answer : CodeTaking) (after : CodeSession) →
     verdictSaid (r .verdict) ≡ 0 → r .session .phase ≡ One → readFirst x ≡ stanza l m k →
     record { answer = takingSaid answer; session = sessionOf after xs′ hs′; buffers = b′ } ≡
         receivedStanza (sessionOf (r .session) xs hs) b (drop 3 (take l x)) (bodyOf (drop (l + 1) (take k x))) k →
@@ -198,6 +203,49 @@ stepped r r′ xs hs xs′ hs′ b b′ x l m k answer after accepted first h is
     session : (a : CodeTaking) → answerBehind r a after .session ≡ after
     session (the.Command w j) = refl
     session (the.Refused q) = refl
+
+-- the part of a text from a place on
+pub part-is : (text : List ℕ) (at : ℕ) → take (length text - at) (drop at text) ≡ drop at text
+part-is text at = take-all (length text - at) (drop at text) (omega (arith, length-drop at text))
+
+-- the stanza that stands at a place of a text
+pub record Advanced (r r′ : CodeReceived) (xs hs xs′ hs′ : List (List ℕ)) (b b′ : BuffersOne) (text : List ℕ) (at k : ℕ) (after : CodeSession) : Type 0 where
+  pub within : at + k ≤ length text
+  pub long : 6 ≤ k
+  pub comes : (c : BuffersTwo) → comesTo r xs hs (buffersOf b c) (drop at text) ≡ comesTo r′ xs′ hs′ (buffersOf b′ c) (drop (at + k) text)
+  pub none-due : NoneDue r′
+  pub count : r′ .count ≤ r .count + 1
+  pub written : r′ .written ≡ r .written
+  pub session : r′ .session ≡ after
+
+module _ (r : CodeReceived) (text : List ℕ) (at : ℕ) (in-text : at ≤ length text) (s : Stanza)
+    (found : stanza (s .line) (s .body) (s .taken) ≡ nextIn (verdictSaid (r .verdict)) (r .session .phase) (readFirst (take (length text - at) (drop at text)))) where
+  abbrev x : List ℕ
+  x = take (length text - at) (drop at text)
+
+  reads-so : readFirst x ≡ stanza (s .line) (s .body) (s .taken)
+  reads-so = next-stanza (verdictSaid (r .verdict)) (r .session .phase) (readFirst x) (s .line) (s .body) (s .taken) found .2
+
+  pub stanza-within : at + s .taken ≤ length text
+  stanza-within = omega (arith, taken-iff x (s .taken) .0 (s .line, s .body, reads-so) .within, ap length (part-is text at), length-drop at text)
+
+  pub advanced : (r′ : CodeReceived) (xs hs xs′ hs′ : List (List ℕ)) (b b′ : BuffersOne) (answer : CodeTaking) (after : CodeSession) →
+      record { answer = takingSaid answer; session = sessionOf after xs′ hs′; buffers = b′ } ≡
+          receivedStanza (sessionOf (r .session) xs hs) b (argumentsIn x s) (bodyIn x s) (s .taken) →
+      r′ ≡ answerBehind r answer after → Advanced r r′ xs hs xs′ hs′ b b′ text at (s .taken) after
+  advanced r′ xs hs xs′ hs′ b b′ answer after is e =
+      let f = next-stanza (verdictSaid (r .verdict)) (r .session .phase) (readFirst x) (s .line) (s .body) (s .taken) found in
+      let z = stepped r r′ xs hs xs′ hs′ b b′ x (s .line) (s .body) (s .taken) answer after (f .0) (f .1) reads-so is e in
+      record {
+        within = stanza-within;
+        long = stanza-long x (s .line) (s .body) (s .taken) reads-so;
+        comes = λ c. ap (comesTo r xs hs (buffersOf b c)) (sym (part-is text at)) ∙ z .comes c
+            ∙ ap (comesTo r′ xs′ hs′ (buffersOf b′ c)) (ap (drop (s .taken)) (part-is text at) ∙ drop-drop (s .taken) at text);
+        none-due = z .none-due;
+        count = z .count;
+        written = z .written;
+        session = z .session;
+      }
 
 pub stanza-not-refused : (n l m k : ℕ) → refused n ≡ stanza l m k → ⊥
 stanza-not-refused n l m k e = let z : _≡_ {A = ℕ} 0 1 = cc in omega arith

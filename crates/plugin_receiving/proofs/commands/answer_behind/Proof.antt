@@ -1,8 +1,6 @@
 use borrow.Author.Needs.{needs}
 use Rattle.plugin_receiving.proofs.commands.answer_behind.Statement.{statement}
 use Rattle.plugin_receiving.proofs.commands.answer_behind.Tie as tie
-use Rattle.plugin_receiving.proofs.commands.answer_behind.Reads as reads
-use Rattle.plugin_receiving.proofs.commands.answer_behind.Lts as lts
 
 -- src/commands.rt:47:25
 enum-known-answer : tie.Need-enum-known-answer

@@ -4,10 +4,6 @@ use Rattle.refusal.specs.Verdict.{verdictSaid}
 use Rattle.refusal.proofs.Laws.Number.{number-not-zero}
 use Rattle.plugin_receiving.proofs.commands.next_command.Statement.{statement}
 use Rattle.plugin_receiving.proofs.commands.next_command.Tie as tie
-use Rattle.plugin_receiving.proofs.commands.next_command.Reads as reads
-use Rattle.plugin_receiving.proofs.commands.next_command.Lts as lts
-use Rattle.phase_one.proofs.turn_one.Reads as turn-one-reads
-use Rattle.stanza.proofs.read.Reads as read-reads
 
 -- src/commands.rt:29:29
 enum-known-verdict : tie.Need-enum-known-verdict

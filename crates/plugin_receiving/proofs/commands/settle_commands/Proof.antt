@@ -9,11 +9,6 @@ use Rattle.intake.specs.Turns.{turnSaid}
 use Rattle.plugin_receiving.proofs.Laws.Commands.{may-settle, refusal-stands}
 use Rattle.plugin_receiving.proofs.commands.settle_commands.Statement.{statement}
 use Rattle.plugin_receiving.proofs.commands.settle_commands.Tie as tie
-use Rattle.plugin_receiving.proofs.commands.settle_commands.Reads as reads
-use Rattle.plugin_receiving.proofs.commands.settle_commands.Lts as lts
-use Rattle.intake.proofs.turn_plugin.Reads as turn-plugin-reads
-use Rattle.intake.proofs.keeping.settle.Reads as settle-reads
-use Rattle.session.proofs.Session.keeping.Reads as keeping-reads
 
 -- src/commands.rt:80:17
 enum-told : tie.Need-enum-told
