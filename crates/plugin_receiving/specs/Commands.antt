@@ -8,6 +8,8 @@ use Rattle.refusal.specs.Pick.{pick}
 use Rattle.refusal.specs.Verdict.{verdictSaid}
 use Rattle.refusal.specs.declared.Verdict.the-variants as the-verdict
 use Rattle.stanza.specs.Reading.{Reading, refused}
+use Rattle.stanza.specs.declared.places.Place.{Place}
+use Rattle.stanza.specs.declared.places.Place.the-variants as place
 use Rattle.session.specs.Session.{sessionOf}
 use Rattle.session.specs.declared.phases.Phase.{Phase}
 use Rattle.session.specs.declared.sessions.Session.{Session as CodeSession}
@@ -21,6 +23,21 @@ use Rattle.intake.specs.declared.answers.Received.{Received as CodeReceived}
 use Rattle.plugin_receiving.specs.declared.receiving.Receipt.{Receipt as CodeReceipt}
 use Rattle.plugin_receiving.specs.declared.receiving.Taking.{Taking as CodeTaking}
 use Rattle.plugin_receiving.specs.declared.receiving.Taking.the-variants as the
+
+-- a session's answer before its chunk
+abbrev pub begunBy : CodeSession → CodeReceived
+begunBy s = record { verdict = the-verdict.Accepted; count = 0; last = the-last.Nothing; written = 0; session = s }
+
+-- no stanza is unfinished
+abbrev pub beginsAt : Place → ℕ → Bool
+beginsAt place.Start n = eqb n 0
+beginsAt place.Hyphen n = false
+beginsAt place.Arrow n = false
+beginsAt place.Gap n = false
+beginsAt place.Word n = false
+beginsAt (place.Line k last) n = false
+beginsAt place.Ended n = false
+beginsAt place.Dead n = false
 
 -- the next command of a text that reads so: none behind a refusal n, nor in another phase
 abbrev pub nextIn : ℕ → Phase → Reading → Reading

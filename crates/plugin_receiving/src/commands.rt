@@ -1,16 +1,23 @@
 // Phase one: the commands of a chunk, one by one from the left.
 ghost use mathlib.Core.Path.{_≡_};
 ghost use mathlib.Core.List.{List, []};
-ghost use Prim.Native.Nat.{ℕ, _≤_, _+_};
-ghost use lib.ListN.{length};
+ghost use Prim.Native.Nat.{ℕ, _≤_, min};
+ghost use lib.ListN.{length, drop};
 ghost use Rattle.refusal.specs.Verdict.{verdictSaid};
 ghost use Rattle.stanza.specs.Reading.{readSaid, readFirst, stanza};
+ghost use Rattle.stanza.specs.Resuming.{placeSaid, continued, whole};
+ghost use Rattle.session.specs.declared.phases.Phase.the-variants.{One};
 ghost use Rattle.phase_one.specs.PhaseOne as one;
 ghost use Rattle.conversation.specs.Kinds.{Buffers, buffersOf};
 ghost use Rattle.conversation.specs.PhaseTwo.{BuffersTwo};
 ghost use Rattle.chunks.specs.Taking.{plugin};
+ghost use Rattle.chunks.specs.Chunks.{taken};
+ghost use Rattle.intake.specs.Intake.{intakeOf};
 ghost use Rattle.intake.specs.Settling.{Says};
 ghost use Rattle.plugin_receiving.specs.Commands.{nextIn, answerBehind, comesTo, NoneDue};
+use crate::fronts::begin;
+use crate::fronts::begins;
+use crate::fronts::put_together;
 use crate::receiving::Receipt;
 use crate::receiving::Taking;
 use crate::receiving::receive_stanza;
@@ -19,6 +26,8 @@ use intake::Received;
 use refusal::Verdict;
 use session::Phase;
 use session::Session;
+use session::front;
+use stanza::Continued;
 use stanza::First;
 use stanza::Place;
 
@@ -95,7 +104,7 @@ fn settle_commands(so_far: Received, rest: &[u8], input: &mut [u8]) -> Received
 }
 
 // The commands of a text, behind those of an answer.
-pub fn receive_text(
+fn receive_text(
     so_far: Received,
     text: &[u8],
     input: &mut [u8; Session::PLUGIN_INPUT],
@@ -138,5 +147,126 @@ pub fn receive_text(
         );
         answer = answer_behind(answer, receipt);
         at += s.taken;
+    }
+}
+
+// The stanza that began in an earlier chunk and ends behind the first k bytes of this one.
+fn receive_front(
+    session: Session,
+    chunk: &[u8],
+    k: usize,
+    input: &[u8; Session::PLUGIN_INPUT],
+    slots: &mut [[usize; 4]; Session::OTHER_SLOTS],
+    header_slots: &mut [[usize; 4]; Session::HEADER_STANZAS],
+    recipients: &mut [u8],
+    identities: &mut [u8],
+    keys: &mut [u8],
+    headers: &mut [u8],
+) -> Received
+    requires { ⌜ session .phase ≡ One ⌝ }
+    requires { ⌜ continued (placeSaid (session .reading)) (min (session .kept) 8191) (now chunk) ≡ whole k ⌝ }
+    ensures outcome { λ r. ⌜ ((c : BuffersTwo) →
+        comesTo r (now (slots .exit)) (now («header_slots» .exit))
+        (buffersOf (one.buffersOf (now (recipients .exit)) (now (identities .exit)) (now (keys .exit)) (now (headers .exit))) c) (drop k (now (chunk .entry))) ≡
+        taken plugin (intakeOf plugin session (now (slots .entry)) (now («header_slots» .entry)) (now (input .entry)))
+        (buffersOf (one.buffersOf (now (recipients .entry)) (now (identities .entry)) (now (keys .entry)) (now (headers .entry))) c) (now (chunk .entry))) ⌝ }
+    ensures rest { λ r. ⌜ NoneDue r × (r .count ≤ 1) × (r .written ≡ 0) × (r .session .name ≡ session .name) ⌝ }
+{
+    let kept = intake::kept_of(session);
+    let mut store = [0u8; stanza::LONGEST];
+    let n = put_together(input, kept, chunk, k, &mut store);
+    let first = stanza::read(front(&store, n));
+    match first {
+        First::Refused(r) => {
+            let phase = session.phase;
+            Received {
+                verdict: Verdict::Refused(r),
+                count: 0,
+                last: Last::Nothing,
+                written: 0,
+                session: session.moved(session::phase_refused(phase, r), session.tables),
+            }
+        }
+        First::Stanza(s) => {
+            let receipt = receive_stanza(
+                session,
+                front(&store, n),
+                s,
+                slots,
+                header_slots,
+                recipients,
+                identities,
+                keys,
+                headers,
+            );
+            answer_behind(begin(session), receipt)
+        }
+    }
+}
+
+// A chunk in phase one.
+pub fn receive_one(
+    session: Session,
+    chunk: &[u8],
+    input: &mut [u8; Session::PLUGIN_INPUT],
+    slots: &mut [[usize; 4]; Session::OTHER_SLOTS],
+    header_slots: &mut [[usize; 4]; Session::HEADER_STANZAS],
+    recipients: &mut [u8],
+    identities: &mut [u8],
+    keys: &mut [u8],
+    headers: &mut [u8],
+) -> Received
+    requires { ⌜ session .phase ≡ One ⌝ }
+    ensures outcome { λ r. ⌜ ((c : BuffersTwo) →
+        Says plugin r (now (slots .exit)) (now («header_slots» .exit)) (now (input .entry)) (now (input .exit)) []
+        (buffersOf (one.buffersOf (now (recipients .exit)) (now (identities .exit)) (now (keys .exit)) (now (headers .exit))) c)
+        (taken plugin (intakeOf plugin session (now (slots .entry)) (now («header_slots» .entry)) (now (input .entry)))
+        (buffersOf (one.buffersOf (now (recipients .entry)) (now (identities .entry)) (now (keys .entry)) (now (headers .entry))) c) (now (chunk .entry)))) ⌝ }
+    ensures rest { λ r. ⌜ (r .written ≡ 0) × (r .session .name ≡ session .name) ⌝ }
+{
+    let reading = session.reading;
+    let kept = intake::kept_of(session);
+    if begins(reading, kept) {
+        return receive_text(
+            begin(session),
+            chunk,
+            input,
+            slots,
+            header_slots,
+            recipients,
+            identities,
+            keys,
+            headers,
+        );
+    }
+    let continued = stanza::read_on(reading, kept, chunk);
+    match continued {
+        Continued::Unfinished(place) => intake::keep_on(session, place, chunk, input),
+        Continued::Refused(r) => intake::close(session, r),
+        Continued::Whole(k) => {
+            let so_far = receive_front(
+                session,
+                chunk,
+                k,
+                input,
+                slots,
+                header_slots,
+                recipients,
+                identities,
+                keys,
+                headers,
+            );
+            receive_text(
+                so_far,
+                &chunk[k..],
+                input,
+                slots,
+                header_slots,
+                recipients,
+                identities,
+                keys,
+                headers,
+            )
+        }
     }
 }
