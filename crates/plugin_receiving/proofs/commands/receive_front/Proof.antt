@@ -1,17 +1,6 @@
 use borrow.Author.Needs.{needs}
 use Rattle.plugin_receiving.proofs.commands.receive_front.Statement.{statement}
 use Rattle.plugin_receiving.proofs.commands.receive_front.Tie as tie
-use Rattle.plugin_receiving.proofs.commands.receive_front.Reads as reads
-use Rattle.plugin_receiving.proofs.commands.receive_front.Lts as lts
-use Rattle.intake.proofs.kept_of.Reads as kept-of-reads
-use Rattle.plugin_receiving.proofs.commands.answer_behind.Reads as answer-behind-reads
-use Rattle.plugin_receiving.proofs.fronts.begin.Reads as begin-reads
-use Rattle.plugin_receiving.proofs.fronts.put_together.Reads as put-together-reads
-use Rattle.plugin_receiving.proofs.receiving.receive_stanza.Reads as receive-stanza-reads
-use Rattle.session.proofs.front.Reads as front-reads
-use Rattle.session.proofs.phase_refused.Reads as phase-refused-reads
-use Rattle.session.proofs.sessions.Session.moved.Reads as moved-reads
-use Rattle.stanza.proofs.read.Reads as read-reads
 
 -- src/commands.rt:175:9
 kept-of-requires : tie.Need-kept-of-requires

@@ -1,16 +1,6 @@
 use borrow.Author.Needs.{needs}
 use Rattle.plugin_receiving.proofs.commands.receive_one.Statement.{statement}
 use Rattle.plugin_receiving.proofs.commands.receive_one.Tie as tie
-use Rattle.plugin_receiving.proofs.commands.receive_one.Reads as reads
-use Rattle.plugin_receiving.proofs.commands.receive_one.Lts as lts
-use Rattle.intake.proofs.close.Reads as close-reads
-use Rattle.intake.proofs.keep_on.Reads as keep-on-reads
-use Rattle.intake.proofs.kept_of.Reads as kept-of-reads
-use Rattle.plugin_receiving.proofs.commands.receive_front.Reads as receive-front-reads
-use Rattle.plugin_receiving.proofs.commands.receive_text.Reads as receive-text-reads
-use Rattle.plugin_receiving.proofs.fronts.begin.Reads as begin-reads
-use Rattle.plugin_receiving.proofs.fronts.begins.Reads as begins-reads
-use Rattle.stanza.proofs.read_on.Reads as read-on-reads
 
 -- src/commands.rt:228:9
 kept-of-requires : tie.Need-kept-of-requires

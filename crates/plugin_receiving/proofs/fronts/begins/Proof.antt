@@ -1,8 +1,6 @@
 use borrow.Author.Needs.{needs}
 use Rattle.plugin_receiving.proofs.fronts.begins.Statement.{statement}
 use Rattle.plugin_receiving.proofs.fronts.begins.Tie as tie
-use Rattle.plugin_receiving.proofs.fronts.begins.Reads as reads
-use Rattle.plugin_receiving.proofs.fronts.begins.Lts as lts
 
 -- src/fronts.rt:32:25
 enum-told : tie.Need-enum-told

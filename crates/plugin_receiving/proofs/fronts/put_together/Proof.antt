@@ -1,10 +1,6 @@
 use borrow.Author.Needs.{needs}
 use Rattle.plugin_receiving.proofs.fronts.put_together.Statement.{statement}
 use Rattle.plugin_receiving.proofs.fronts.put_together.Tie as tie
-use Rattle.plugin_receiving.proofs.fronts.put_together.Reads as reads
-use Rattle.plugin_receiving.proofs.fronts.put_together.Lts as lts
-use Rattle.session.proofs.front.Reads as front-reads
-use Rattle.stanza.proofs.copy.Reads as copy-reads
 
 -- src/fronts.rt:50:18
 front-requires : tie.Need-front-requires
