@@ -30,7 +30,13 @@ pub(crate) fn begins(place: Place, kept: usize) -> bool
 {
     match place {
         Place::Start => kept == 0,
-        _ => false,
+        Place::Hyphen => false,
+        Place::Arrow => false,
+        Place::Gap => false,
+        Place::Word => false,
+        Place::Line(_, _) => false,
+        Place::Ended => false,
+        Place::Dead => false,
     }
 }
 
