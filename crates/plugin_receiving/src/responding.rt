@@ -6,9 +6,8 @@ ghost use Rattle.stanza.specs.Parts.{argumentsIn, bodyIn};
 ghost use Rattle.stanza.specs.Reading.{readFirst, stanza};
 ghost use Rattle.responses.specs.Responses.{response, responseOf};
 ghost use Rattle.session.specs.Session.{sessionOf, carriedBy};
-ghost use Rattle.conversation.specs.Responding.{responded, respondedText, respondedAs, refusedResponse};
+ghost use Rattle.conversation.specs.Responding.{respondedText, respondedAs, refusedResponse};
 ghost use Rattle.plugin_receiving.specs.Responding.{respondedSaid};
-use intake::Due;
 use refusal::Refusal;
 use refusal::Written;
 use responses::ReadResponse;
@@ -105,23 +104,5 @@ fn receive_awaited(session: Session, word: WordTwo, text: &[u8], out: &mut [u8])
             session: session.moved(session::phase_refused(phase, r), session.tables),
         },
         First::Stanza(s) => receive_stanza(session, word, text, s, out),
-    }
-}
-
-// A response at the front of a text: which it was, its body at the front of `out`, and the session. 13, 14, 1 to 3, 12 or 15 where it is refused: then `out`
-// stays as it was. It needs no slots: whatever they hold, the tables stay.
-pub fn receive_response(session: Session, text: &[u8], out: &mut [u8]) -> Responded
-    ensures outcome { λ r. ⌜ ((xs hs : List (List ℕ)) → respondedSaid r xs hs (now (out .exit)) ≡ responded (sessionOf session xs hs) (now (text .entry))
-        (now (out .entry))) ⌝ }
-    ensures carried { λ r. ⌜ carriedBy (r .session) ≡ carriedBy session ⌝ }
-{
-    let phase = session.phase;
-    let due = intake::answer_due(phase);
-    match due {
-        Due::Refused(r) => Responded {
-            answer: Answering::Refused(r),
-            session: session,
-        },
-        Due::Command(word) => receive_awaited(session, word, text, out),
     }
 }
