@@ -20,3 +20,7 @@ pub mod Blocks
 pub mod Heard
 pub mod Orders
 pub mod Itself
+pub mod Fronts
+pub mod Texts
+pub mod Rooms
+pub mod Bounds

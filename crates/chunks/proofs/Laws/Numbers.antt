@@ -50,20 +50,20 @@ use Rattle.chunks.proofs.Laws.Cases.{drops-not-reads, keeps-not-reads, 
 
 -- ---- what is written at once, and a response's body, are short
 
-response-short : (r : Response) → length (stanzaText (responseLine r) []) ≤ 8192
+response-short : (r : Response) → length (stanzaText (responseLine r) []) ≤ 16
 response-short Ok = omega (arith, text-length (responseLine Ok) [], lines-length [])
 response-short Yes = omega (arith, text-length (responseLine Yes) [], lines-length [])
 response-short No = omega (arith, text-length (responseLine No) [], lines-length [])
 response-short Fail = omega (arith, text-length (responseLine Fail) [], lines-length [])
 response-short Unsupported = omega (arith, text-length (responseLine Unsupported) [], lines-length [])
 
--- an answer at once
-pub at-once-short : (a : AtOnce) → length (textOf a) ≤ 8192
+-- an answer at once: `unsupported` is the longest
+pub at-once-short : (a : AtOnce) → length (textOf a) ≤ 16
 at-once-short (writes r) = response-short r
 at-once-short silent = omega arith
 
 -- a body that was read
-body-short : (t : List ℕ) (q : Reading) → readFirst t ≡ q → length (bodyRead q t) ≤ 8192
+pub body-short : (t : List ℕ) (q : Reading) → readFirst t ≡ q → length (bodyRead q t) ≤ 8192
 body-short t (stanza e n k) h = omega (arith, body-limit t e n k h)
 body-short t (refused n) h = omega arith
 
