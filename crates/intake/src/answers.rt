@@ -34,6 +34,28 @@ pub struct Received {
     pub session: Session,
 }
 
+impl Received {
+    // The same behind what stands behind the stanzas: another verdict and session.
+    pub(crate) fn settled(self, verdict: Verdict, session: Session) -> Received
+        ensures { λ r. ⌜ r ≡ record {
+            verdict = verdict;
+            count = self .count;
+            last = self .last;
+            written = self .written;
+            session = session;
+        } ⌝ }
+    {
+        let last = self.last;
+        Received {
+            verdict: verdict,
+            count: self.count,
+            last: last,
+            written: self.written,
+            session: session,
+        }
+    }
+}
+
 // A refusal that takes nothing and leaves everything as it was.
 pub fn leave(session: Session, refusal: Refusal) -> Received
     ensures outcome { λ r. ⌜ ((e : End) (xs hs : List (List ℕ)) (input : List ℕ) (b : Buffers) (out : List ℕ) →
