@@ -56,7 +56,7 @@ moved-requires : tie.Need-moved-requires
 moved-requires c κs = search needs
 
 same-length : tie.Need-same-length
-same-length c = search needs
+same-length c = SAMELEN
 
 same-length-2 : tie.Need-same-length-2
 same-length-2 c = search needs
