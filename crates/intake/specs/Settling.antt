@@ -20,6 +20,6 @@ pub record MaySettle (e : End) (p : Phase) (t : Turn) (awaited rest input : List
   pub long : 8192 ≤ length input
 
 -- an answer says what was taken, and the input has what the answer's session keeps
-pub record Says (e : End) (r : CodeReceived) (xs hs : List (List ℕ)) (input after w : List ℕ) (b : Buffers) (t : Taken) : Type 0 where
+pub record Says (e : End) (r : CodeReceived) (xs hs : List (List ℕ)) (before after w : List ℕ) (b : Buffers) (t : Taken) : Type 0 where
   pub taken : takenSaid e r xs hs after w b ≡ t
-  pub input : after ≡ storedIn (intakeOf e (r .session) xs hs after) input
+  pub input : after ≡ storedIn (intakeOf e (r .session) xs hs after) before

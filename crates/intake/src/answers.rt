@@ -38,11 +38,11 @@ impl Received {
     // The same behind what stands behind the stanzas: another verdict and session.
     pub(crate) fn settled(self, verdict: Verdict, session: Session) -> Received
         ensures { λ r. ⌜ r ≡ record {
-            verdict = verdict;
-            count = self .count;
-            last = self .last;
-            written = self .written;
-            session = session;
+          verdict = verdict;
+          count = self .count;
+          last = self .last;
+          written = self .written;
+          session = session;
         } ⌝ }
     {
         let last = self.last;

@@ -3,7 +3,8 @@ ghost use mathlib.Core.Path.{_≡_};
 ghost use mathlib.Core.List.{List, [], _++_};
 ghost use mathlib.Core.Bool.{false};
 ghost use Prim.Native.Nat.{ℕ, _≤_, _+_, min};
-ghost use lib.ListN.{length, take};
+ghost use lib.ListN.{length, take, drop};
+ghost use Rattle.refusal.specs.Output.{filled};
 ghost use Rattle.refusal.specs.Number.{numberOf};
 ghost use Rattle.stanza.specs.Resuming.{placeSaid};
 ghost use Rattle.session.specs.Session.{sessionOf};
@@ -31,7 +32,21 @@ pub fn kept_of(session: Session) -> usize
     ensures { λ r. ⌜ r ≡ min (session .kept) 8191 ⌝ }
 {
     let kept = session.kept;
-    if kept < MOST_UNFINISHED { kept } else { MOST_UNFINISHED }
+    if kept < MOST_UNFINISHED {
+        kept
+    } else {
+        MOST_UNFINISHED
+    }
+}
+
+// A part behind the first bytes of `out`; nothing where it is too short.
+fn copy_behind(part: &[u8], at: usize, out: &mut [u8])
+    ensures { λ _. ⌜ now (out .exit) ≡ take at (now (out .entry)) ++ filled (now (part .entry)) (drop at (now (out .entry))) ⌝ }
+{
+    if out.len() < at {
+        return;
+    }
+    stanza::copy(part, &mut out[at..]);
 }
 
 // An unfinished stanza goes on and has not ended: the chunk's bytes stand behind those that are kept.
@@ -45,9 +60,7 @@ pub fn keep_on(session: Session, place: Place, chunk: &[u8], input: &mut [u8]) -
 {
     let kept = kept_of(session);
     let n = chunk.len();
-    if kept <= input.len() {
-        stanza::copy(chunk, &mut input[kept..]);
-    }
+    copy_behind(chunk, kept, input);
     Received {
         verdict: Verdict::Accepted,
         count: 0,
@@ -128,8 +141,9 @@ fn settle_back(so_far: Received, awaited: &[u8], rest: &[u8], input: &mut [u8]) 
     let session = so_far.session;
     let n = awaited.len();
     stanza::copy(awaited, input);
-    if n <= input.len() {
-        stanza::copy(rest, &mut input[n..]);
-    }
-    so_far.settled(Verdict::Accepted, session.keeping(Place::Start, rest.len(), n))
+    copy_behind(rest, n, input);
+    so_far.settled(
+        Verdict::Accepted,
+        session.keeping(Place::Start, rest.len(), n),
+    )
 }

@@ -109,14 +109,14 @@ impl Session {
     // The same session in another phase and with other tables.
     pub fn moved(self, phase: Phase, tables: Tables) -> Session
         ensures { λ r. ⌜ r ≡ record {
-            machine = self .machine;
-            phase = phase;
-            screen = self .screen;
-            name = self .name;
-            tables = tables;
-            reading = self .reading;
-            kept = self .kept;
-            awaited = self .awaited;
+          machine = self .machine;
+          phase = phase;
+          screen = self .screen;
+          name = self .name;
+          tables = tables;
+          reading = self .reading;
+          kept = self .kept;
+          awaited = self .awaited;
         } ⌝ }
     {
         let machine = self.machine;
@@ -137,14 +137,14 @@ impl Session {
     // The same session with other bytes kept and another stanza that waits.
     pub fn keeping(self, reading: Place, kept: usize, awaited: usize) -> Session
         ensures { λ r. ⌜ r ≡ record {
-            machine = self .machine;
-            phase = self .phase;
-            screen = self .screen;
-            name = self .name;
-            tables = self .tables;
-            reading = reading;
-            kept = kept;
-            awaited = awaited;
+          machine = self .machine;
+          phase = self .phase;
+          screen = self .screen;
+          name = self .name;
+          tables = self .tables;
+          reading = reading;
+          kept = kept;
+          awaited = awaited;
         } ⌝ }
     {
         let machine = self.machine;
