@@ -1,12 +1,10 @@
 -- What has room.
 use Prim.Native.Nat.{ℕ}
-use mathlib.Core.Path.{_≡_}
 use mathlib.Core.Bool.{Bool, true, _&&_}
 use mathlib.Core.List.{List, []}
 use lib.Dec.{eqb, leb}
 use lib.ListN.{length, take}
 use Rattle.refusal.specs.Pick.{pick}
-use Rattle.stanza.specs.Reading.{stanza, readFirst}
 use Rattle.session.specs.Session.{Session}
 use Rattle.conversation.specs.Calls.{receive-two, outcome}
 use Rattle.conversation.specs.Kinds.{Buffers}
@@ -22,11 +20,7 @@ isKeepable reads n = true
 isKeepable (drops m) n = true
 isKeepable keeps-back n = leb n 8192
 
--- a text is one whole stanza
-abbrev pub IsOne : List ℕ → Type 0
-IsOne t = (l : ℕ) × (m : ℕ) × (readFirst t ≡ stanza l m (length t))
-
--- a whole stanza and the text behind it
+-- a text that is taken as one stanza, and the text behind it
 abbrev pub stanzaAhead : Session → Buffers → List ℕ → List ℕ → Taken
 stanzaAhead s b t x =
     let o = outcome s b (receive-two t room) in

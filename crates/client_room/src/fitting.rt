@@ -1,8 +1,9 @@
 // A first pass over a text that writes nothing: what it would be answered with has room, and so has what would be kept back.
 ghost use mathlib.Core.Path.{_≡_};
 ghost use mathlib.Core.Bool.{true};
-ghost use mathlib.Core.List.{List};
-ghost use Prim.Native.Nat.{ℕ, _+_, _*_, _<_};
+ghost use mathlib.Core.List.{List, _++_};
+ghost use Prim.Native.Nat.{ℕ, _+_, _*_, _≤_, _<_};
+ghost use lib.ListN.{length, take, drop};
 ghost use Rattle.session.specs.Session.{sessionOf};
 ghost use Rattle.conversation.specs.Kinds.{Buffers};
 ghost use Rattle.conversation.specs.TurnsTwo.{turnTwo};
@@ -10,7 +11,7 @@ ghost use Rattle.chunks.specs.Taking.{client, turnAt, takenText};
 ghost use Rattle.chunks.specs.Chunks.{taken};
 ghost use Rattle.intake.specs.Intake.{intakeOf};
 ghost use Rattle.phase_two.specs.Entering.{AreLong};
-ghost use Rattle.client_room.specs.Room.{hasRoom, isKeepable, IsOne, stanzaAhead};
+ghost use Rattle.client_room.specs.Room.{hasRoom, isKeepable, stanzaAhead};
 use crate::stanzas::Taking;
 use crate::stanzas::next_stanza;
 use crate::stanzas::put_together;
@@ -93,7 +94,7 @@ fn fits(
     }
 }
 
-// The same of a whole stanza and the text behind it.
+// The same of a text that is taken as one stanza, and the text behind it.
 fn front_fits(
     session: Session,
     front: &[u8],
@@ -105,7 +106,7 @@ fn front_fits(
     stanzas: usize,
     returned: usize,
 ) -> bool
-    ensures { λ r. ⌜ ((b : Buffers) → AreLong (b .second) errors stanzas returned → turnTwo (session .phase) ≡ 0 → IsOne (now (front .entry)) →
+    ensures { λ r. ⌜ ((b : Buffers) → AreLong (b .second) errors stanzas returned → turnTwo (session .phase) ≡ 0 →
         r ≡ hasRoom (stanzaAhead (sessionOf session (now (slots .entry)) (now («header_slots» .entry))) b (now (front .entry)) (now (text .entry))) room) ⌝ }
 {
     let first = stanza::read(front);
@@ -186,11 +187,13 @@ pub fn text_has_room(
     )
 }
 
-// Whether a chunk has room, with what is kept of an unfinished stanza at the front of the input.
-pub fn has_room(
+// The same of a stanza whose front is kept, so many bytes of the input, and ends behind k bytes of the chunk; the slots untouched.
+fn joined_fits(
     session: Session,
+    input: &[u8],
+    kept: usize,
     chunk: &[u8],
-    input: &[u8; Session::CLIENT_INPUT],
+    k: usize,
     room: usize,
     slots: &[[usize; 4]; Session::OTHER_SLOTS],
     header_slots: &[[usize; 4]; Session::HEADER_STANZAS],
@@ -198,6 +201,41 @@ pub fn has_room(
     stanzas: usize,
     returned: usize,
 ) -> bool
+    requires { ⌜ (kept ≤ length (now input)) × (k ≤ length (now chunk)) × (kept + k ≤ 8192) ⌝ }
+    ensures { λ r. ⌜ ((b : Buffers) → AreLong (b .second) errors stanzas returned → turnTwo (session .phase) ≡ 0 →
+        r ≡ hasRoom (stanzaAhead (sessionOf session (now (slots .entry)) (now («header_slots» .entry))) b
+        (take kept (now (input .entry)) ++ take k (now (chunk .entry))) (drop k (now (chunk .entry)))) room) ⌝ }
+{
+    let mut store = [0u8; stanza::LONGEST];
+    put_together(input, kept, &chunk[..k], &mut store);
+    let whole = kept + k;
+    let mut trial = *slots;
+    front_fits(
+        session,
+        &store[..whole],
+        &chunk[k..],
+        room,
+        &mut trial,
+        header_slots,
+        errors,
+        stanzas,
+        returned,
+    )
+}
+
+// Whether a chunk has room, with what is kept of an unfinished stanza at the front of the input.
+pub fn has_room(
+    session: Session,
+    chunk: &[u8],
+    input: &[u8],
+    room: usize,
+    slots: &[[usize; 4]; Session::OTHER_SLOTS],
+    header_slots: &[[usize; 4]; Session::HEADER_STANZAS],
+    errors: usize,
+    stanzas: usize,
+    returned: usize,
+) -> bool
+    requires { ⌜ 8191 ≤ length (now input) ⌝ }
     ensures { λ r. ⌜ ((b : Buffers) → AreLong (b .second) errors stanzas returned → turnTwo (session .phase) ≡ 0 →
         r ≡ hasRoom (taken client (intakeOf client session (now (slots .entry)) (now («header_slots» .entry)) (now (input .entry))) b (now (chunk .entry)))
         room) ⌝ }
@@ -212,22 +250,18 @@ pub fn has_room(
     match continued {
         Continued::Unfinished(_) => true,
         Continued::Refused(_) => true,
-        Continued::Whole(k) => {
-            let mut store = [0u8; stanza::LONGEST];
-            put_together(input, kept, &chunk[..k], &mut store);
-            let whole = kept + k;
-            let mut trial = *slots;
-            front_fits(
-                session,
-                &store[..whole],
-                &chunk[k..],
-                room,
-                &mut trial,
-                header_slots,
-                errors,
-                stanzas,
-                returned,
-            )
-        }
+        Continued::Whole(k) => joined_fits(
+            session,
+            input,
+            kept,
+            chunk,
+            k,
+            room,
+            slots,
+            header_slots,
+            errors,
+            stanzas,
+            returned,
+        ),
     }
 }

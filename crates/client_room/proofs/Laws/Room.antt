@@ -1,5 +1,5 @@
 -- What a text needs of room, stanza by stanza.
-use Prim.Native.Nat.{ℕ, _+_, _-_, _*_, _≤_, _<_}
+use Prim.Native.Nat.{ℕ, _+_, _-_, _*_, _≤_, _<_, min}
 use mathlib.Core.Path.{_≡_, refl, sym, ap, ap₂, _∙_, subst}
 use mathlib.Core.Bool.{Bool, true, false, _&&_}
 use mathlib.Core.List.{List, [], _++_}
@@ -14,21 +14,24 @@ use Rattle.refusal.proofs.Laws.Lists.{part-rest}
 use Rattle.stanza.specs.Automaton.{State, start}
 use Rattle.stanza.specs.Reading.{stanza, refused, readFirst}
 use Rattle.stanza.specs.Resuming as resuming
-use Rattle.stanza.specs.Resuming.{continued}
+use Rattle.stanza.specs.Resuming.{continued, placeSaid}
 use Rattle.stanza.proofs.Laws.Exact.{refused-2}
 use Rattle.stanza.proofs.Laws.Resuming.{unfinished-is, whole-iff, whole-within}
 use Rattle.session.specs.declared.words.WordTwo.{WordTwo}
 use Rattle.session.specs.declared.phases.Phase.{Phase}
 use Rattle.session.specs.declared.phases.Phase.the-variants.{One, Two, Awaiting, Ended, Closed}
-use Rattle.session.specs.Session.{Session, closed}
+use Rattle.session.specs.declared.sessions.Session.{Session as CodeSession}
+use Rattle.session.specs.Session.{Session, sessionOf, closed}
 use Rattle.conversation.specs.CommandsTwo.{wordOf}
 use Rattle.conversation.specs.ReceivingTwo.{Taking, took, declined, refusedReceipt, receivedStanza}
 use Rattle.conversation.specs.Kinds.{Buffers, buffersOf}
 use Rattle.conversation.specs.Calls.{receive-two, command-two, nothing, Outcome, outcome, receivedTwoOutcome}
 use Rattle.conversation.proofs.Laws.StepsTwo.{all-written}
 use Rattle.conversation.proofs.Laws.Refusals.{either}
-use Rattle.chunks.specs.Taking.{client, Turn, reads, drops, keeps-back, turnAt, room, awaitedBehind, Intake, Last, Taken, lastIn, noMore, emptied, oneMore, takenText}
+use Rattle.chunks.specs.Taking.{client, Turn, reads, drops, keeps-back, turnAt, room, awaitedBehind, Intake, Last, Taken, lastIn, noMore, emptied, keeping, oneMore, takenText}
 use Rattle.chunks.specs.Chunks.{taken}
+use Rattle.chunks.specs.Uncut.{isWaiting}
+use Rattle.intake.specs.Intake.{intakeOf}
 use Rattle.chunks.proofs.Laws.Numbers.{room-size}
 use Rattle.chunks.proofs.Laws.Short.{read-number}
 use Rattle.chunks.proofs.Laws.Texts.{stanzaTaken, takenCut, front-left, front-fault, front-stanza, text-dropped, text-kept-back, text-left, text-fault, text-stanza}
@@ -36,7 +39,7 @@ use Rattle.chunks.proofs.Laws.Bounds.{front-written, text-written, text-kept, r
 use Rattle.phase_two.specs.Entering.{AreLong}
 use Rattle.client_room.specs.Stanzas.{nextIn, Tried}
 use Rattle.client_room.specs.Room.{hasRoom, isKeepable, stanzaAhead}
-use Rattle.client_room.proofs.Laws.Stanzas.{Judged, accepts, refuses, judged, command, answer, accepted, answer-length, long-still, lineOf, bodyBehind, stanza-call, reads-two}
+use Rattle.client_room.proofs.Laws.Stanzas.{Judged, accepts, refuses, judged, command, answer, accepted, answer-length, long-still, lineOf, bodyBehind, stanza-call, fault-call, reads-two}
 
 -- ---- what is written
 
@@ -84,6 +87,17 @@ rest-room s b a x n m h = go (turnAt client (s .phase)) refl h
         ∙ either (λ (y : Taken). hasRoom y n ≡ true) (eqb (length x) 0) (noMore 0 (emptied s a) b) (noMore k (emptied s a) b) (none-room n 0 s b a) (none-room n k s b a))
     go keeps-back t h = sym (ap (λ y. hasRoom y n) (text-kept-back client s b a t x) ∙ ap (λ f. f && leb (length x) 8192) (zero-room n))
 
+-- ---- a refusal
+
+pub refused-room : (s : Session) (b : Buffers) (t x : List ℕ) (n m : ℕ) (o : Outcome) → o ≡ receivedTwoOutcome (b .first) (refusedReceipt m s (b .second) room) → (m ≡ 0 → ⊥) →
+    hasRoom (stanzaTaken client b o t x) n ≡ true
+refused-room s b t x n m o e z =
+    let r = refusedReceipt m s (b .second) room in
+    let u = takenText client (r .session) (buffersOf (b .first) (r .buffers)) (awaitedBehind client (r .session .phase) t) x in
+    ap (λ o. hasRoom (stanzaTaken client b o t x) n) e
+    ∙ ap (λ f. hasRoom (pick f (oneMore (lastIn nothing) (take 0 room) u) (noMore m (emptied (r .session) []) b)) n) (ne-eqb m 0 z)
+    ∙ none-room n m (r .session) b []
+
 -- ---- a whole stanza, by what it was tried for
 
 module _ (s : Session) (b : Buffers) (t x : List ℕ) (line body : List ℕ) (k : ℕ) (a : Taking) (after : Session) (n : ℕ)
@@ -108,14 +122,6 @@ module _ (s : Session) (b : Buffers) (t x : List ℕ) (line body : List ℕ) (k 
       (all-written (answer s (b .second) line body k) room (omega (arith, answer-length s (b .second) line body k, room-size)))
       (sym (h .session-is ∙ ap (λ r. r .session) e))
 
-  ahead-refused : (m : ℕ) → (m ≡ 0 → ⊥) → receivedStanza s (b .second) room line body k ≡ refusedReceipt m s (b .second) room → hasRoom (stanzaTaken client b o t x) n ≡ true
-  ahead-refused m z e =
-      let r = refusedReceipt m s (b .second) room in
-      let u = takenText client (r .session) (buffersOf (b .first) (r .buffers)) (awaitedBehind client (r .session .phase) t) x in
-      ap (λ o. hasRoom (stanzaTaken client b o t x) n) (call ∙ ap (receivedTwoOutcome (b .first)) e)
-      ∙ ap (λ f. hasRoom (pick f (oneMore (lastIn nothing) (take 0 room) u) (noMore m (emptied (r .session) []) b)) n) (ne-eqb m 0 z)
-      ∙ none-room n m (r .session) b []
-
   pub room-refused : (m : ℕ) → a ≡ declined m → hasRoom (stanzaTaken client b o t x) n ≡ true
   room-refused m e = go (judged s (b .second) line body k)
     where
@@ -124,7 +130,7 @@ module _ (s : Session) (b : Buffers) (t x : List ℕ) (line body : List ℕ) (k 
           let y : declined m ≡ took (wordOf (command s (b .second) line body k)) k (length (answer s (b .second) line body k)) = sym e ∙ h .answer-is ∙ ap (λ r. r .answer) q in
           let z : _≡_ {A = ℕ} 0 1 = cc in
           absurd (omega arith)
-      go (refuses i z q) = ahead-refused i z q
+      go (refuses i z q) = refused-room s b t x n i o (call ∙ ap (receivedTwoOutcome (b .first)) q) z
 
   -- the answer of an accepted command
   took-is : (w : WordTwo) (i j : ℕ) → a ≡ took w i j → (receivedStanza s (b .second) room line body k ≡ accepted s (b .second) line body k) × (j ≡ length (answer s (b .second) line body k))
@@ -257,6 +263,12 @@ text-ample s b a x n l h =
 
 -- ---- a stanza and the text behind it
 
+-- where no stanza begins it
+pub ahead-fault-room : (s : Session) (b : Buffers) (t x : List ℕ) (m n : ℕ) → turnAt client (s .phase) ≡ reads → refused m ≡ readFirst t → true ≡ hasRoom (stanzaAhead s b t x) n
+ahead-fault-room s b t x m n turn h =
+    sym (refused-room s b t x n m (outcome s b (receive-two t room)) (fault-call s b t room m (reads-two (s .phase) turn) (sym h))
+    (read-number (λ m. m ≡ 0 → ⊥) (λ z. omega arith) (λ z. omega arith) (λ z. omega arith) t m (sym h)))
+
 module _ (s : Session) (b : Buffers) (t x : List ℕ) (l m k : ℕ) (y : Taking) (after : Session) (n : ℕ) (turn : turnAt client (s .phase) ≡ reads)
     (h : readFirst t ≡ stanza l m k) (tried : Tried s (b .second) (lineOf t l) (bodyBehind t l k) k y after) where
   whole-call : outcome s b (receive-two t room) ≡ receivedTwoOutcome (b .first) (receivedStanza s (b .second) room (lineOf t l) (bodyBehind t l k) k)
@@ -285,3 +297,15 @@ pub record Onward (e r t : ℕ) (first : Bool) (s : Session) (x : List ℕ) (n :
   pub buffers : Buffers
   pub long : AreLong (buffers .second) e r t
   pub same : first ≡ hasRoom (takenText client s buffers awaited x) n
+
+-- ---- what the client keeps in phase two
+
+pub intake-two : (s : CodeSession) (xs hs : List (List ℕ)) (input : List ℕ) → s .phase ≡ Two →
+    intakeOf client s xs hs input ≡ keeping (sessionOf s xs hs) (placeSaid (s .reading)) (take (min (s .kept) 8191) input) []
+intake-two s xs hs input e = rw (keeps (s .phase) e (s .kept) (s .awaited), waits (s .phase) e (s .awaited))
+  where
+    keeps : (p : Phase) → p ≡ Two → (k a : ℕ) → take (min k (pick (isWaiting client p) 8192 8191)) (drop (pick (isWaiting client p) (min a 8192) 0) input) ≡ take (min k 8191) input
+    keeps p e k a = rw e
+
+    waits : (p : Phase) → p ≡ Two → (a : ℕ) → take (pick (isWaiting client p) (min a 8192) 0) input ≡ []
+    waits p e a = rw e

@@ -1,17 +1,19 @@
 -- A whole stanza that the client receives: accepted or refused, with room for its answer.
-use Prim.Native.Nat.{ℕ, _+_, _≤_}
-use mathlib.Core.Path.{_≡_, refl, sym, ap, _∙_}
+use Prim.Native.Nat.{ℕ, _+_, _-_, _≤_}
+use mathlib.Core.Path.{_≡_, refl, sym, ap, ap₂, _∙_}
 use mathlib.Core.Bool.{Bool, true, false}
-use mathlib.Core.List.{List}
+use mathlib.Core.List.{List, _++_, append-assoc}
 use lib.Dec.{eqb, ltb}
-use lib.ListN.{length, take, drop}
+use lib.ListN.{length, take, drop, length-drop, length-append}
+use lib.Seq.{length-take-le, take-at, drop-at, drop-drop}
 use native.Mathlib.Omega.{arith}
 use borrow.Author.Tests.{eqb-true, eqb-false, le-ltb}
 use Rattle.refusal.specs.Output.{filled}
 use Rattle.refusal.specs.Pick.{pick}
 use Rattle.refusal.specs.Verdict.{firstOf}
+use Rattle.refusal.proofs.Laws.Lists.{part-rest, put-rest}
 use Rattle.base64.specs.Lines.{bodyOf}
-use Rattle.stanza.specs.Reading.{stanza, readFirst}
+use Rattle.stanza.specs.Reading.{stanza, refused, readFirst}
 use Rattle.session.specs.declared.opening.Machine.{Machine}
 use Rattle.session.specs.Phases.{closes}
 use Rattle.session.specs.declared.phases.Phase.{Phase}
@@ -50,8 +52,8 @@ pub tried : (m : Machine) (g : List ℕ) (x : Bool) (q : Phase) (t : Tables) (b 
     Tried (sessionIn m g x q t) b l y k a (sessionIn m g x p t′)
 tried m g x q t b l y k c r w j n a p t′ ec er ew ej e ea ep =
     let z = received-from m g x q t b room l y k c r w j 0 n a p t′ (pick (eqb n 0) (filledBy t b c (payloadOf c l y)) b)
-        (pick (eqb n 0) (filled (textOf w) room) room) ec er ew ej (sym (ap (λ i. pick (ltb (length room) i) 15 0) ej ∙ late-none w)) (e .number) ea ep
-        (rw (e .number) (e .tables)) refl refl in
+    (pick (eqb n 0) (filled (textOf w) room) room) ec er ew ej (sym (ap (λ i. pick (ltb (length room) i) 15 0) ej ∙ late-none w)) (e .number) ea ep
+    (rw (e .number) (e .tables)) refl refl in
     record { answer-is = ap (λ z. z .answer) z; session-is = ap (λ z. z .session) z }
 
 -- ---- accepted or refused
@@ -116,6 +118,12 @@ pub stanza-call : (s : Session) (b : Buffers) (x out : List ℕ) (l m k : ℕ) �
 stanza-call s b x out l m k turn h =
     ap (receivedTwoOutcome (b .first)) (sym (received-in-turn s x (b .second) out (sym (ap turnTwo turn))) ∙ ap (λ q. receivedAs q s x (b .second) out) h)
 
+-- a text that no stanza begins
+pub fault-call : (s : Session) (b : Buffers) (x out : List ℕ) (m : ℕ) → s .phase ≡ Two → readFirst x ≡ refused m →
+    outcome s b (receive-two x out) ≡ receivedTwoOutcome (b .first) (refusedReceipt m s (b .second) out)
+fault-call s b x out m turn h =
+    ap (receivedTwoOutcome (b .first)) (sym (received-in-turn s x (b .second) out (sym (ap turnTwo turn))) ∙ ap (λ q. receivedAs q s x (b .second) out) h)
+
 -- commands are read in phase two alone
 pub reads-two : (p : Phase) → turnAt client p ≡ reads → p ≡ Two
 reads-two One e = absurd (drops-not-reads 14 e)
@@ -123,3 +131,31 @@ reads-two Two e = refl
 reads-two (Awaiting w) e = absurd (keeps-not-reads e)
 reads-two Ended e = absurd (drops-not-reads 13 e)
 reads-two Closed e = absurd (drops-not-reads 13 e)
+
+-- ---- the front of a stanza and its rest in a store
+
+pub put-together-is : (input rest store copied part : List ℕ) (n : ℕ) → n ≤ length input → n + length rest ≤ length store → copied ≡ filled (take n input) store →
+    part ≡ filled rest (take (length copied - n) (drop n copied)) →
+    take n copied ++ (part ++ drop (length copied - n) (drop n copied)) ≡ (take n input ++ rest) ++ drop (n + length rest) store
+put-together-is input rest store copied part n l m e f =
+    let k : length (take n input) ≡ n = length-take-le n input l in
+    let c : copied ≡ take n input ++ drop n store = e ∙ filled-front (take n input) store (omega arith) ∙ ap (λ i. take n input ++ drop i store) k in
+    let d : drop n copied ≡ drop n store = ap (drop n) c ∙ drop-at (take n input) (drop n store) n k in
+    let t : take n copied ≡ take n input = ap (take n) c ∙ take-at (take n input) (drop n store) n k in
+    let z : length (drop n store) ≡ length store - n = length-drop n store in
+    put-rest n copied part ∙ ap₂ _++_ t (f ∙ ap (filled rest) (part-rest n copied ∙ d) ∙ filled-front rest (drop n store) (omega arith) ∙ ap (λ x. rest ++ x) (drop-drop (length rest) n store))
+    ∙ sym (append-assoc (take n input) rest (drop (n + length rest) store))
+  where
+    filled-front : (x o : List ℕ) → length x ≤ length o → filled x o ≡ x ++ drop (length x) o
+    filled-front x o l = ap (λ f. pick f o (x ++ drop (length x) o)) (le-ltb (length o) (length x) l)
+
+-- what stands at the front of the store
+store-front : (t store after : List ℕ) (n : ℕ) → after ≡ t ++ drop n store → length t ≡ n → take n after ≡ t
+store-front t store after n e l = ap (take n) e ∙ take-at t (drop n store) n l
+
+-- what was kept and the rest, in a store
+pub joined-front : (input rest store after : List ℕ) (n k : ℕ) → n ≤ length input → length rest ≡ k → after ≡ (take n input ++ rest) ++ drop (n + length rest) store →
+    take (n + k) after ≡ take n input ++ rest
+joined-front input rest store after n k l r e =
+    let z : length (take n input ++ rest) ≡ n + k = length-append (take n input) rest ∙ ap₂ _+_ (length-take-le n input l) r in
+    store-front (take n input ++ rest) store after (n + k) (e ∙ ap (λ i. (take n input ++ rest) ++ drop (n + i) store) r) z

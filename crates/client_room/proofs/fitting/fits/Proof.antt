@@ -136,7 +136,7 @@ add-at c =
     let x = c .before .before .before .before .before .before .before .before .before .before .first .given .0 .0 in
     let h = sym (ap readSaid (c .before .before .before .before .before .before .before .before .before .before .first .given .1)) ∙ c .before .before .before .before .before .before .before .before .before .before .before .before .next-stanza .ensures in
     let w = next-within (turnAt client (q .so-far .phase)) (now (a .text)) (q .at) (x .line) (x .body) (x .taken) h (q .inv .0) in
-    omega arith
+    omega (arith, c .before .before .before .before .before .before .before .before .before .before .before .before .before .before .before .before .good)
 
 -- src/fitting.rt:59:5
 loop-less : tie.Need-loop-less Inv-loop μ-loop

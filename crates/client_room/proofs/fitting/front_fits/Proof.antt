@@ -1,13 +1,11 @@
-use Prim.Native.Nat.{ℕ}
-use mathlib.Core.Path.{_≡_, sym, ap, _∙_}
-use native.Mathlib.Omega.{arith}
+use mathlib.Core.Path.{sym, ap, _∙_}
 use denote.Ref.{now}
 use Rattle.stanza.specs.Reading.{readSaid}
 use Rattle.session.specs.Session.{sessionOf}
 use Rattle.conversation.proofs.Laws.ReceivingTwo.{turn-second}
 use Rattle.chunks.specs.Taking.{client, turnAt, awaitedBehind}
 use Rattle.client_room.specs.Stanzas.{takingSaid}
-use Rattle.client_room.proofs.Laws.Room.{ahead-refused-room, ahead-short-room, aheadBuffers, ahead-long, ahead-on-room}
+use Rattle.client_room.proofs.Laws.Room.{ahead-fault-room, ahead-refused-room, ahead-short-room, aheadBuffers, ahead-long, ahead-on-room}
 use borrow.Author.Needs.{needs}
 use Rattle.client_room.proofs.fitting.front_fits.Statement.{statement}
 use Rattle.client_room.proofs.fitting.front_fits.Tie as tie
@@ -43,7 +41,7 @@ enum-known-answer c = search needs
 
 -- src/fitting.rt:130:25
 returns : tie.Need-returns
-returns c = λ b long two one.
+returns c = λ b long two.
     let a = c .before .before .before .before .before .before .before .before .before .before .before .before .before .args in
     let hs = now (a .header-slots) in
     let s = sessionOf (a .session) (now (a .slots)) hs in
@@ -61,14 +59,13 @@ fits-requires c κs = search needs
 
 -- src/fitting.rt:97:1
 returns-2 : tie.Need-returns-2
-returns-2 c = λ b long two one.
-    let e = sym (ap readSaid (c .enum-told .given .1)) ∙ c .before .before .read .ensures ∙ one .2 in
-    let z : _≡_ {A = ℕ} 0 1 = cc in
-    absurd (omega arith)
+returns-2 c = λ b long two.
+    let a = c .before .before .before .before .before .args in
+    ahead-fault-room (sessionOf (a .session) (now (a .slots)) (now (a .header-slots))) b (now (a .front)) (now (a .text)) _ (a .room) (ap (turnAt client) (turn-second (a .session .phase) two))
+    (sym (ap readSaid (c .enum-told .given .1)) ∙ c .before .before .read .ensures)
 
--- src/fitting.rt:97:1
 returns-3 : tie.Need-returns-3
-returns-3 c = λ b long two one.
+returns-3 c = λ b long two.
     let a = c .before .before .before .before .before .before .before .before .before .before .before .args in
     let hs = now (a .header-slots) in
     let s = sessionOf (a .session) (now (a .slots)) hs in
@@ -82,7 +79,7 @@ returns-3 c = λ b long two one.
 
 -- src/fitting.rt:97:1
 returns-4 : tie.Need-returns-4
-returns-4 c = λ b long two one.
+returns-4 c = λ b long two.
     let a = c .before .before .before .before .before .before .before .before .before .before .before .before .before .before .before .args in
     let hs = now (a .header-slots) in
     let s = sessionOf (a .session) (now (a .slots)) hs in

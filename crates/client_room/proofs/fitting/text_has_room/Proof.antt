@@ -1,3 +1,7 @@
+use native.Mathlib.Omega.{arith}
+use denote.Ref.{now}
+use Rattle.session.specs.Session.{sessionOf}
+use Rattle.client_room.proofs.Laws.Room.{text-ample}
 use borrow.Author.Needs.{needs}
 use Rattle.client_room.proofs.fitting.text_has_room.Statement.{statement}
 use Rattle.client_room.proofs.fitting.text_has_room.Tie as tie
@@ -12,7 +16,9 @@ is-ample-requires c κs = search needs
 
 -- src/fitting.rt:174:9
 returns : tie.Need-returns
-returns c = ?
+returns c = λ aw b long.
+    let a = c .before .before .before .before .args in
+    text-ample (sessionOf (a .session) (now (a .slots)) (now (a .header-slots))) b aw (now (a .text)) (a .room) (omega arith) (omega (arith, c .before .is-ample .ensures (c .if2 .taken)))
 
 -- src/fitting.rt:177:5
 fits-requires : tie.Need-fits-requires

@@ -1,3 +1,7 @@
+use mathlib.Core.Path.{sym}
+use lib.Seq.{length-take-le}
+use denote.Ref.{now}
+use Rattle.client_room.proofs.Laws.Stanzas.{put-together-is}
 use borrow.Author.Needs.{needs}
 use Rattle.client_room.proofs.stanzas.put_together.Statement.{statement}
 use Rattle.client_room.proofs.stanzas.put_together.Tie as tie
@@ -7,7 +11,7 @@ use Rattle.stanza.proofs.copy.Reads as copy-reads
 
 -- src/stanzas.rt:67:18
 slice-aggregate-copy : tie.Need-slice-aggregate-copy
-slice-aggregate-copy c = let a = c .before .before .before .before .args in sym (length-take-le (a .kept) (now (a .input)) (a .pre .0))
+slice-aggregate-copy c = let a = c .before .before .before .before .args in sym (length-take-le (a .kept) (now (a .input)) (c .before .before .before .before .pre .0))
 
 -- src/stanzas.rt:67:5
 copy-requires : tie.Need-copy-requires
@@ -35,7 +39,9 @@ same-length c = search needs
 
 -- src/stanzas.rt:62:1
 returns : tie.Need-returns
-returns c = ?
+returns c =
+    let a = c .before .before .before .before .before .before .before .before .before .before .before .before .args in
+    put-together-is (now (a .input)) (now (a .rest)) (now (a .store)) _ _ (a .kept) (c .before .before .before .before .before .before .before .before .before .before .before .before .pre .0) (c .before .before .before .before .before .before .before .before .before .before .before .before .pre .1) (c .before .before .before .before .before .before .copy .ensures) (c .before .before .copy2 .ensures)
 
 pub put-together-spec : {M : Type 1} → statement M
 put-together-spec =
