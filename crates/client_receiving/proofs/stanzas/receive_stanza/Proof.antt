@@ -12,9 +12,9 @@ use Rattle.conversation.specs.ReceivingTwo.{receivedStanza}
 use Rattle.conversation.proofs.Laws.ReceivingTwo.{received-from}
 use Rattle.phase_two.specs.AtOnce.{atOnceSaid}
 use Rattle.phase_two_commands.specs.Commands.{commandSaid, commandOf}
-use Rattle.client_receiving.specs.Receiving.{takingSaid}
-use Rattle.client_receiving.proofs.receiving.receive_stanza.Statement.{statement}
-use Rattle.client_receiving.proofs.receiving.receive_stanza.Tie as tie
+use Rattle.client_room.specs.Stanzas.{takingSaid}
+use Rattle.client_receiving.proofs.stanzas.receive_stanza.Statement.{statement}
+use Rattle.client_receiving.proofs.stanzas.receive_stanza.Tie as tie
 
 arguments-of-requires : tie.Need-arguments-of-requires
 arguments-of-requires c κs = search needs
@@ -56,7 +56,7 @@ moved-requires : tie.Need-moved-requires
 moved-requires c κs = search needs
 
 same-length : tie.Need-same-length
-same-length c = SAMELEN
+same-length c = c .before .before .before .before .before .before .before .before .before .before .before .before .before .before .before .step-two .kept .1 .1 .1 .1 .1 .1 .1 .0
 
 same-length-2 : tie.Need-same-length-2
 same-length-2 c = search needs

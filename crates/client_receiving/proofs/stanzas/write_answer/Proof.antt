@@ -1,8 +1,8 @@
 -- An accepted command has its answer written; a refusal, whose number is never 0, writes nothing.
 use borrow.Author.Needs.{needs}
 use Rattle.refusal.proofs.Laws.Number.{number-not-zero}
-use Rattle.client_receiving.proofs.receiving.write_answer.Statement.{statement}
-use Rattle.client_receiving.proofs.receiving.write_answer.Tie as tie
+use Rattle.client_receiving.proofs.stanzas.write_answer.Statement.{statement}
+use Rattle.client_receiving.proofs.stanzas.write_answer.Tie as tie
 
 enum-told : tie.Need-enum-told
 enum-told c = search needs
