@@ -36,7 +36,8 @@ use Rattle.chunks.proofs.Laws.Cases.{held}
 use Rattle.chunks.proofs.Laws.Runs.{judged-not-15}
 use Rattle.chunks.proofs.Laws.Taking.{turn-drops, turn-says, chunked-read, chunk-held, room-fits, oneAlone, alone-fits, alone-accepted, alone-refused}
 use Rattle.chunks.proofs.Laws.Cut.{text-alone, last-held, chunk-refused, reply-fit, reply-unfit, reply-room, reply-alone}
-use Rattle.chunks.proofs.Laws.Together.{taken-dropped, turn-zero}
+use Rattle.chunks.proofs.Laws.Finish.{turn-not-waiting}
+use Rattle.chunks.proofs.Laws.Together.{taken-dropped}
 
 -- ---- accepted calls
 
@@ -262,7 +263,7 @@ module _ (e : End) (i : Intake) (b : Buffers) where
       let o = chunked-read e i b bytes out t in
       let d = judged-not-15 i b out r (λ z. g (ap (λ (o : Outcome). o .number) o ∙ z)) in
       let q = o ∙ d .0 in
-      let parts = cut-parts bytes (i .reading) (i .kept) (h .front (turn-zero e (i .session .phase) t)) in
+      let parts = cut-parts bytes (i .reading) (i .kept) (h .front (turn-not-waiting e (i .session .phase) t)) in
       let k = before-all (cut (i .reading) (i .kept) bytes .texts) e (i .session) (i .awaited) b (cut (i .reading) (i .kept) bytes .rest) (parts .texts) (parts .rest) (λ z. f (ap (λ (o : Outcome). o .number) q ∙ z)) in
       subst (λ n. Prefix e i b (i .kept ++ bytes) (chunked e i b bytes out) (map alone (take n (partedChunk e i b bytes .received)))) (sym (ap (λ (o : Outcome). o .count) q))
       (prefix-of (i .kept ++ bytes) (chunked e i b bytes out) out r (map alone (take (r .count) (partedChunk e i b bytes .received))) (k .session) (k .awaited) q (d .1) (k .accepts) (k .intake) (k .number)

@@ -27,6 +27,7 @@ use Rattle.chunks.proofs.Laws.Cutting.{restOn, cut-append, IsWhole, cut
 use Rattle.chunks.proofs.Laws.Stanzas.{stepped}
 use Rattle.chunks.proofs.Laws.Cases.{drops-not-reads, held}
 use Rattle.chunks.proofs.Laws.Runs.{judged-not-15}
+use Rattle.chunks.proofs.Laws.Finish.{turn-not-waiting}
 use Rattle.chunks.proofs.Laws.Texts.{front-dropped}
 use Rattle.chunks.proofs.Laws.Taking.{turn-reads, turn-waits, closed-turn, chunked-read}
 use Rattle.chunks.proofs.Laws.Cut.{chunk-refused}
@@ -170,15 +171,6 @@ chunk-drops e s w b n y out h =
     pass m false q = is-untaken _ 15 (emptied s w) b out q
 
 -- ---- one chunk behind another
-
--- a chunk that is read finds no reply due
-pub turn-zero : (e : End) (p : Phase) → turnOf e p ≡ 0 → isWaiting e p ≡ false
-turn-zero client One h = refl
-turn-zero client Two h = refl
-turn-zero client (Awaiting v) h = absurd (omega arith)
-turn-zero client Ended h = refl
-turn-zero client Closed h = refl
-turn-zero plugin p h = refl
 
 -- the texts of both begin with those of the first
 rest-split : (r : Rest) (ts : List (List ℕ)) (y : List ℕ) → (us : List (List ℕ)) × (r′ : Rest) × (restOn r ts y ≡ record { texts = ts ++ us; rest = r′ })
@@ -344,7 +336,7 @@ module _ (e : End) (i : Intake) (b : Buffers) (x y first-out second-out whole-ou
           let p = chunked-read e i b (x ++ y) whole-out n in
           let c = judged-not-15 i b first-out (taken e i b x) (λ z. f (ap (λ (o : Outcome). o .number) o ∙ z)) in
           let d = judged-not-15 i b whole-out (taken e i b (x ++ y)) (λ z. k (ap (λ (o : Outcome). o .number) p ∙ z)) in
-          by-course (c .1) (o ∙ c .0) (d .1) (p ∙ d .0) (course (cut-first .texts) e (i .session) (i .awaited) b (cut-parts x (i .reading) (i .kept) (h .front (turn-zero e (i .session .phase) n)) .texts)) g z
+          by-course (c .1) (o ∙ c .0) (d .1) (p ∙ d .0) (course (cut-first .texts) e (i .session) (i .awaited) b (cut-parts x (i .reading) (i .kept) (h .front (turn-not-waiting e (i .session .phase) n)) .texts)) g z
 
       out-of-turn : eqb (turnOf e (i .session .phase)) 0 ≡ false → Joint
       out-of-turn t =
