@@ -6,3 +6,4 @@ mod responding;
 
 
 pub use commands::receive_one;
+pub use responding::receive_due;
