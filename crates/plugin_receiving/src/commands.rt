@@ -205,7 +205,7 @@ fn receive_front(
 }
 
 // A chunk in phase one.
-pub fn receive_one(
+pub(crate) fn receive_one(
     session: Session,
     chunk: &[u8],
     input: &mut [u8; Session::PLUGIN_INPUT],

@@ -1,9 +1,8 @@
 // The plugin end's receiving: the commands of phase one, and the client's responses in phase two.
 mod commands;
 mod fronts;
+mod phases;
 mod receiving;
 mod responding;
 
-
-pub use commands::receive_one;
-pub use responding::receive_due;
+pub use phases::receive;

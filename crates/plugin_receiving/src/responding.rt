@@ -163,7 +163,7 @@ fn settle_response(session: Session, responded: Responded, left: usize) -> Recei
 }
 
 // Bytes behind a response are 14.
-fn none_behind(left: usize) -> Verdict
+pub(crate) fn none_behind(left: usize) -> Verdict
     ensures { λ r. ⌜ verdictSaid r ≡ pick (eqb left 0) 0 14 ⌝ }
 {
     if left == 0 {
@@ -231,7 +231,7 @@ fn receive_ended(
 }
 
 // A chunk while a command awaits its response: at most one is taken.
-pub fn receive_due(
+pub(crate) fn receive_due(
     session: Session,
     word: WordTwo,
     chunk: &[u8],

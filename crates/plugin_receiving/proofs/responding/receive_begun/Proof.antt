@@ -1,12 +1,6 @@
 use borrow.Author.Needs.{needs}
 use Rattle.plugin_receiving.proofs.responding.receive_begun.Statement.{statement}
 use Rattle.plugin_receiving.proofs.responding.receive_begun.Tie as tie
-use Rattle.plugin_receiving.proofs.responding.receive_begun.Reads as reads
-use Rattle.plugin_receiving.proofs.responding.receive_begun.Lts as lts
-use Rattle.intake.proofs.settle.Reads as settle-reads
-use Rattle.plugin_receiving.proofs.responding.receive_stanza.Reads as receive-stanza-reads
-use Rattle.plugin_receiving.proofs.responding.settle_response.Reads as settle-response-reads
-use Rattle.stanza.proofs.read.Reads as read-reads
 
 -- src/responding.rt:195:9
 read-requires : tie.Need-read-requires

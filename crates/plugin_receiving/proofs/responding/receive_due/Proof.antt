@@ -1,11 +1,6 @@
 use borrow.Author.Needs.{needs}
 use Rattle.plugin_receiving.proofs.responding.receive_due.Statement.{statement}
 use Rattle.plugin_receiving.proofs.responding.receive_due.Tie as tie
-use Rattle.plugin_receiving.proofs.responding.receive_due.Reads as reads
-use Rattle.plugin_receiving.proofs.responding.receive_due.Lts as lts
-use Rattle.plugin_receiving.proofs.fronts.read_front.Reads as read-front-reads
-use Rattle.plugin_receiving.proofs.responding.receive_begun.Reads as receive-begun-reads
-use Rattle.plugin_receiving.proofs.responding.receive_ended.Reads as receive-ended-reads
 
 -- src/responding.rt:250:9
 read-front-requires : tie.Need-read-front-requires

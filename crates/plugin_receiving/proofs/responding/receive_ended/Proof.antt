@@ -1,13 +1,6 @@
 use borrow.Author.Needs.{needs}
 use Rattle.plugin_receiving.proofs.responding.receive_ended.Statement.{statement}
 use Rattle.plugin_receiving.proofs.responding.receive_ended.Tie as tie
-use Rattle.plugin_receiving.proofs.responding.receive_ended.Reads as reads
-use Rattle.plugin_receiving.proofs.responding.receive_ended.Lts as lts
-use Rattle.intake.proofs.kept_of.Reads as kept-of-reads
-use Rattle.plugin_receiving.proofs.fronts.put_together.Reads as put-together-reads
-use Rattle.plugin_receiving.proofs.responding.receive_awaited.Reads as receive-awaited-reads
-use Rattle.plugin_receiving.proofs.responding.settle_response.Reads as settle-response-reads
-use Rattle.session.proofs.front.Reads as front-reads
 
 -- src/responding.rt:225:9
 kept-of-requires : tie.Need-kept-of-requires

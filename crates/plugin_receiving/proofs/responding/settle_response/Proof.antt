@@ -1,12 +1,6 @@
 use borrow.Author.Needs.{needs}
 use Rattle.plugin_receiving.proofs.responding.settle_response.Statement.{statement}
 use Rattle.plugin_receiving.proofs.responding.settle_response.Tie as tie
-use Rattle.plugin_receiving.proofs.responding.settle_response.Reads as reads
-use Rattle.plugin_receiving.proofs.responding.settle_response.Lts as lts
-use Rattle.intake.proofs.leave.Reads as leave-reads
-use Rattle.plugin_receiving.proofs.responding.none_behind.Reads as none-behind-reads
-use Rattle.refusal.proofs.number.Reads as number-reads
-use Rattle.session.proofs.sessions.Session.keeping.Reads as keeping-reads
 
 -- src/responding.rt:141:9
 keeping-requires : tie.Need-keeping-requires
