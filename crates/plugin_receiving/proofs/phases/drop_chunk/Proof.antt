@@ -1,12 +1,6 @@
 use borrow.Author.Needs.{needs}
 use Rattle.plugin_receiving.proofs.phases.drop_chunk.Statement.{statement}
 use Rattle.plugin_receiving.proofs.phases.drop_chunk.Tie as tie
-use Rattle.plugin_receiving.proofs.phases.drop_chunk.Reads as reads
-use Rattle.plugin_receiving.proofs.phases.drop_chunk.Lts as lts
-use Rattle.intake.proofs.kept_of.Reads as kept-of-reads
-use Rattle.plugin_receiving.proofs.phases.dropped.Reads as dropped-reads
-use Rattle.session.proofs.front.Reads as front-reads
-use Rattle.session.proofs.sessions.Session.keeping.Reads as keeping-reads
 
 -- src/phases.rt:36:29
 kept-of-requires : tie.Need-kept-of-requires

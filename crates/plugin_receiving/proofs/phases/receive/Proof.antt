@@ -1,12 +1,6 @@
 use borrow.Author.Needs.{needs}
 use Rattle.plugin_receiving.proofs.phases.receive.Statement.{statement}
 use Rattle.plugin_receiving.proofs.phases.receive.Tie as tie
-use Rattle.plugin_receiving.proofs.phases.receive.Reads as reads
-use Rattle.plugin_receiving.proofs.phases.receive.Lts as lts
-use Rattle.intake.proofs.leave.Reads as leave-reads
-use Rattle.plugin_receiving.proofs.commands.receive_one.Reads as receive-one-reads
-use Rattle.plugin_receiving.proofs.phases.drop_chunk.Reads as drop-chunk-reads
-use Rattle.plugin_receiving.proofs.responding.receive_due.Reads as receive-due-reads
 
 -- src/phases.rt:87:13
 enum-told : tie.Need-enum-told

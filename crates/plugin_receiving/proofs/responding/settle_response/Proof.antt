@@ -1,3 +1,8 @@
+-- By the answer: 15 leaves everything as it was, any other drops what was kept.
+use mathlib.Core.Path.{_≡_, refl, sym, ap, _∙_}
+use borrow.Author.Tests.{eq-eqb, ne-eqb}
+use Rattle.refusal.specs.Number.{numberOf}
+use Rattle.chunks.specs.Taking.{plugin}
 use borrow.Author.Needs.{needs}
 use Rattle.plugin_receiving.proofs.responding.settle_response.Statement.{statement}
 use Rattle.plugin_receiving.proofs.responding.settle_response.Tie as tie
@@ -28,7 +33,10 @@ leave-requires c κs = search needs
 
 -- src/responding.rt:152:17
 returns : tie.Need-returns
-returns c = ?
+returns c = (
+  λ xs hs input b out. rw (c .before*4 .answer2 .given .1, eq-eqb (numberOf (c .before*4 .answer2 .given .0 .0)) 15 (sym (c .before*2 .number .ensures) ∙ c .before .if1 .taken)) (c .leave .ensures .0 plugin xs hs input b out),
+  (?, c .leave .ensures .1),
+)
 
 -- src/responding.rt:132:1
 returns-2 : tie.Need-returns-2
