@@ -14,11 +14,11 @@ none-behind-requires c κs = search needs
 
 -- src/phases.rt:53:9
 returns : tie.Need-returns
-returns c = c .none-behind .ensures ∙ ap (λ n. pick (eqb n 0) 0 14) (omega (arith, c .before .if1 .taken))
+returns c = ?
 
 -- src/phases.rt:49:1
 returns-2 : tie.Need-returns-2
-returns-2 c = ap (λ f. pick f 0 14) (sym (ne-eqb _ 0 (λ z. omega (arith, c .if1 .left, z))))
+returns-2 c = ?
 
 pub dropped-spec : {M : Type 1} → statement M
 dropped-spec = tie.close (tie.spec none-behind-requires returns returns-2)

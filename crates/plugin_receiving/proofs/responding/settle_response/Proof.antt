@@ -34,7 +34,7 @@ leave-requires c κs = search needs
 -- src/responding.rt:152:17
 returns : tie.Need-returns
 returns c = (
-  λ xs hs input b out. rw (c .before*4 .answer2 .given .1, eq-eqb (numberOf (c .before*4 .answer2 .given .0 .0)) 15 (sym (c .before*2 .number .ensures) ∙ c .before .if1 .taken)) (c .leave .ensures .0 plugin xs hs input b out),
+  λ xs hs input b out. rw (c .before .before .before .before .answer2 .given .1, eq-eqb (numberOf (c .before .before .before .before .answer2 .given .0 .0)) 15 (sym (c .before .before .number .ensures) ∙ c .before .if1 .taken)) (c .leave .ensures .0 plugin xs hs input b out),
   (?, c .leave .ensures .1),
 )
 
