@@ -1,5 +1,5 @@
 -- The user's three demands (document 00), with input in chunks (document 02, No. 1), stated over the definitions that the public contracts cite. `outcome` is what a
--- call of one stanza does to a session and its buffers, sending among them; `chunked`, `replied` and `finished` are what a chunk, a reply and the end of the input do.
+-- call of one stanza does to a session and its buffers, a sending among them; `chunked`, `replied` and `finished`, what a chunk, a reply and the input's end do.
 use Prim.Native.Nat.{ℕ, _<_, _≤_}
 use mathlib.Core.Path.{_≡_, ap, _∙_}
 use mathlib.Core.Bool.{Bool, true, false}
@@ -191,7 +191,8 @@ demand-1-reply-undue i b r body out n h = ap (λ d. repliedBy d i b r body out) 
 pub demand-1-output : (e : End) (i : Intake) (b : Buffers) (bytes out : List ℕ) (r : Response) (body : List ℕ) → RestStays (chunked e i b bytes out) out × RestStays (replied i b r body out) out
 demand-1-output e i b bytes out r body = (too-short.chunk-stays e i b bytes out, too-short.reply-stays i b r body out)
 
--- "A session then gives 2 only when the input is declared ended before the conversation has": no chunk and no reply gives 2, and `finish` exactly in phases one and two
+-- "A session then gives 2 only when the input is declared ended before the conversation has": no chunk and no reply gives 2, the input's end does exactly in phases
+-- one and two
 pub demand-1-chunk-two : (e : End) (machine name : List ℕ) (screen : Bool) (before : List (AnyWith e)) (b : Buffers) (bytes out : List ℕ) → chunked e (kept e machine name screen before) b bytes out .number ≡ 2 → ⊥
 demand-1-chunk-two = reaching.reached-not-two
 
@@ -526,8 +527,8 @@ pub chunks-joined : (e : End) (machine name : List ℕ) (screen : Bool) (before 
 chunks-joined e machine name screen before b x y first-out second-out whole-out =
     chunks-together.together e (kept e machine name screen before) b x y first-out second-out whole-out (reaching.reached-bounded e machine name screen before)
 
--- the cut theorem: for both ends and every start that is not closed and keeps nothing, and every list of chunks and replies of which no call is refused with 14 or 15:
--- no call of its uncut list is; outputs, tables, buffers, phase, waiting command and closing number are equal
+-- the cut theorem: for both ends, every start that is not closed and keeps nothing, and every list of chunks and replies of which no call is refused with 14 or
+-- 15: no call of its uncut list is; outputs, tables, buffers, phase, waiting command and closing number are equal
 pub chunks-cut : (e : End) (s : Session) (b : Buffers) (cs : List Piece) → isClosed (s .phase) ≡ false → NoneHeldUp (chunk-lists.numbers e (emptied s []) b cs) →
     SameRun e s b (uncut e (emptied s []) b [] cs) cs
 chunks-cut = cutting.cut-theorem
@@ -591,8 +592,9 @@ any-calls-errors e machine name screen b cs h k =
     let s = opened machine name screen .session in
     ap (λ (s : Session). errorNamed (s .tables) k) (any-calls.any-calls e (emptied s []) b cs (reaching.opened-keeps e machine name screen) h .session) ∙ error-names.names-opened machine name screen b (callsAll e (emptied s []) b cs) k
 
--- "The transcripts allowed are the ones accepted": phase two at the plugin end, its commands sent with the responses in chunks, by a session that has just received
--- done; no call is out of turn, too long for its output buffer, or the end of the input. Accepted to the end of the phase exactly those that have its shape and are allowed
+-- "The transcripts allowed are the ones accepted": phase two at the plugin end, its commands sent and the responses in chunks, by a session that has just received
+-- done, where no call is out of turn, too long for its output buffer or the end of the input: accepted to the end of the phase exactly those that have its shape
+-- and are allowed
 pub any-calls-plugin : (s : Session) (b : Buffers) → JustReceived s → (cs : List AnyCall) → All (Has plugin) cs → let i = emptied s [] in let ds = callsAll plugin i b cs in
     InTurn (numbersAny plugin i b cs) → LongEnough s b ds → (AllZero (numbersAny plugin i b cs) × (afterAny plugin i b cs .intake .session .phase ≡ Ended))
     ↔ ((p : ShapedSent ds) × AllowedSent (s .machine) (leftOf (stateOf s b)) (capacityOf b) (p .ahead ++ (p .last ∷ [])))
