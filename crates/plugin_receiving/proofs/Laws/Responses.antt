@@ -1,10 +1,10 @@
 -- A chunk in which a response ends: what the code's step for one stanza and the bytes behind it come to.
-use Prim.Native.Nat.{ℕ, zero, suc, _≤_, _<_}
+use Prim.Native.Nat.{ℕ, zero, suc, _-_, _≤_, _<_, min}
 use mathlib.Core.Path.{_≡_, refl, sym, ap, ap₂, _∙_}
 use mathlib.Core.Bool.{Bool, true, false, _&&_}
 use mathlib.Core.List.{List, [], _∷_, _++_, append-nil}
 use lib.Dec.{eqb, leb}
-use lib.ListN.{length, take, drop, length-append, length-take, take-append-drop}
+use lib.ListN.{length, take, drop, length-drop, length-take, take-append-drop}
 use native.Mathlib.Omega.{arith}
 use borrow.Author.Tests.{eqb-true, eqb-false, eq-eqb, ne-eqb, le-leb, lt-leb, leb-true, leb-false, ltb-false}
 use Rattle.refusal.specs.Number.{numberOf}
@@ -12,24 +12,42 @@ use Rattle.refusal.specs.Output.{filled}
 use Rattle.refusal.specs.Pick.{pick}
 use Rattle.refusal.proofs.Laws.Booleans.{cases}
 use Rattle.refusal.proofs.Laws.Number.{number-not-zero}
-use Rattle.stanza.specs.Reading.{readFirst}
-use Rattle.session.specs.Session.{Session}
+use Rattle.refusal.specs.Verdict.{verdictSaid}
+use Rattle.stanza.specs.Reading.{stanza, refused, readFirst}
+use Rattle.stanza.specs.Resuming.{placeSaid, continued, whole}
+use Rattle.session.specs.Session.{Session, sessionOf}
+use Rattle.session.specs.declared.phases.Phase.the-variants.{Awaiting}
+use Rattle.session.specs.declared.sessions.Session.{Session as CodeSession}
+use Rattle.session.specs.declared.words.WordTwo.{WordTwo}
+use Rattle.phase_one.specs.PhaseOne as one
 use Rattle.conversation.specs.Calls as one-call
 use Rattle.conversation.specs.Calls.{respond, outcome, respondedOutcome, bodyRead}
-use Rattle.conversation.specs.Kinds.{Buffers}
-use Rattle.conversation.specs.Responding.{responded}
+use Rattle.conversation.specs.Kinds.{Buffers, buffersOf}
+use Rattle.conversation.specs.PhaseTwo as two
+use Rattle.conversation.specs.Responding.{responded, respondedBy, respondedText}
+use Rattle.conversation.specs.TurnsTwo.{dueIn}
 use Rattle.conversation.proofs.Laws.Accepted.{accepted}
 use Rattle.conversation.proofs.Laws.StepsTwo.{all-written}
-use Rattle.chunks.specs.Taking.{plugin, room, turnAt, Last, no-stanza, lastIn, Taken, Intake, noMore, emptied, behind, oneMore, takenText}
-use Rattle.chunks.specs.Chunks.{Outcome, judged, isHeld, untaken, taken}
-use Rattle.chunks.proofs.Laws.Rooms.{withOutput, unfitting, response-fits, response-overflows, response-declined}
+use Rattle.chunks.specs.Taking.{plugin, reads, room, turnAt, stanzaCall, no-stanza, lastIn, Taken, Intake, noMore, emptied, oneMore, takenText}
+use Rattle.chunks.specs.Chunks.{Outcome, judged, untaken, taken}
+use Rattle.chunks.proofs.Laws.Cases.{keeps-not-reads}
+use Rattle.chunks.proofs.Laws.Rooms.{response-fits, response-overflows, response-declined}
 use Rattle.chunks.proofs.Laws.Short.{taken-not-short}
-use Rattle.chunks.proofs.Laws.Texts.{stanzaTaken, text-dropped}
+use Rattle.chunks.proofs.Laws.Texts.{stanzaTaken, text-dropped, text-stanza, behind-none}
+use Rattle.intake.specs.Intake.{intakeOf, lastSaid, takenSaid, receivedSaid}
+use Rattle.intake.specs.Settling.{MaySettle, Says}
+use Rattle.intake.specs.declared.answers.Received.{Received as CodeReceived}
 use Rattle.intake.proofs.Laws.Keeping.{filled-whole, filled-empty}
+use Rattle.plugin_receiving.specs.Commands.{beginsAt}
 use Rattle.plugin_receiving.specs.Responding.{answeringSaid, respondedSaid, settledAs, settledResponse}
 use Rattle.plugin_receiving.specs.declared.responding.Answering.{Answering as CodeAnswering}
 use Rattle.plugin_receiving.specs.declared.responding.Answering.the-variants as the
 use Rattle.plugin_receiving.specs.declared.responding.Responded.{Responded as CodeResponded}
+use Rattle.plugin_receiving.proofs.Laws.Commands.{chunk-begins, chunk-ends, stanza-not-refused}
+
+-- some buffers, where none is used
+pub noBuffers : Buffers
+noBuffers = buffersOf (one.buffersOf [] [] [] []) (two.buffersOf [] [] [])
 
 -- bytes that stand at the front already
 pub filled-own : (k : ℕ) (o : List ℕ) → o ≡ filled (take k o) o
@@ -222,3 +240,73 @@ module _ (s : Session) (b : Buffers) (i : Intake) (bytes t rest out : List ℕ)
           settled-refused b i (length rest) v after (x .answer) _ (said-is ∙ response-declined s b t out z) z
           (λ h. taken-not-short plugin i b bytes (ap (λ (t : Taken). t .number) (none-taken z) ∙ h))
           ∙ sym (ap (judged i b out) (none-taken z) ∙ judged-silent i b out (noMore (inRoom .number) (emptied (inRoom .session) []) b) refl (omega arith)))
+
+-- an answer that says what was taken, and wrote nothing
+pub says-judged : (r : CodeReceived) (xs hs : List (List ℕ)) (before after out : List ℕ) (b : Buffers) (i : Intake) (t : Taken) →
+    Says plugin r xs hs before after [] b t → r .written ≡ 0 → receivedSaid plugin r xs hs after b out ≡ judged i b out t
+says-judged r xs hs before after out b i t h z =
+    ap at z
+    ∙ sym (judged-silent i b out (takenSaid plugin r xs hs after [] b) refl (omega (arith, length-take (min (r .session .kept) 8191) after)))
+    ∙ ap (judged i b out) (h .taken)
+  where
+    at : ℕ → Outcome
+    at n = record {
+      number = verdictSaid (r .verdict);
+      count = r .count;
+      last = lastSaid (r .last);
+      size = n;
+      intake = intakeOf plugin (r .session) xs hs after;
+      buffers = b;
+      output = out;
+    }
+
+-- ---- a chunk while a command awaits its response
+
+module _ (s : CodeSession) (w : WordTwo) (due : s .phase ≡ Awaiting w) (input : List ℕ) (long : 8192 ≤ length input) (chunk : List ℕ) where
+  -- no whole stanza stands in it
+  pub may-settle-due : (n : ℕ) → readFirst chunk ≡ refused n → MaySettle plugin (s .phase) reads [] chunk input
+  may-settle-due n h = record {
+    turn = ap (turnAt plugin) due;
+    none-waits = λ k. refl;
+    no-stanza = λ r l m k e. stanza-not-refused n l m k (sym h ∙ e);
+    short = λ k. absurd (keeps-not-reads (sym k));
+    long = long;
+  }
+
+  module _ (xs hs : List (List ℕ)) (b : Buffers) where
+    abbrev i : Intake
+    i = intakeOf plugin s xs hs input
+
+    abbrev v : Session
+    v = sessionOf s xs hs
+
+    -- it begins a stanza
+    begun-text : beginsAt (s .reading) (min (s .kept) 8191) ≡ true → takenText plugin v b [] chunk ≡ taken plugin i b chunk
+    begun-text h = sym (behind-none plugin v b [] _ _) ∙ chunk-begins s xs hs input long (ap (turnAt plugin) due) chunk b h
+
+    module _ (x : CodeResponded) (out after : List ℕ) where
+      by-due : (text : List ℕ) → respondedSaid x xs hs after ≡ respondedText (readFirst text) w v text out → respondedSaid x xs hs after ≡ responded v text out
+      by-due text e = e ∙ sym (ap (λ p. respondedBy (dueIn p) v text out) due)
+
+      -- .. and the stanza ends in it
+      pub begun-settled : beginsAt (s .reading) (min (s .kept) 8191) ≡ true → (l m k : ℕ) → readFirst chunk ≡ stanza l m k →
+          respondedSaid x xs hs after ≡ respondedText (stanza l m k) w v chunk out →
+          settledResponse (respondedSaid x xs hs after) i b (length chunk - k) ≡ judged i b out (taken plugin i b chunk)
+      begun-settled f l m k h e =
+          ap (settledResponse (respondedSaid x xs hs after) i b) (sym (length-drop k chunk))
+          ∙ response-settled v b i chunk chunk (drop k chunk) out
+          (sym (begun-text f) ∙ text-stanza plugin v b [] (ap (turnAt plugin) due) chunk l m k h
+          ∙ ap (λ p. stanzaTaken plugin b (outcome v b (stanzaCall plugin p chunk)) chunk (drop k chunk)) due)
+          x xs hs after (by-due chunk (e ∙ ap (λ r. respondedText r w v chunk out) (sym h)))
+
+      -- a stanza that began in an earlier chunk ends behind k bytes
+      pub ended-settled : (k : ℕ) → continued (placeSaid (s .reading)) (min (s .kept) 8191) chunk ≡ whole k →
+          (text : List ℕ) → text ≡ take (min (s .kept) 8191) input ++ take k chunk →
+          respondedSaid x xs hs after ≡ respondedText (readFirst text) w v text out →
+          settledResponse (respondedSaid x xs hs after) i b (length chunk - k) ≡ judged i b out (taken plugin i b chunk)
+      ended-settled k h text at e =
+          ap (settledResponse (respondedSaid x xs hs after) i b) (sym (length-drop k chunk))
+          ∙ response-settled v b i chunk text (drop k chunk) out
+          (chunk-ends s xs hs input long (ap (turnAt plugin) due) chunk k h b
+          ∙ ap₂ (λ p t. stanzaTaken plugin b (outcome v b (stanzaCall plugin p t)) t (drop k chunk)) due (sym at))
+          x xs hs after (by-due text e)
