@@ -50,10 +50,10 @@ same-length c = search needs
 
 returns : tie.Need-returns
 returns c =
-    let a = c .before*12 .args in
-    let p = c .before*12 .pre in
-    let n = c .before*2 .settle in
-    let reading : readFirst (now (a .chunk)) ≡ refused (numberOf (c .before*5 .enum-told .given .0 .0)) = sym (c .before*7 .read .ensures) ∙ ap readSaid (c .before*5 .enum-told .given .1) in
+    let a = c .before .before .before .before .before .before .before .before .before .before .before .before .args in
+    let p = c .before .before .before .before .before .before .before .before .before .before .before .before .pre in
+    let n = c .before .before .settle in
+    let reading : readFirst (now (a .chunk)) ≡ refused (numberOf (c .before .before .before .before .before .enum-told .given .0 .0)) = sym (c .before .before .before .before .before .before .before .read .ensures) ∙ ap readSaid (c .before .before .before .before .before .enum-told .given .1) in
     let may = may-settle-due (a .so-far .session) (a .word) (p .0) (now (a .input)) (p .1 .0) (now (a .chunk)) _ reading in (
       λ xs hs b.
           let i = intakeOf plugin (a .so-far .session) xs hs (now (a .input)) in
