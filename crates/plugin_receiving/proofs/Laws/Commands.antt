@@ -7,9 +7,8 @@ use lib.Dec.{eqb}
 use lib.ListN.{length, take, drop, length-drop}
 use lib.Seq.{length-take-le, take-all, drop-drop}
 use native.Mathlib.Omega.{arith}
-use borrow.Author.Tests.{eqb-true, eqb-false, le-ltb}
+use borrow.Author.Tests.{eqb-true, eqb-false}
 use Rattle.refusal.specs.Number.{numberOf}
-use Rattle.refusal.specs.Output.{filled}
 use Rattle.refusal.specs.Pick.{pick}
 use Rattle.refusal.specs.Verdict.{verdictSaid}
 use Rattle.refusal.specs.declared.Refusal.{Refusal}
@@ -49,6 +48,7 @@ use Rattle.chunks.specs.Uncut.{isWaiting}
 use Rattle.chunks.proofs.Laws.Bounds.{stanza-long}
 use Rattle.chunks.proofs.Laws.Cases.{drops-not-reads, keeps-not-reads, keeps-not-drops}
 use Rattle.chunks.proofs.Laws.Texts.{stanzaTaken, takenCut, text-stanza, front-left, front-fault, front-stanza, behind-more, behind-none}
+use Rattle.intake.proofs.Laws.Keeping.{filled-empty}
 use Rattle.intake.specs.Intake.{intakeOf, storedIn, lastSaid, takenSaid}
 use Rattle.intake.specs.Settling.{MaySettle, Says}
 use Rattle.intake.specs.declared.answers.Received.{Received as CodeReceived}
@@ -272,10 +272,6 @@ may-settle n p t rest input z w e long none = record {
     plugin-keeps Ended h = keeps-not-drops 13 (sym h)
     plugin-keeps Closed h = keeps-not-drops 13 (sym h)
 
--- nothing is kept, and the input is as it was
-pub filled-nothing : (input : List ℕ) → input ≡ filled [] input
-filled-nothing input = rw (le-ltb (length input) 0 (omega arith))
-
 -- nothing is taken behind a refusal, and nothing is kept
 pub refusal-stands : (r : CodeReceived) (q : Refusal) (s : CodeSession) (xs hs : List (List ℕ)) (b : Buffers) (input rest : List ℕ) → r .verdict ≡ the-verdict.Refused q →
     s ≡ record {
@@ -288,7 +284,7 @@ pub refusal-stands : (r : CodeReceived) (q : Refusal) (s : CodeSession) (xs hs :
       kept = 0;
       awaited = 0;
     } → Says plugin (record { verdict = r .verdict; count = r .count; last = r .last; written = r .written; session = s }) xs hs input input [] b (comesTo r xs hs b rest)
-refusal-stands r q s xs hs b input rest v e = record { taken = rw (e, v, number-not-zero q) (ap (λ n. at n) (omega arith)); input = rw e (filled-nothing input) }
+refusal-stands r q s xs hs b input rest v e = record { taken = rw (e, v, number-not-zero q) (ap (λ n. at n) (omega arith)); input = rw e (filled-empty input) }
   where
     at : ℕ → Taken
     at n = record {
@@ -308,7 +304,7 @@ says-same r xs hs before before′ after b t t′ i e h = record { taken = h .ta
 -- nothing is kept, and the input is as it was
 pub says-emptied : (r : CodeReceived) (xs hs : List (List ℕ)) (input : List ℕ) (b : Buffers) (n : ℕ) (s : Session) →
     takenSaid plugin r xs hs input [] b ≡ noMore n (emptied s []) b → Says plugin r xs hs input input [] b (noMore n (emptied s []) b)
-says-emptied r xs hs input b n s h = record { taken = h; input = filled-nothing input ∙ sym (ap (λ (x : Taken). storedIn (x .intake) input) h) }
+says-emptied r xs hs input b n s h = record { taken = h; input = filled-empty input ∙ sym (ap (λ (x : Taken). storedIn (x .intake) input) h) }
 
 -- ---- a stanza that began in an earlier chunk
 
