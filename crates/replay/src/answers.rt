@@ -7,21 +7,24 @@ use crate::print::print_last;
 use crate::print::print_number;
 use crate::print::print_ok;
 use crate::print::print_words;
+use intake::Last;
+use intake::Received;
 use judging::Judged;
 use phase_one::WordOne;
 use refusal::Refusal;
+use refusal::Verdict;
 use refusal::Written;
 use responses::Response;
 use session::WordTwo;
 
-// The words of the commands and the responses that are received, which number them.
-pub const NAMES: [u8; 152] =
-    *b"add-recipient add-identity wrap-file-key recipient-stanza done other msg confirm request-public request-secret file-key error ok yes no fail unsupported";
+// The words of the commands and the responses that are received, which number them; the last is that of none.
+pub const NAMES: [u8; 154] =
+    *b"add-recipient add-identity wrap-file-key recipient-stanza done other msg confirm request-public request-secret file-key error ok yes no fail unsupported -";
 
 // The answer is printed already, up to some byte of the output buffer; the line is no call; no session is open for it, or the end that is open
 // does not have it; it is refused; or it is accepted: with nothing to tell, one of a few words, a number, a text of some bytes at the front of
-// the buffer lent, a command or a response received (the number of its word, how many bytes it took, and how many stand at the front of the
-// buffer lent), or a verdict.
+// the buffer lent, or a verdict. Of what was received: the refusal's number, 0 where there is none, how many stanzas were taken, the number of
+// the last one's word, and how many bytes stand at the front of the buffer lent.
 pub enum Answer {
     Printed(usize),
     Bad,
@@ -31,7 +34,7 @@ pub enum Answer {
     Finding(usize),
     Number(u64),
     Text(usize),
-    Received(usize, usize, usize),
+    Received(u8, usize, usize, usize),
     Judged(Judged),
 }
 
@@ -44,7 +47,7 @@ pub fn answer_of(written: Written) -> Answer {
 }
 
 // The number of the word of a command of phase one.
-pub fn number_one(word: WordOne) -> usize {
+fn number_one(word: WordOne) -> usize {
     match word {
         WordOne::AddRecipient => 0,
         WordOne::AddIdentity => 1,
@@ -71,13 +74,51 @@ pub fn number_two(word: WordTwo) -> usize {
 }
 
 // The number of a response's word.
-pub fn number_response(response: Response) -> usize {
+fn number_response(response: Response) -> usize {
     match response {
         Response::Ok => 12,
         Response::Yes => 13,
         Response::No => 14,
         Response::Fail => 15,
         Response::Unsupported => 16,
+    }
+}
+
+// The number of the last word received.
+fn number_last(last: Last) -> usize {
+    match last {
+        Last::CommandOne(word) => number_one(word),
+        Last::CommandTwo(word) => number_two(word),
+        Last::Response(response) => number_response(response),
+        Last::Nothing => 17,
+    }
+}
+
+// The number of a refusal, 0 where there is none.
+fn number_verdict(verdict: Verdict) -> u8 {
+    match verdict {
+        Verdict::Accepted => 0,
+        Verdict::Refused(r) => refusal::number(r),
+    }
+}
+
+// The answer of a call that received.
+pub fn answer_received(received: Received) -> Answer {
+    let verdict = received.verdict;
+    let last = received.last;
+    Answer::Received(
+        number_verdict(verdict),
+        received.count,
+        number_last(last),
+        received.written,
+    )
+}
+
+// The answer of a call that is accepted with nothing to tell, or refused.
+pub fn answer_verdict(verdict: Verdict) -> Answer {
+    match verdict {
+        Verdict::Accepted => Answer::Accepted,
+        Verdict::Refused(r) => Answer::Refused(r),
     }
 }
 
@@ -105,7 +146,14 @@ pub fn print_answer(
         Answer::Finding(k) => print_text(stanza::argument(&FINDINGS, k), out, at),
         Answer::Number(n) => print_numbered(b"ok", n, out, at),
         Answer::Text(n) => print_text(front(buffer, n), out, at),
-        Answer::Received(k, taken, n) => print_received(k, taken as u64, front(buffer, n), out, at),
+        Answer::Received(r, count, last, n) => print_received(
+            r,
+            count,
+            last,
+            front(buffer, n),
+            out,
+            at,
+        ),
         Answer::Judged(judged) => print_judged(judged, out, at),
     }
 }
@@ -123,11 +171,27 @@ pub fn print_text(bytes: &[u8], out: &mut Output, at: usize) -> usize {
     print_last(bytes, out, next)
 }
 
-// A command or a response that was received: the number of its word, how many bytes it took, and what was answered at once, or its body.
-fn print_received(k: usize, taken: u64, bytes: &[u8], out: &mut Output, at: usize) -> usize {
-    let a = print_ok(out, at);
-    let b = print_number(taken, out, a);
-    print_words(stanza::argument(&NAMES, k), bytes, out, b)
+// What was received: whether it was refused, how many stanzas were taken, the last one's word, and what was written.
+fn print_received(
+    refused: u8,
+    count: usize,
+    last: usize,
+    bytes: &[u8],
+    out: &mut Output,
+    at: usize,
+) -> usize {
+    let a = print_verdict(refused, out, at);
+    let b = print_number(count as u64, out, a);
+    print_words(stanza::argument(&NAMES, last), bytes, out, b)
+}
+
+// Accepted, or refused with a number.
+fn print_verdict(refused: u8, out: &mut Output, at: usize) -> usize {
+    if refused == 0 {
+        return print_ok(out, at);
+    }
+    let next = print_bytes(b"refused", out, at);
+    print_number(refused as u64, out, next)
 }
 
 // The judging program's verdict.

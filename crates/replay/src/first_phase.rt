@@ -1,19 +1,17 @@
-// The calls of phase one: the client end sends, the plugin end receives. Each buffer is cut to the length that the host keeps.
-use crate::answers::Answer;
+// The client end sends, the plugin end receives. Each buffer is cut to the length that the host keeps.
 use crate::answers::answer_of;
-use crate::answers::number_one;
 use crate::host::HeaderSlots;
 use crate::host::Host;
+use crate::host::PluginInput;
 use crate::host::Slots;
 use crate::host::Turn;
+use crate::host::keep_received;
 use crate::parts::cut;
 use crate::words::Words;
 use crate::words::joined_words;
 use crate::words::word;
-use client::Sent;
+use client_sending::Sent;
 use phase_one::WordOne;
-use plugin::Received;
-use plugin::Taking;
 use script::CommandChoice;
 
 // send COMMAND ARGS BODY OUT, where OUT is n
@@ -32,7 +30,7 @@ pub fn send_one(
 ) -> Turn {
     let lengths = host.lengths;
     let command = command_one(word(text, w, 1));
-    let sent = client::send(
+    let sent = client_sending::send(
         host.session,
         command,
         arguments_one(command, text, w),
@@ -80,11 +78,14 @@ fn keep_sent(sent: Sent, mut host: Host) -> Turn {
     }
 }
 
-// receive TEXT OUT; nothing is written in phase one.
+// chunk BYTES OUT at the plugin end, where OUT is n
 pub fn receive_one(
+    n: usize,
     text: &[u8],
     w: Words,
+    buffer: &mut [u8],
     host: Host,
+    input: &mut PluginInput,
     slots: &mut Slots,
     header_slots: &mut HeaderSlots,
     recipients: &mut [u8],
@@ -93,34 +94,17 @@ pub fn receive_one(
     headers: &mut [u8],
 ) -> Turn {
     let lengths = host.lengths;
-    let received = plugin::receive(
+    let received = plugin_receiving::receive(
         host.session,
         word(text, w, 1),
+        input,
         slots,
         header_slots,
         cut(recipients, lengths.recipients),
         cut(identities, lengths.identities),
         cut(keys, lengths.keys),
         cut(headers, lengths.headers),
+        cut(buffer, n),
     );
     keep_received(received, host)
-}
-
-// What a receiving came to.
-fn keep_received(received: Received, mut host: Host) -> Turn {
-    let taking = received.answer;
-    let session = received.session;
-    host.session = session;
-    Turn {
-        answer: answer_taken(taking),
-        host: host,
-    }
-}
-
-// The answer of a command received.
-fn answer_taken(taking: Taking) -> Answer {
-    match taking {
-        Taking::Command(word, taken) => Answer::Received(number_one(word), taken, 0),
-        Taking::Refused(r) => Answer::Refused(r),
-    }
 }

@@ -1,11 +1,18 @@
 // What is open: a session of either end or none, and the lengths of the buffers that each call of it is lent.
 use crate::answers::Answer;
+use crate::answers::answer_received;
+use intake::Received;
 use session::Session;
 
 // The slots of a session's header stanzas, and of its other kinds.
 pub type HeaderSlots = [[usize; 4]; Session::HEADER_STANZAS];
 
 pub type Slots = [[usize; 4]; Session::OTHER_SLOTS];
+
+// What each end keeps of its input.
+pub type ClientInput = [u8; Session::CLIENT_INPUT];
+
+pub type PluginInput = [u8; Session::PLUGIN_INPUT];
 
 // Which end is open.
 pub enum End {
@@ -66,6 +73,16 @@ pub fn no_session() -> Host {
 pub fn answered(answer: Answer, host: Host) -> Turn {
     Turn {
         answer: answer,
+        host: host,
+    }
+}
+
+// What a receiving came to.
+pub fn keep_received(received: Received, mut host: Host) -> Turn {
+    let session = received.session;
+    host.session = session;
+    Turn {
+        answer: answer_received(received),
         host: host,
     }
 }

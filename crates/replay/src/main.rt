@@ -16,7 +16,9 @@ mod turns;
 mod words;
 
 use answers::print_answer;
+use host::ClientInput;
 use host::HeaderSlots;
+use host::PluginInput;
 use host::Slots;
 use host::no_session;
 use lines::Line;
@@ -37,6 +39,8 @@ fn main() {
     let mut text = io::large_buffer();
     let mut buffer = io::large_buffer();
     let mut out = [0u8; 131072];
+    let mut client_input = [0u8; Session::CLIENT_INPUT];
+    let mut plugin_input = [0u8; Session::PLUGIN_INPUT];
     let mut slots = Session::open_slots();
     let mut header_slots = Session::open_header_slots();
     let mut recipients = [0u8; 65536];
@@ -52,6 +56,8 @@ fn main() {
         &mut text,
         &mut buffer,
         &mut out,
+        &mut client_input,
+        &mut plugin_input,
         &mut slots,
         &mut header_slots,
         &mut recipients,
@@ -72,6 +78,8 @@ fn run(
     text: &mut Buffer,
     buffer: &mut Buffer,
     out: &mut Output,
+    client_input: &mut ClientInput,
+    plugin_input: &mut PluginInput,
     slots: &mut Slots,
     header_slots: &mut HeaderSlots,
     recipients: &mut Buffer,
@@ -95,6 +103,8 @@ fn run(
             out,
             s.at,
             host,
+            client_input,
+            plugin_input,
             slots,
             header_slots,
             recipients,

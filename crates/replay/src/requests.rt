@@ -12,7 +12,7 @@ use script::Number;
 use script::ReplyChoice;
 
 // A call that needs no session; one that opens a session or sets the lengths of its buffers; one of phase one or of phase two; an entry by
-// kind and number; all tables; one that no open session takes; or no call.
+// kind and number; all tables; the text that awaits an answer; the end of the input; one that no open session takes; or no call.
 pub enum Request {
     Plain(Call),
     Setting(Call),
@@ -20,23 +20,23 @@ pub enum Request {
     PhaseTwo(TalkTwo),
     Entry(TextKind, usize),
     Show,
+    Awaited,
+    Finish,
     Missing,
     Bad,
 }
 
-// The client end sends, lent an output buffer of some length, or the plugin end receives.
+// The client end sends, or the plugin end receives a chunk (in either phase), each lent an output buffer of some length.
 pub enum TalkOne {
     Send(usize),
-    Receive,
+    Receive(usize),
 }
 
-// The plugin end sends, the client end receives, the client's host replies, or the plugin end receives a response, each lent an output
-// buffer of some length.
+// The plugin end sends, the client end receives a chunk, or its host replies, each lent an output buffer of some length.
 pub enum TalkTwo {
     Send(usize),
     Receive(usize),
     Reply(Response, usize),
-    Response(usize),
 }
 
 // What a line asks for, by its words and by the end that is open.
@@ -46,11 +46,12 @@ pub fn read_request(end: End, text: &[u8], w: Words) -> Request {
         Call::Open => Request::Setting(call),
         Call::Buffers => Request::Setting(call),
         Call::Send => send_at(end, read_out(5, text, w)),
-        Call::Receive => receive_at(end, read_out(3, text, w)),
-        Call::Response => response_at(end, read_out(3, text, w)),
-        Call::Reply => reply_at(end, read_reply(text, w)),
-        Call::Entry => look_at(end, read_entry(text, w)),
-        Call::Show => look_at(end, read_show(w)),
+        Call::Chunk => receive_at(end, read_out(3, text, w)),
+        Call::Reply => client_at(end, read_reply(text, w)),
+        Call::Awaited => client_at(end, read_alone(Request::Awaited, w)),
+        Call::Finish => session_at(end, read_alone(Request::Finish, w)),
+        Call::Entry => session_at(end, read_entry(text, w)),
+        Call::Show => session_at(end, read_alone(Request::Show, w)),
         _ => Request::Plain(call),
     }
 }
@@ -75,7 +76,7 @@ fn send_at(end: End, out: Number) -> Request {
     }
 }
 
-// receive TEXT OUT: each end receives in the other's phase.
+// chunk BYTES OUT
 fn receive_at(end: End, out: Number) -> Request {
     let Number::Value(n) = out else {
         return Request::Bad;
@@ -83,18 +84,7 @@ fn receive_at(end: End, out: Number) -> Request {
     match end {
         End::Nothing => Request::Missing,
         End::Client => Request::PhaseTwo(TalkTwo::Receive(n as usize)),
-        End::Plugin => Request::PhaseOne(TalkOne::Receive),
-    }
-}
-
-// response TEXT OUT, which the client end does not have
-fn response_at(end: End, out: Number) -> Request {
-    let Number::Value(n) = out else {
-        return Request::Bad;
-    };
-    match end {
-        End::Plugin => Request::PhaseTwo(TalkTwo::Response(n as usize)),
-        _ => Request::Missing,
+        End::Plugin => Request::PhaseOne(TalkOne::Receive(n as usize)),
     }
 }
 
@@ -116,15 +106,15 @@ fn read_reply(text: &[u8], w: Words) -> Request {
     }
 }
 
-// A reply at the end that is open; the plugin end does not have it.
-fn reply_at(end: End, request: Request) -> Request {
-    let Request::PhaseTwo(reply) = request else {
-        return request;
-    };
-    match end {
-        End::Client => Request::PhaseTwo(reply),
-        _ => Request::Missing,
+// A call that the client end alone has.
+fn client_at(end: End, request: Request) -> Request {
+    if let Request::Bad = request {
+        return Request::Bad;
     }
+    if let End::Client = end {
+        return request;
+    }
+    Request::Missing
 }
 
 // entry recipient N, entry identity N
@@ -144,16 +134,16 @@ fn read_entry(text: &[u8], w: Words) -> Request {
     }
 }
 
-// show
-fn read_show(w: Words) -> Request {
+// show, awaited, finish
+fn read_alone(request: Request, w: Words) -> Request {
     if w.count != 1 {
         return Request::Bad;
     }
-    Request::Show
+    request
 }
 
-// A look at the end that is open.
-fn look_at(end: End, request: Request) -> Request {
+// A call that both ends have.
+fn session_at(end: End, request: Request) -> Request {
     if let Request::Bad = request {
         return Request::Bad;
     }

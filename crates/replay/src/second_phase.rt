@@ -1,23 +1,17 @@
-// The calls of phase two: the plugin end sends and receives responses, the client end receives and replies. Each buffer is cut to the
+// The plugin end sends, the client end receives and its host replies. Each buffer is cut to the
 // length that the host keeps.
-use crate::answers::Answer;
 use crate::answers::answer_of;
-use crate::answers::number_response;
-use crate::answers::number_two;
+use crate::host::ClientInput;
 use crate::host::HeaderSlots;
 use crate::host::Host;
 use crate::host::Slots;
 use crate::host::Turn;
+use crate::host::keep_received;
 use crate::parts::cut;
 use crate::words::Words;
 use crate::words::joined_words;
 use crate::words::word;
-use client::Received;
-use client::Replied;
-use client::Taking;
-use plugin::Answering;
-use plugin::Responded;
-use plugin::Sent;
+use plugin_sending::Sent;
 use responses::Response;
 use script::CommandTwoChoice;
 use session::WordTwo;
@@ -37,7 +31,7 @@ pub fn send_two(
 ) -> Turn {
     let lengths = host.lengths;
     let command = command_two(word(text, w, 1));
-    let sent = plugin::send(
+    let sent = plugin_sending::send(
         host.session,
         command,
         arguments_two(command, text, w),
@@ -87,13 +81,14 @@ fn keep_sent(sent: Sent, mut host: Host) -> Turn {
     }
 }
 
-// receive TEXT OUT, where OUT is n
+// chunk BYTES OUT at the client end, where OUT is n
 pub fn receive_two(
     n: usize,
     text: &[u8],
     w: Words,
     buffer: &mut [u8],
     host: Host,
+    input: &mut ClientInput,
     slots: &mut Slots,
     header_slots: &HeaderSlots,
     errors: &mut [u8],
@@ -101,9 +96,10 @@ pub fn receive_two(
     returned: &mut [u8],
 ) -> Turn {
     let lengths = host.lengths;
-    let received = client::receive(
+    let received = client_receiving::receive(
         host.session,
         word(text, w, 1),
+        input,
         slots,
         header_slots,
         cut(errors, lengths.errors),
@@ -114,25 +110,6 @@ pub fn receive_two(
     keep_received(received, host)
 }
 
-// What a receiving came to.
-fn keep_received(received: Received, mut host: Host) -> Turn {
-    let taking = received.answer;
-    let session = received.session;
-    host.session = session;
-    Turn {
-        answer: answer_taken(taking),
-        host: host,
-    }
-}
-
-// The answer of a command received.
-fn answer_taken(taking: Taking) -> Answer {
-    match taking {
-        Taking::Command(word, taken, written) => Answer::Received(number_two(word), taken, written),
-        Taking::Refused(r) => Answer::Refused(r),
-    }
-}
-
 // reply ANSWER BODY OUT, where ANSWER is the response and OUT is n
 pub fn reply(
     n: usize,
@@ -141,45 +118,25 @@ pub fn reply(
     w: Words,
     buffer: &mut [u8],
     host: Host,
+    input: &mut ClientInput,
+    slots: &mut Slots,
+    header_slots: &HeaderSlots,
+    errors: &mut [u8],
+    stanzas: &mut [u8],
+    returned: &mut [u8],
 ) -> Turn {
-    let replied = client::reply(host.session, response, word(text, w, 2), cut(buffer, n));
-    keep_replied(replied, host)
-}
-
-// What a reply came to.
-fn keep_replied(replied: Replied, mut host: Host) -> Turn {
-    let written = replied.answer;
-    let session = replied.session;
-    host.session = session;
-    Turn {
-        answer: answer_of(written),
-        host: host,
-    }
-}
-
-// response TEXT OUT, where OUT is n
-pub fn receive_response(n: usize, text: &[u8], w: Words, buffer: &mut [u8], host: Host) -> Turn {
-    let responded = plugin::receive_response(host.session, word(text, w, 1), cut(buffer, n));
-    keep_responded(responded, host)
-}
-
-// What a response came to.
-fn keep_responded(responded: Responded, mut host: Host) -> Turn {
-    let answering = responded.answer;
-    let session = responded.session;
-    host.session = session;
-    Turn {
-        answer: answer_response(answering),
-        host: host,
-    }
-}
-
-// The answer of a response received.
-fn answer_response(answering: Answering) -> Answer {
-    match answering {
-        Answering::Response(response, taken, size) => {
-            Answer::Received(number_response(response), taken, size)
-        }
-        Answering::Refused(r) => Answer::Refused(r),
-    }
+    let lengths = host.lengths;
+    let received = client_receiving::reply(
+        host.session,
+        response,
+        word(text, w, 2),
+        input,
+        slots,
+        header_slots,
+        cut(errors, lengths.errors),
+        cut(stanzas, lengths.stanzas),
+        cut(returned, lengths.returned),
+        cut(buffer, n),
+    );
+    keep_received(received, host)
 }

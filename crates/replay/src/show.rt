@@ -3,6 +3,7 @@ use crate::answers::Answer;
 use crate::answers::NAMES;
 use crate::answers::number_two;
 use crate::answers::print_text;
+use crate::host::ClientInput;
 use crate::host::HeaderSlots;
 use crate::host::Host;
 use crate::host::Lengths;
@@ -59,6 +60,11 @@ pub fn look_up<'a>(
     ))
 }
 
+// awaited
+pub fn print_awaited(host: Host, input: &ClientInput, out: &mut Output, at: usize) -> Answer {
+    Answer::Printed(print_text(awaited::text(host.session, input), out, at))
+}
+
 // show
 pub fn show(
     host: Host,
@@ -109,12 +115,12 @@ fn print_phase(phase: Phase, out: &mut Output, at: usize) -> usize {
     let a = print_bytes(b"phase", out, at);
     let b = print_word(stanza::argument(&PHASES, phase_number(phase)), out, a);
     let c = print_bytes(b"\nawaits", out, b);
-    let d = print_awaited(phase, out, c);
+    let d = print_waiting(phase, out, c);
     print_end(out, d)
 }
 
 // The word of the command that awaits an answer.
-fn print_awaited(phase: Phase, out: &mut Output, at: usize) -> usize {
+fn print_waiting(phase: Phase, out: &mut Output, at: usize) -> usize {
     let awaited = look_up::awaited_command(phase);
     match awaited {
         Awaited::Command(word) => print_word(stanza::argument(&NAMES, number_two(word)), out, at),

@@ -1,10 +1,13 @@
 // The call of a line.
 use crate::answers::Answer;
+use crate::answers::answer_verdict;
 use crate::calls::call_plain;
 use crate::first_phase::receive_one;
 use crate::first_phase::send_one;
+use crate::host::ClientInput;
 use crate::host::HeaderSlots;
 use crate::host::Host;
+use crate::host::PluginInput;
 use crate::host::Slots;
 use crate::host::Turn;
 use crate::host::answered;
@@ -14,12 +17,12 @@ use crate::requests::Request;
 use crate::requests::TalkOne;
 use crate::requests::TalkTwo;
 use crate::requests::read_request;
-use crate::second_phase::receive_response;
 use crate::second_phase::receive_two;
 use crate::second_phase::reply;
 use crate::second_phase::send_two;
 use crate::settings::set;
 use crate::show::look_up;
+use crate::show::print_awaited;
 use crate::show::show;
 use crate::words::Words;
 
@@ -32,6 +35,8 @@ pub fn make_call(
     out: &mut Output,
     at: usize,
     host: Host,
+    client_input: &mut ClientInput,
+    plugin_input: &mut PluginInput,
     slots: &mut Slots,
     header_slots: &mut HeaderSlots,
     r: &mut Buffer,
@@ -47,13 +52,40 @@ pub fn make_call(
     match request {
         Request::Plain(call) => answered(call_plain(call, text, w, buffer, out, at), host),
         Request::Setting(call) => set(call, text, w, host, r, i, k, h, e, s, f),
-        Request::PhaseOne(t) => talk_one(t, text, w, buffer, host, slots, header_slots, r, i, k, h),
-        Request::PhaseTwo(t) => talk_two(t, text, w, buffer, host, slots, header_slots, e, s, f),
+        Request::PhaseOne(t) => talk_one(
+            t,
+            text,
+            w,
+            buffer,
+            host,
+            plugin_input,
+            slots,
+            header_slots,
+            r,
+            i,
+            k,
+            h,
+        ),
+        Request::PhaseTwo(t) => talk_two(
+            t,
+            text,
+            w,
+            buffer,
+            host,
+            client_input,
+            slots,
+            header_slots,
+            e,
+            s,
+            f,
+        ),
         Request::Entry(kind, n) => answered(look_up(kind, n, host, slots, r, i, out, at), host),
         Request::Show => answered(
             show(host, slots, header_slots, r, i, k, h, e, s, f, out, at),
             host,
         ),
+        Request::Awaited => answered(print_awaited(host, client_input, out, at), host),
+        Request::Finish => answered(answer_verdict(intake::finish(host.session)), host),
         Request::Missing => answered(Answer::Missing, host),
         Request::Bad => answered(Answer::Bad, host),
     }
@@ -66,6 +98,7 @@ fn talk_one(
     w: Words,
     buffer: &mut Buffer,
     host: Host,
+    input: &mut PluginInput,
     slots: &mut Slots,
     header_slots: &mut HeaderSlots,
     r: &mut Buffer,
@@ -75,7 +108,20 @@ fn talk_one(
 ) -> Turn {
     match t {
         TalkOne::Send(n) => send_one(n, text, w, buffer, host, slots, header_slots, r, i, k, h),
-        TalkOne::Receive => receive_one(text, w, host, slots, header_slots, r, i, k, h),
+        TalkOne::Receive(n) => receive_one(
+            n,
+            text,
+            w,
+            buffer,
+            host,
+            input,
+            slots,
+            header_slots,
+            r,
+            i,
+            k,
+            h,
+        ),
     }
 }
 
@@ -86,6 +132,7 @@ fn talk_two(
     w: Words,
     buffer: &mut Buffer,
     host: Host,
+    input: &mut ClientInput,
     slots: &mut Slots,
     header_slots: &mut HeaderSlots,
     e: &mut Buffer,
@@ -94,8 +141,32 @@ fn talk_two(
 ) -> Turn {
     match t {
         TalkTwo::Send(n) => send_two(n, text, w, buffer, host, slots, header_slots, e, s, f),
-        TalkTwo::Receive(n) => receive_two(n, text, w, buffer, host, slots, header_slots, e, s, f),
-        TalkTwo::Reply(response, n) => reply(n, response, text, w, buffer, host),
-        TalkTwo::Response(n) => receive_response(n, text, w, buffer, host),
+        TalkTwo::Receive(n) => receive_two(
+            n,
+            text,
+            w,
+            buffer,
+            host,
+            input,
+            slots,
+            header_slots,
+            e,
+            s,
+            f,
+        ),
+        TalkTwo::Reply(response, n) => reply(
+            n,
+            response,
+            text,
+            w,
+            buffer,
+            host,
+            input,
+            slots,
+            header_slots,
+            e,
+            s,
+            f,
+        ),
     }
 }
