@@ -1,6 +1,9 @@
 // The calls that need no session, a function for each: it judges the words of the line and makes the call.
 use crate::answers::Answer;
 use crate::answers::answer_of;
+use crate::host::Host;
+use crate::host::Turn;
+use crate::host::answered;
 use crate::parts::Buffer;
 use crate::parts::LONGEST;
 use crate::parts::cut;
@@ -9,6 +12,7 @@ use crate::print::Output;
 use crate::print::print_number;
 use crate::print::print_ok;
 use crate::print::print_words;
+use crate::requests::Request;
 use crate::words::Words;
 use crate::words::last_word;
 use crate::words::word;
@@ -22,8 +26,26 @@ use stanza::First;
 use stanza::Index;
 use stanza::Stanza;
 
-// Makes the call of a line.
+// A line that needs no session, that no session takes, or that is no call.
 pub fn call_plain(
+    request: Request,
+    text: &[u8],
+    w: Words,
+    host: Host,
+    buffer: &mut Buffer,
+    out: &mut Output,
+    at: usize,
+) -> Turn {
+    let answer = match request {
+        Request::Plain(call) => call_words(call, text, w, buffer, out, at),
+        Request::Missing => Answer::Missing,
+        _ => Answer::Bad,
+    };
+    answered(answer, host)
+}
+
+// Makes a call that needs no session.
+fn call_words(
     call: Call,
     text: &[u8],
     w: Words,

@@ -1,7 +1,5 @@
 // What is open: a session of either end or none, and the lengths of the buffers that each call of it is lent.
 use crate::answers::Answer;
-use crate::answers::answer_received;
-use intake::Received;
 use session::Session;
 
 // The slots of a session's header stanzas, and of its other kinds.
@@ -73,16 +71,6 @@ pub fn no_session() -> Host {
 pub fn answered(answer: Answer, host: Host) -> Turn {
     Turn {
         answer: answer,
-        host: host,
-    }
-}
-
-// What a receiving came to.
-pub fn keep_received(received: Received, mut host: Host) -> Turn {
-    let session = received.session;
-    host.session = session;
-    Turn {
-        answer: answer_received(received),
         host: host,
     }
 }

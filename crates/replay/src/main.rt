@@ -2,14 +2,13 @@
 // answered by its number, and the run goes on.
 mod answers;
 mod calls;
-mod first_phase;
+mod commands;
 mod host;
 mod lines;
 mod parts;
 mod print;
 mod requests;
 mod returned;
-mod second_phase;
 mod settings;
 mod show;
 mod turns;
@@ -25,6 +24,7 @@ use lines::Line;
 use lines::advance;
 use lines::start;
 use parts::Buffer;
+use parts::Store;
 use parts::front;
 use print::Output;
 use print::flush;
@@ -32,7 +32,7 @@ use session::Session;
 use turns::make_call;
 use words::read_line;
 
-// The last seven buffers are those of the session's kinds.
+// The last four arrays are the session's buffers, two of them in each store.
 fn main() {
     let mut chunk = io::large_buffer();
     let mut line = [0u8; 65537];
@@ -43,13 +43,10 @@ fn main() {
     let mut plugin_input = [0u8; Session::PLUGIN_INPUT];
     let mut slots = Session::open_slots();
     let mut header_slots = Session::open_header_slots();
-    let mut recipients = [0u8; 65536];
-    let mut identities = [0u8; 65536];
-    let mut keys = [0u8; 65536];
+    let mut recipients = [0u8; 131072];
+    let mut identities = [0u8; 131072];
+    let mut keys = [0u8; 131072];
     let mut headers = [0u8; 65536];
-    let mut errors = [0u8; 65536];
-    let mut stanzas = [0u8; 65536];
-    let mut returned = [0u8; 65536];
     run(
         &mut chunk,
         &mut line,
@@ -64,9 +61,6 @@ fn main() {
         &mut identities,
         &mut keys,
         &mut headers,
-        &mut errors,
-        &mut stanzas,
-        &mut returned,
     );
 }
 
@@ -82,13 +76,10 @@ fn run(
     plugin_input: &mut PluginInput,
     slots: &mut Slots,
     header_slots: &mut HeaderSlots,
-    recipients: &mut Buffer,
-    identities: &mut Buffer,
-    keys: &mut Buffer,
+    recipients: &mut Store,
+    identities: &mut Store,
+    keys: &mut Store,
     headers: &mut Buffer,
-    errors: &mut Buffer,
-    stanzas: &mut Buffer,
-    returned: &mut Buffer,
 ) {
     let mut s = start();
     let mut host = no_session();
@@ -111,9 +102,6 @@ fn run(
             identities,
             keys,
             headers,
-            errors,
-            stanzas,
-            returned,
         );
         let answer = t.answer;
         s.at = print_answer(answer, w.skipped, s.lines, buffer, out, s.at);

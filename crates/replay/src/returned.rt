@@ -1,9 +1,6 @@
 // What `show` prints of phase two, by the library's look-ups: the errors, and the stanzas and keys that were returned, file by file.
 use crate::host::HeaderSlots;
-use crate::host::Lengths;
 use crate::host::Slots;
-use crate::parts::Buffer;
-use crate::parts::front;
 use crate::print::Output;
 use crate::print::print_bytes;
 use crate::print::print_decimal;
@@ -18,40 +15,8 @@ use tables::Found;
 // No file has this number: a file's has 32 bits.
 const NO_FILE: usize = usize::MAX;
 
-// The tables of phase two.
-pub fn print_returned(
-    tables: Tables,
-    lengths: Lengths,
-    slots: &Slots,
-    header_slots: &HeaderSlots,
-    errors: &Buffer,
-    stanzas: &Buffer,
-    returned: &Buffer,
-    out: &mut Output,
-    at: usize,
-) -> usize {
-    let a = print_errors(
-        tables,
-        slots,
-        header_slots,
-        front(errors, lengths.errors),
-        out,
-        at,
-    );
-    let b = print_stanzas(tables, slots, front(stanzas, lengths.stanzas), out, a);
-    let c = print_keys(
-        tables,
-        slots,
-        header_slots,
-        front(returned, lengths.returned),
-        out,
-        b,
-    );
-    print_bytes(b"end\n", out, c)
-}
-
 // The errors.
-fn print_errors(
+pub fn print_errors(
     tables: Tables,
     slots: &Slots,
     header_slots: &HeaderSlots,
@@ -106,7 +71,7 @@ fn print_index(bytes: &[u8], index: usize, out: &mut Output, at: usize) -> usize
 }
 
 // The stanzas of each file; the files are those of the file keys.
-fn print_stanzas(
+pub fn print_stanzas(
     tables: Tables,
     slots: &Slots,
     stanzas: &[u8],
@@ -157,7 +122,7 @@ fn print_stanza(file: usize, k: usize, payload: &[u8], out: &mut Output, at: usi
 }
 
 // The key of each file; the files are those that header stanzas name, whose numbers never fall.
-fn print_keys(
+pub fn print_keys(
     tables: Tables,
     slots: &Slots,
     header_slots: &HeaderSlots,

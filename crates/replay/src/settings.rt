@@ -5,9 +5,11 @@ use crate::host::Host;
 use crate::host::Lengths;
 use crate::host::Turn;
 use crate::host::lengths_of;
-use crate::parts::Buffer;
 use crate::parts::LONGEST;
+use crate::parts::REAR;
 use crate::parts::clear;
+use crate::parts::cut;
+use crate::parts::cut_rear;
 use crate::words::Words;
 use crate::words::word;
 use refusal::Verdict;
@@ -44,23 +46,20 @@ pub fn set(
     text: &[u8],
     w: Words,
     host: Host,
-    recipients: &mut Buffer,
-    identities: &mut Buffer,
-    keys: &mut Buffer,
-    headers: &mut Buffer,
-    errors: &mut Buffer,
-    stanzas: &mut Buffer,
-    returned: &mut Buffer,
+    recipients: &mut [u8],
+    identities: &mut [u8],
+    keys: &mut [u8],
+    headers: &mut [u8],
 ) -> Turn {
     let s = set_host(call, text, w, host);
     let kept = s.kept;
-    clear(recipients, kept.recipients);
-    clear(identities, kept.identities);
-    clear(keys, kept.keys);
+    clear(cut(recipients, REAR), kept.recipients);
+    clear(cut(identities, REAR), kept.identities);
+    clear(cut(keys, REAR), kept.keys);
     clear(headers, kept.headers);
-    clear(errors, kept.errors);
-    clear(stanzas, kept.stanzas);
-    clear(returned, kept.returned);
+    clear(cut_rear(recipients, REAR), kept.errors);
+    clear(cut_rear(identities, REAR), kept.stanzas);
+    clear(cut_rear(keys, REAR), kept.returned);
     let answer = s.answer;
     let after = s.host;
     Turn {

@@ -1,22 +1,27 @@
 // What the lines `entry` and `show` print: texts and tables as the buffers lent now show them; those of phase two have a file of their own.
 use crate::answers::Answer;
 use crate::answers::NAMES;
+use crate::answers::answer_verdict;
 use crate::answers::number_two;
 use crate::answers::print_text;
 use crate::host::ClientInput;
 use crate::host::HeaderSlots;
 use crate::host::Host;
-use crate::host::Lengths;
 use crate::host::Slots;
-use crate::parts::Buffer;
+use crate::host::Turn;
+use crate::host::answered;
 use crate::parts::front;
 use crate::parts::least;
+use crate::parts::rear;
 use crate::print::Output;
 use crate::print::print_bytes;
 use crate::print::print_end;
 use crate::print::print_number;
 use crate::print::print_word;
-use crate::returned::print_returned;
+use crate::requests::Look;
+use crate::returned::print_errors;
+use crate::returned::print_keys;
+use crate::returned::print_stanzas;
 use bech32::TextKind;
 use look_up::Awaited;
 use session::Kind;
@@ -38,76 +43,106 @@ const FILE_KEY: usize = 2;
 
 const HEADER: usize = 3;
 
+// A line that looks into a session.
+pub fn look<'a>(
+    what: Look,
+    host: Host,
+    input: &ClientInput,
+    slots: &Slots,
+    header_slots: &HeaderSlots,
+    recipients: &'a [u8],
+    identities: &'a [u8],
+    keys: &[u8],
+    headers: &[u8],
+    out: &mut Output,
+    at: usize,
+) -> Turn {
+    let answer = match what {
+        Look::Entry(kind, n) => {
+            Answer::Printed(print_entry(kind, n, host, slots, recipients, identities, out, at))
+        }
+        Look::Awaited => {
+            Answer::Printed(print_text(awaited::text(host.session, input), out, at))
+        }
+        Look::Show => Answer::Printed(show(
+            host,
+            slots,
+            header_slots,
+            recipients,
+            identities,
+            keys,
+            headers,
+            out,
+            at,
+        )),
+        Look::Finish => answer_verdict(intake::finish(host.session)),
+    };
+    answered(answer, host)
+}
+
 // entry recipient N, entry identity N
-pub fn look_up<'a>(
+fn print_entry<'a>(
     kind: TextKind,
     n: usize,
     host: Host,
     slots: &Slots,
-    recipients: &'a Buffer,
-    identities: &'a Buffer,
+    recipients: &'a [u8],
+    identities: &'a [u8],
     out: &mut Output,
     at: usize,
-) -> Answer {
+) -> usize {
     let lengths = host.lengths;
     let session = host.session;
     let r = front(recipients, lengths.recipients);
     let i = front(identities, lengths.identities);
-    Answer::Printed(print_text(
+    print_text(
         look_up::entry(session.tables, kind, n, slots, r, i),
         out,
         at,
-    ))
+    )
 }
 
-// awaited
-pub fn print_awaited(host: Host, input: &ClientInput, out: &mut Output, at: usize) -> Answer {
-    Answer::Printed(print_text(awaited::text(host.session, input), out, at))
-}
-
-// show
-pub fn show(
+// show: the phase, then the tables, of which each store shows two
+fn show(
     host: Host,
     slots: &Slots,
     header_slots: &HeaderSlots,
-    recipients: &Buffer,
-    identities: &Buffer,
-    keys: &Buffer,
-    headers: &Buffer,
-    errors: &Buffer,
-    stanzas: &Buffer,
-    returned: &Buffer,
+    recipients: &[u8],
+    identities: &[u8],
+    keys: &[u8],
+    headers: &[u8],
     out: &mut Output,
     at: usize,
-) -> Answer {
+) -> usize {
     let lengths = host.lengths;
     let session = host.session;
-    let phase = session.phase;
     let tables = session.tables;
+    let r = front(recipients, lengths.recipients);
+    let i = front(identities, lengths.identities);
+    let k = front(keys, lengths.keys);
+    let h = front(headers, lengths.headers);
+    let e = rear(recipients, lengths.errors);
+    let s = rear(identities, lengths.stanzas);
+    let f = rear(keys, lengths.returned);
+    let phase = session.phase;
     let a = print_phase(phase, out, at);
-    let b = print_given(
+    let b = print_table(0, Kind::Recipients, tables, slots, header_slots, r, out, a);
+    let c = print_table(1, Kind::Identities, tables, slots, header_slots, i, out, b);
+    let d = print_table(FILE_KEY, Kind::Keys, tables, slots, header_slots, k, out, c);
+    let j = print_table(
+        HEADER,
+        Kind::Headers,
         tables,
-        lengths,
         slots,
         header_slots,
-        recipients,
-        identities,
-        keys,
-        headers,
+        h,
         out,
-        a,
+        d,
     );
-    Answer::Printed(print_returned(
-        tables,
-        lengths,
-        slots,
-        header_slots,
-        errors,
-        stanzas,
-        returned,
-        out,
-        b,
-    ))
+    let l = print_errors(tables, slots, header_slots, e, out, j);
+    let m = print_stanzas(tables, slots, s, out, l);
+    let n = print_keys(tables, slots, header_slots, f, out, m);
+    print_bytes(b"end\n", out, n)
 }
 
 // The lines of the phase, and of the command that awaits an answer.
@@ -137,38 +172,6 @@ fn phase_number(phase: Phase) -> usize {
         Phase::Ended => 2,
         Phase::Closed => 3,
     }
-}
-
-// The tables of phase one.
-fn print_given(
-    tables: Tables,
-    lengths: Lengths,
-    slots: &Slots,
-    header_slots: &HeaderSlots,
-    recipients: &Buffer,
-    identities: &Buffer,
-    keys: &Buffer,
-    headers: &Buffer,
-    out: &mut Output,
-    at: usize,
-) -> usize {
-    let r = front(recipients, lengths.recipients);
-    let i = front(identities, lengths.identities);
-    let k = front(keys, lengths.keys);
-    let h = front(headers, lengths.headers);
-    let a = print_table(0, Kind::Recipients, tables, slots, header_slots, r, out, at);
-    let b = print_table(1, Kind::Identities, tables, slots, header_slots, i, out, a);
-    let c = print_table(FILE_KEY, Kind::Keys, tables, slots, header_slots, k, out, b);
-    print_table(
-        HEADER,
-        Kind::Headers,
-        tables,
-        slots,
-        header_slots,
-        h,
-        out,
-        c,
-    )
 }
 
 // The entries of a kind of phase one: none has more slots than the header stanzas.
