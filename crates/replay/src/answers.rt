@@ -1,12 +1,6 @@
 // What a line came to, and the line that is printed for it.
 use crate::parts::front;
 use crate::print::Output;
-use crate::print::print_bytes;
-use crate::print::print_end;
-use crate::print::print_last;
-use crate::print::print_number;
-use crate::print::print_ok;
-use crate::print::print_words;
 use intake::Last;
 use intake::Received;
 use judging::Judged;
@@ -20,6 +14,9 @@ use session::WordTwo;
 // The words of the commands and the responses that are received, which number them; the last is that of none.
 pub const NAMES: [u8; 154] =
     *b"add-recipient add-identity wrap-file-key recipient-stanza done other msg confirm request-public request-secret file-key error ok yes no fail unsupported -";
+
+// The number of the last.
+pub const NO_NAME: usize = 17;
 
 // The answer is printed already, up to some byte of the output buffer; the line is no call; no session is open for it, or the end that is open
 // does not have it; it is refused; or it is accepted: with nothing to tell, one of a few words, a number, a text of some bytes at the front of
@@ -90,7 +87,7 @@ fn number_last(last: Last) -> usize {
         Last::CommandOne(word) => number_one(word),
         Last::CommandTwo(word) => number_two(word),
         Last::Response(response) => number_response(response),
-        Last::Nothing => 17,
+        Last::Nothing => NO_NAME,
     }
 }
 
@@ -139,36 +136,23 @@ pub fn print_answer(
     }
     match answer {
         Answer::Printed(next) => next,
-        Answer::Bad => print_numbered(b"bad line", number, out, at),
-        Answer::Missing => print_bytes(b"none\n", out, at),
-        Answer::Refused(r) => print_numbered(b"refused", refusal::number(r) as u64, out, at),
-        Answer::Accepted => print_bytes(b"ok\n", out, at),
-        Answer::Finding(k) => print_text(stanza::argument(&FINDINGS, k), out, at),
-        Answer::Number(n) => print_numbered(b"ok", n, out, at),
-        Answer::Text(n) => print_text(front(buffer, n), out, at),
-        Answer::Received(r, count, last, n) => print_received(
-            r,
-            count,
-            last,
-            front(buffer, n),
+        Answer::Bad => printing::print_number(b"bad line", number, out, at),
+        Answer::Missing => printing::put(b"none\n", out, at),
+        Answer::Refused(r) => printing::print_number(
+            b"refused",
+            refusal::number(r) as u64,
             out,
             at,
         ),
+        Answer::Accepted => printing::put(b"ok\n", out, at),
+        Answer::Finding(k) => printing::print_word(b"ok", stanza::argument(&FINDINGS, k), out, at),
+        Answer::Number(n) => printing::print_number(b"ok", n, out, at),
+        Answer::Text(n) => printing::print_word(b"ok", front(buffer, n), out, at),
+        Answer::Received(r, count, last, n) => {
+            print_received(r, count, last, front(buffer, n), out, at)
+        }
         Answer::Judged(judged) => print_judged(judged, out, at),
     }
-}
-
-// Some words and a number.
-fn print_numbered(words: &[u8], number: u64, out: &mut Output, at: usize) -> usize {
-    let a = print_bytes(words, out, at);
-    let b = print_number(number, out, a);
-    print_end(out, b)
-}
-
-// A byte string.
-pub fn print_text(bytes: &[u8], out: &mut Output, at: usize) -> usize {
-    let next = print_ok(out, at);
-    print_last(bytes, out, next)
 }
 
 // What was received: whether it was refused, how many stanzas were taken, the last one's word, and what was written.
@@ -177,30 +161,24 @@ fn print_received(
     count: usize,
     last: usize,
     bytes: &[u8],
-    out: &mut Output,
+    out: &mut [u8],
     at: usize,
 ) -> usize {
-    let a = print_verdict(refused, out, at);
-    let b = print_number(count as u64, out, a);
-    print_words(stanza::argument(&NAMES, last), bytes, out, b)
-}
-
-// Accepted, or refused with a number.
-fn print_verdict(refused: u8, out: &mut Output, at: usize) -> usize {
+    let word = stanza::argument(&NAMES, last);
     if refused == 0 {
-        return print_ok(out, at);
+        return printing::print_row(b"ok", count as u64, word, bytes, b"", out, at);
     }
-    let next = print_bytes(b"refused", out, at);
-    print_number(refused as u64, out, next)
+    let a = printing::put(b"refused", out, at);
+    let b = printing::put_number(refused as u64, out, a);
+    printing::print_row(b"", count as u64, word, bytes, b"", out, b)
 }
 
 // The judging program's verdict.
-fn print_judged(judged: Judged, out: &mut Output, at: usize) -> usize {
-    let a = print_ok(out, at);
-    let b = print_number(judged.recipients as u64, out, a);
-    let c = print_number(judged.identities as u64, out, b);
-    let d = print_number(judged.keys as u64, out, c);
-    let e = print_number(judged.headers as u64, out, d);
-    let f = print_number(judged.answer as u64, out, e);
-    print_end(out, f)
+fn print_judged(judged: Judged, out: &mut [u8], at: usize) -> usize {
+    let a = printing::put(b"ok", out, at);
+    let b = printing::put_number(judged.recipients as u64, out, a);
+    let c = printing::put_number(judged.identities as u64, out, b);
+    let d = printing::put_number(judged.keys as u64, out, c);
+    let e = printing::put_number(judged.headers as u64, out, d);
+    printing::print_number(b"", judged.answer as u64, out, e)
 }

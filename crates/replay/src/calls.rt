@@ -9,9 +9,6 @@ use crate::parts::LONGEST;
 use crate::parts::cut;
 use crate::parts::front;
 use crate::print::Output;
-use crate::print::print_number;
-use crate::print::print_ok;
-use crate::print::print_words;
 use crate::requests::Request;
 use crate::words::Words;
 use crate::words::last_word;
@@ -122,10 +119,16 @@ fn print_stanza(
     let body = stanza::body_of(text, s, buffer);
     match body {
         Written::Bytes(n) => {
-            let a = print_ok(out, at);
-            let b = print_number(s.taken as u64, out, a);
             let line = stanza::arguments_of(text, s);
-            Answer::Printed(print_words(line, front(buffer, n), out, b))
+            Answer::Printed(printing::print_row(
+                b"ok",
+                s.taken as u64,
+                line,
+                front(buffer, n),
+                b"",
+                out,
+                at,
+            ))
         }
         Written::Refused(r) => Answer::Refused(r),
     }
@@ -215,8 +218,9 @@ fn print_reading(reading: ReadText, buffer: &[u8], out: &mut Output, at: usize) 
     let bytes = name.bytes;
     match answer {
         Written::Bytes(n) => {
-            let a = print_ok(out, at);
-            Answer::Printed(print_words(front(&bytes, name.length), front(buffer, n), out, a))
+            let a = printing::put(b"ok", out, at);
+            let b = printing::put_word(front(&bytes, name.length), out, a);
+            Answer::Printed(printing::print_word(b"", front(buffer, n), out, b))
         }
         Written::Refused(r) => Answer::Refused(r),
     }

@@ -32,13 +32,13 @@ use session::Session;
 use turns::make_call;
 use words::read_line;
 
-// The last four arrays are the session's buffers, two of them in each store.
+// The last four arrays are the stores of the session's buffers, two in each.
 fn main() {
     let mut chunk = io::large_buffer();
     let mut line = [0u8; 65537];
     let mut text = io::large_buffer();
     let mut buffer = io::large_buffer();
-    let mut out = [0u8; 131072];
+    let mut out = [0u8; 524288];
     let mut client_input = [0u8; Session::CLIENT_INPUT];
     let mut plugin_input = [0u8; Session::PLUGIN_INPUT];
     let mut slots = Session::open_slots();
@@ -46,7 +46,7 @@ fn main() {
     let mut recipients = [0u8; 131072];
     let mut identities = [0u8; 131072];
     let mut keys = [0u8; 131072];
-    let mut headers = [0u8; 65536];
+    let mut headers = [0u8; 131072];
     run(
         &mut chunk,
         &mut line,
@@ -79,7 +79,7 @@ fn run(
     recipients: &mut Store,
     identities: &mut Store,
     keys: &mut Store,
-    headers: &mut Buffer,
+    headers: &mut Store,
 ) {
     let mut s = start();
     let mut host = no_session();

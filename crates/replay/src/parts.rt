@@ -10,7 +10,7 @@ pub type Buffer = [u8; 65536];
 pub type Store = [u8; 131072];
 
 // Where the second begins.
-pub const REAR: usize = 65536;
+const REAR: usize = 65536;
 
 // The length of the longest buffer, as a number of a script.
 pub const LONGEST: u64 = 65536;
@@ -71,11 +71,18 @@ pub fn append(src: &[u8], out: &mut [u8], at: usize) -> usize {
     from + copy(src, &mut out[from..])
 }
 
-// Zeros from `from` on.
-pub fn clear(bytes: &mut [u8], from: usize) {
+// Zeros from `from` up to `to`.
+fn clear(store: &mut Store, from: usize, to: usize) {
+    let end = least(to, store.len());
     let mut i = from;
-    while i < bytes.len() {
-        bytes[i] = 0;
+    while i < end {
+        store[i] = 0;
         i += 1;
     }
+}
+
+// Zeros behind the first bytes of each of a store's buffers.
+pub fn clear_store(store: &mut Store, first: usize, second: usize) {
+    clear(store, first, REAR);
+    clear(store, REAR + least(second, REAR), 2 * REAR);
 }

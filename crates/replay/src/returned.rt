@@ -1,11 +1,9 @@
 // What `show` prints of phase two, by the library's look-ups: the errors, and the stanzas and keys that were returned, file by file.
 use crate::host::HeaderSlots;
 use crate::host::Slots;
+use crate::parts::front;
 use crate::print::Output;
-use crate::print::print_bytes;
-use crate::print::print_decimal;
-use crate::print::print_last;
-use crate::print::print_number;
+use crate::print::print_entry;
 use look_up::ErrorNamed;
 use session::Kind;
 use session::Session;
@@ -43,31 +41,30 @@ pub fn print_errors(
 
 // The line of an error.
 fn print_error(n: usize, named: ErrorNamed, message: &[u8], out: &mut Output, at: usize) -> usize {
-    let a = print_bytes(b"error", out, at);
-    let b = print_number(n as u64, out, a);
-    let c = print_named(named, out, b);
-    print_last(message, out, c)
+    let mut what = [0u8; 64];
+    let k = put_named(named, &mut what);
+    print_entry(b"error", n, front(&what, k), message, b"", out, at)
 }
 
 // What an error names, as one word: its kind, the file of a header stanza, and the index.
-fn print_named(named: ErrorNamed, out: &mut Output, at: usize) -> usize {
+fn put_named(named: ErrorNamed, what: &mut [u8]) -> usize {
     match named {
-        ErrorNamed::Internal => print_bytes(b" internal", out, at),
-        ErrorNamed::Identity(i) => print_index(b" identity", i, out, at),
-        ErrorNamed::Recipient(i) => print_index(b" recipient", i, out, at),
-        ErrorNamed::Header(file, i) => {
-            let next = print_index(b" stanza", file, out, at);
-            print_index(b"", i, out, next)
+        ErrorNamed::Internal => printing::put(b"internal", what, 0),
+        ErrorNamed::Identity(i) => {
+            let next = printing::put(b"identity", what, 0);
+            printing::put_number(i as u64, what, next)
         }
-        ErrorNamed::Nothing => print_bytes(b" -", out, at),
+        ErrorNamed::Recipient(i) => {
+            let next = printing::put(b"recipient", what, 0);
+            printing::put_number(i as u64, what, next)
+        }
+        ErrorNamed::Header(file, i) => {
+            let a = printing::put(b"stanza", what, 0);
+            let b = printing::put_number(file as u64, what, a);
+            printing::put_number(i as u64, what, b)
+        }
+        ErrorNamed::Nothing => printing::put(b"-", what, 0),
     }
-}
-
-// Some bytes, an escaped space and an index.
-fn print_index(bytes: &[u8], index: usize, out: &mut Output, at: usize) -> usize {
-    let a = print_bytes(bytes, out, at);
-    let b = print_bytes(b"\\s", out, a);
-    print_decimal(index as u64, out, b)
 }
 
 // The stanzas of each file; the files are those of the file keys.
@@ -115,10 +112,9 @@ fn print_file(
 
 // The line of a stanza.
 fn print_stanza(file: usize, k: usize, payload: &[u8], out: &mut Output, at: usize) -> usize {
-    let a = print_bytes(b"stanza", out, at);
-    let b = print_number(file as u64, out, a);
-    let c = print_number(k as u64, out, b);
-    print_last(payload, out, c)
+    let mut text = [0u8; 20];
+    let n = io::decimal(k as u64, &mut text);
+    print_entry(b"stanza", file, front(&text, n), payload, b"", out, at)
 }
 
 // The key of each file; the files are those that header stanzas name, whose numbers never fall.
@@ -157,9 +153,8 @@ fn print_key(
     at: usize,
 ) -> usize {
     if due & look_up::has_key(tables, file, slots) {
-        let a = print_bytes(b"key", out, at);
-        let b = print_number(file as u64, out, a);
-        return print_last(look_up::key_of(tables, file, slots, returned), out, b);
+        let payload = look_up::key_of(tables, file, slots, returned);
+        return print_entry(b"key", file, b"", payload, b"", out, at);
     }
     at
 }

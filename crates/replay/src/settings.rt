@@ -6,10 +6,8 @@ use crate::host::Lengths;
 use crate::host::Turn;
 use crate::host::lengths_of;
 use crate::parts::LONGEST;
-use crate::parts::REAR;
-use crate::parts::clear;
-use crate::parts::cut;
-use crate::parts::cut_rear;
+use crate::parts::Store;
+use crate::parts::clear_store;
 use crate::words::Words;
 use crate::words::word;
 use refusal::Verdict;
@@ -46,20 +44,17 @@ pub fn set(
     text: &[u8],
     w: Words,
     host: Host,
-    recipients: &mut [u8],
-    identities: &mut [u8],
-    keys: &mut [u8],
-    headers: &mut [u8],
+    recipients: &mut Store,
+    identities: &mut Store,
+    keys: &mut Store,
+    headers: &mut Store,
 ) -> Turn {
     let s = set_host(call, text, w, host);
     let kept = s.kept;
-    clear(cut(recipients, REAR), kept.recipients);
-    clear(cut(identities, REAR), kept.identities);
-    clear(cut(keys, REAR), kept.keys);
-    clear(headers, kept.headers);
-    clear(cut_rear(recipients, REAR), kept.errors);
-    clear(cut_rear(identities, REAR), kept.stanzas);
-    clear(cut_rear(keys, REAR), kept.returned);
+    clear_store(recipients, kept.recipients, kept.errors);
+    clear_store(identities, kept.identities, kept.stanzas);
+    clear_store(keys, kept.keys, kept.returned);
+    clear_store(headers, kept.headers, 0);
     let answer = s.answer;
     let after = s.host;
     Turn {

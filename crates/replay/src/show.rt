@@ -1,9 +1,9 @@
 // What the lines `entry` and `show` print: texts and tables as the buffers lent now show them; those of phase two have a file of their own.
 use crate::answers::Answer;
 use crate::answers::NAMES;
+use crate::answers::NO_NAME;
 use crate::answers::answer_verdict;
 use crate::answers::number_two;
-use crate::answers::print_text;
 use crate::host::ClientInput;
 use crate::host::HeaderSlots;
 use crate::host::Host;
@@ -14,10 +14,7 @@ use crate::parts::front;
 use crate::parts::least;
 use crate::parts::rear;
 use crate::print::Output;
-use crate::print::print_bytes;
-use crate::print::print_end;
-use crate::print::print_number;
-use crate::print::print_word;
+use crate::print::print_entry;
 use crate::requests::Look;
 use crate::returned::print_errors;
 use crate::returned::print_keys;
@@ -37,6 +34,9 @@ const PHASES: [u8; 20] = *b"one two ended closed";
 const KINDS: [u8; 34] = *b"recipient identity file-key header";
 
 const MARKS: [u8; 46] = *b"valid invalid conforming nonconforming unknown";
+
+// No mark has this number.
+const NO_MARK: usize = 5;
 
 // The kinds that are told by their numbers: a file key has no mark, and a header stanza has an index.
 const FILE_KEY: usize = 2;
@@ -59,10 +59,15 @@ pub fn look<'a>(
 ) -> Turn {
     let answer = match what {
         Look::Entry(kind, n) => {
-            Answer::Printed(print_entry(kind, n, host, slots, recipients, identities, out, at))
+            Answer::Printed(look_up_entry(kind, n, host, slots, recipients, identities, out, at))
         }
         Look::Awaited => {
-            Answer::Printed(print_text(awaited::text(host.session, input), out, at))
+            Answer::Printed(printing::print_word(
+                b"ok",
+                awaited::text(host.session, input),
+                out,
+                at,
+            ))
         }
         Look::Show => Answer::Printed(show(
             host,
@@ -81,7 +86,7 @@ pub fn look<'a>(
 }
 
 // entry recipient N, entry identity N
-fn print_entry<'a>(
+fn look_up_entry<'a>(
     kind: TextKind,
     n: usize,
     host: Host,
@@ -95,7 +100,8 @@ fn print_entry<'a>(
     let session = host.session;
     let r = front(recipients, lengths.recipients);
     let i = front(identities, lengths.identities);
-    print_text(
+    printing::print_word(
+        b"ok",
         look_up::entry(session.tables, kind, n, slots, r, i),
         out,
         at,
@@ -142,24 +148,23 @@ fn show(
     let l = print_errors(tables, slots, header_slots, e, out, j);
     let m = print_stanzas(tables, slots, s, out, l);
     let n = print_keys(tables, slots, header_slots, f, out, m);
-    print_bytes(b"end\n", out, n)
+    printing::put(b"end\n", out, n)
 }
 
 // The lines of the phase, and of the command that awaits an answer.
-fn print_phase(phase: Phase, out: &mut Output, at: usize) -> usize {
-    let a = print_bytes(b"phase", out, at);
-    let b = print_word(stanza::argument(&PHASES, phase_number(phase)), out, a);
-    let c = print_bytes(b"\nawaits", out, b);
-    let d = print_waiting(phase, out, c);
-    print_end(out, d)
+fn print_phase(phase: Phase, out: &mut [u8], at: usize) -> usize {
+    let word = stanza::argument(&PHASES, phase_number(phase));
+    let next = printing::print_word(b"phase", word, out, at);
+    let waiting = stanza::argument(&NAMES, number_awaited(phase));
+    printing::print_word(b"awaits", waiting, out, next)
 }
 
-// The word of the command that awaits an answer.
-fn print_waiting(phase: Phase, out: &mut Output, at: usize) -> usize {
+// The number of the word of the command that awaits an answer.
+fn number_awaited(phase: Phase) -> usize {
     let awaited = look_up::awaited_command(phase);
     match awaited {
-        Awaited::Command(word) => print_word(stanza::argument(&NAMES, number_two(word)), out, at),
-        Awaited::Nothing => print_bytes(b" -", out, at),
+        Awaited::Command(word) => number_two(word),
+        Awaited::Nothing => NO_NAME,
     }
 }
 
@@ -211,32 +216,26 @@ fn print_slot(
     out: &mut Output,
     at: usize,
 ) -> usize {
-    let a = print_bytes(stanza::argument(&KINDS, kind), out, at);
-    let b = print_number(n as u64, out, a);
-    let c = print_index(kind, e.index, out, b);
-    let d = print_word(payload, out, c);
-    let f = print_mark(kind, e.mark, out, d);
-    print_end(out, f)
+    let mut text = [0u8; 20];
+    let k = put_index(kind, e.index, &mut text);
+    let mark = stanza::argument(&MARKS, mark_number(kind, e.mark));
+    let head = stanza::argument(&KINDS, kind);
+    print_entry(head, n, front(&text, k), payload, mark, out, at)
 }
 
-// The index of a header stanza.
-fn print_index(kind: usize, index: usize, out: &mut Output, at: usize) -> usize {
+// The index of a header stanza in decimal: how many bytes, none for another kind.
+fn put_index(kind: usize, index: usize, text: &mut [u8; 20]) -> usize {
     if kind == HEADER {
-        return print_number(index as u64, out, at);
+        return io::decimal(index as u64, text);
     }
-    at
+    0
 }
 
-// The mark of an entry, if its kind has marks.
-fn print_mark(kind: usize, mark: usize, out: &mut Output, at: usize) -> usize {
-    if kind == FILE_KEY {
-        return at;
-    }
-    print_word(stanza::argument(&MARKS, mark_number(kind, mark)), out, at)
-}
-
-// The number of a mark's word: a recipient or an identity is valid where its mark is 0; a header stanza's mark is 0, 1 or 2.
+// The number of a mark's word: a recipient or an identity is valid where its mark is 0; a header stanza's mark is 0, 1 or 2; a file key's is no word.
 fn mark_number(kind: usize, mark: usize) -> usize {
+    if kind == FILE_KEY {
+        return NO_MARK;
+    }
     if kind == HEADER {
         return 2 + least(2, mark);
     }

@@ -45,7 +45,7 @@ pub fn make_call(
     recipients: &mut Store,
     identities: &mut Store,
     keys: &mut Store,
-    headers: &mut Buffer,
+    headers: &mut Store,
 ) -> Turn {
     let end = host.end;
     let request = read_request(end, text, w);
