@@ -19,8 +19,11 @@ pub mod Written
 pub mod Blocks
 pub mod Heard
 pub mod Orders
+pub mod AnyCalls
+pub mod Sent
 pub mod Itself
 pub mod Fronts
 pub mod Texts
 pub mod Rooms
 pub mod Bounds
+pub mod PhaseOne

@@ -1,9 +1,10 @@
 -- A chunk received, a reply, the end of the input (document 02, No. 1).
 use Prim.Native.Nat.{ℕ}
+use mathlib.Core.Path.{_≡_}
 use mathlib.Core.Bool.{Bool, _&&_}
 use mathlib.Core.List.{List, [], _++_}
 use lib.Dec.{eqb, leb}
-use lib.ListN.{length}
+use lib.ListN.{length, take, drop}
 use Rattle.refusal.specs.Output.{filled}
 use Rattle.refusal.specs.Pick.{pick}
 use Rattle.stanza.specs.Grammar.{stanzaText}
@@ -28,6 +29,10 @@ pub record Outcome : Type 0 where
   pub intake : Intake
   pub buffers : Buffers
   pub output : List ℕ
+
+-- what was written stands at the front of the output buffer, and the bytes behind it stay
+abbrev pub RestStays : Outcome → List ℕ → Type 0
+RestStays o out = o .output ≡ take (o .size) (o .output) ++ drop (o .size) out
 
 -- nothing is taken: everything stays
 abbrev pub untaken : ℕ → Intake → Buffers → List ℕ → Outcome

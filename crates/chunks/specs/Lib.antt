@@ -6,3 +6,5 @@ pub mod Uncut
 pub mod Calls
 pub mod Reached
 pub mod Orders
+pub mod AnyCalls
+pub mod Sent

@@ -2,7 +2,7 @@
 -- host answers while it waits, at least one, and no call is refused with 14 or 15").
 use Prim.Native.Nat.{ℕ}
 use mathlib.Core.Path.{_≡_}
-use mathlib.Core.Bool.{Bool, true, false, _&&_}
+use mathlib.Core.Bool.{_&&_}
 use mathlib.Core.List.{List, [], _∷_, _++_, map}
 use mathlib.Core.Logic.{_↔_}
 use Rattle.refusal.specs.Pick.{pick}
@@ -10,9 +10,9 @@ use Rattle.session.specs.Session.{Session}
 use Rattle.conversation.specs.Calls as one-call
 use Rattle.conversation.specs.Calls.{AllZero}
 use Rattle.conversation.specs.Kinds.{Buffers}
-use Rattle.conversation.specs.Phases.{Reply, Block, Supply, Part, one-part, two-part, Phase, blocksOf, responsesTo, SameTables}
+use Rattle.conversation.specs.Phases.{Reply, Block, Supply, Part, one-part, two-part, Phase, blocksOf, callsOf, responsesTo, SameTables}
 use Rattle.chunks.specs.Taking.{End, client, plugin, room, Intake, emptied, joined}
-use Rattle.chunks.specs.Uncut.{Piece, chunk, reply, outcomeOf, after, numbers, written, isClosed, NoneHeldUp, NoneBehind, alone, uncut}
+use Rattle.chunks.specs.Uncut.{Piece, reply, outcomeOf, after, numbers, written, isClosed, NoneHeldUp, NoneBehind, alone, uncut, isReply}
 
 -- ---- cuts of a phase
 
@@ -28,11 +28,6 @@ replyAlone r = reply (r .response) (r .body) room
 unfoldable pub uncutCalls : List Block → List Piece
 uncutCalls [] = []
 uncutCalls (x ∷ xs) = (alone (x .text) ∷ map replyAlone (x .replies)) ++ uncutCalls xs
-
--- a call is a reply
-abbrev pub isReply : Piece → Bool
-isReply (chunk bytes out) = false
-isReply (reply r body out) = true
 
 -- a list without the replies that are made when the session is closed: no command waits for them any more
 unfoldable pub heard : End → Intake → Buffers → List Piece → List Piece
@@ -54,6 +49,11 @@ pub record IsCut (e : End) (s : Session) (b : Buffers) (cs : List Piece) (xs : L
 abbrev pub endOf : Part → End
 endOf one-part = plugin
 endOf two-part = client
+
+-- a phase that is received with a stanza to a call, where no call is refused with 14 or 15 and none is made in a session that has ended
+pub record OneByOne (part : Part) (x : one-call.State) (p : Phase) : Type 0 where
+  pub none-held-up : NoneHeldUp (one-call.numbers (x .session) (x .buffers) (callsOf part rooms (blocksOf p)))
+  pub none-behind : NoneBehind (endOf part) (emptied (x .session) []) (x .buffers) (uncutCalls (blocksOf p))
 
 -- every call of a list is accepted, from a session with nothing kept
 abbrev pub AllTaken : End → one-call.State → List Piece → Type 0

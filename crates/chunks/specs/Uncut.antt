@@ -176,6 +176,32 @@ stanzasIn [] = []
 stanzasIn (chunk bytes out ∷ cs) = cut start [] bytes .texts ++ stanzasIn cs
 stanzasIn (reply r body out ∷ cs) = stanzasIn cs
 
+-- a call is a reply
+abbrev pub isReply : Piece → Bool
+isReply (chunk bytes out) = false
+isReply (reply r body out) = true
+
+-- a reply that is made while a command waits: the text of that command, the response and its body
+pub record HostReply : Type 0 where
+  pub awaited : List ℕ
+  pub response : Response
+  pub body : List ℕ
+
+-- that of a call
+abbrev pub repliesBy : End → Intake → Piece → List HostReply
+repliesBy e i (chunk bytes out) = []
+repliesBy e i (reply r body out) = pick (isWaiting e (i .session .phase)) (record { awaited = i .awaited; response = r; body = body } ∷ []) []
+
+-- those of a list, in order
+unfoldable pub repliesMade : End → Intake → Buffers → List Piece → List HostReply
+repliesMade e i b [] = []
+repliesMade e i b (c ∷ cs) = let o = outcomeOf e i b c in repliesBy e i c ++ repliesMade e (o .intake) (o .buffers) cs
+
+-- each reply of a list is made while a command waits
+unfoldable pub RepliesDue : End → Intake → Buffers → List Piece → Type 0
+RepliesDue e i b [] = Unit
+RepliesDue e i b (c ∷ cs) = let o = outcomeOf e i b c in (isReply c ≡ true → isWaiting e (i .session .phase) ≡ true) × RepliesDue e (o .intake) (o .buffers) cs
+
 -- what is still kept back
 abbrev pub keptBack : End → Intake → List ℕ
 keptBack e i = pick (isWaiting e (i .session .phase)) (i .kept) []
@@ -190,10 +216,13 @@ AreSingle [] = Unit
 AreSingle (chunk t out ∷ cs) = IsSingle t out cs × AreSingle cs
 AreSingle (reply r body out ∷ cs) = AreSingle cs
 
--- "each stanza of the joined chunks in a chunk of its own, a last unfinished or impossible rest in one more .. bytes that are still kept back at the end are left out"
+-- "each stanza of the joined chunks in a chunk of its own, a last unfinished or impossible rest in one more, and directly behind each waiting command exactly those
+-- replies that were made while it waited; bytes that are still kept back at the end are left out"
 pub record IsUncut (e : End) (s : Session) (b : Buffers) (us cs : List Piece) : Type 0 where
   pub same-text : textIn us ++ keptBack e (after e (emptied s []) b cs .intake) ≡ textIn cs
   pub single : AreSingle us
+  pub same-replies : repliesMade e (emptied s []) b us ≡ repliesMade e (emptied s []) b cs
+  pub replies-due : RepliesDue e (emptied s []) b us
 
 -- ---- what a list of chunks and replies comes to
 
@@ -213,9 +242,10 @@ pub record Together (first second whole : Outcome) : Type 0 where
   pub buffers : second .buffers ≡ whole .buffers
   pub output : take (first .size) (first .output) ++ take (second .size) (second .output) ≡ take (whole .size) (whole .output)
 
--- a call refused with a number other than 15, that took stanzas by the calls xs before its fault: it "leaves tables, buffers and output as the calls for the stanzas
--- before the fault leave them, the session closed with that number or, for 13 and 14, as it was after them; the rest is dropped"
-pub record Prefix (e : End) (i : Intake) (b : Buffers) (o : Outcome) (xs : List Piece) : Type 0 where
+-- a call refused with a number other than 15, that took stanzas of its text by the calls xs before its fault: it "leaves tables, buffers and output as the calls for the
+-- stanzas before the fault leave them, the session closed with that number or, for 13 and 14, as it was after them; the rest is dropped". The number is the one that
+-- the fault has in a call of its own
+pub record Prefix (e : End) (i : Intake) (b : Buffers) (text : List ℕ) (o : Outcome) (xs : List Piece) : Type 0 where
   pub number : (closes (o .number) ≡ true) ⊎ ((o .number ≡ 13) ⊎ (o .number ≡ 14))
   pub accepted : AllZero (numbers e (emptied (i .session) (i .awaited)) b xs)
   pub session : o .intake .session ≡ pick (closes (o .number)) (closed (after e (emptied (i .session) (i .awaited)) b xs .intake .session)) (after e (emptied (i .session) (i .awaited)) b xs .intake .session)
@@ -223,4 +253,8 @@ pub record Prefix (e : End) (i : Intake) (b : Buffers) (o : Outcome) (xs : List 
   pub awaited : o .intake .awaited ≡ pick (closes (o .number)) [] (after e (emptied (i .session) (i .awaited)) b xs .intake .awaited)
   pub buffers : o .buffers ≡ after e (emptied (i .session) (i .awaited)) b xs .buffers
   pub output : take (o .size) (o .output) ≡ written e (emptied (i .session) (i .awaited)) b xs
-  pub dropped : o .intake .kept ≡ []
+  pub dropped : o .intake ≡ emptied (o .intake .session) (o .intake .awaited)
+  pub fault : List ℕ
+  pub later : List ℕ
+  pub place : textIn xs ++ (fault ++ later) ≡ text
+  pub refused : (let z = after e (emptied (i .session) (i .awaited)) b xs in outcomeOf e (z .intake) (z .buffers) (alone fault) .number ≡ o .number)

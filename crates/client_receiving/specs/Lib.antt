@@ -1,3 +1,3 @@
 -- What the answers of the client end's receiving stand for.
-pub mod Receiving
-pub mod Replying
+pub mod Stanzas
+pub mod Texts

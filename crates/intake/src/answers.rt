@@ -75,7 +75,7 @@ pub fn leave(session: Session, refusal: Refusal) -> Received
 pub fn close(session: Session, refusal: Refusal) -> Received
     ensures outcome { λ r. ⌜ ((e : End) (xs hs : List (List ℕ)) (input : List ℕ) (b : Buffers) →
         takenSaid e r xs hs input [] b ≡ noMore (numberOf refusal) (emptied (closed (sessionOf session xs hs)) []) b) ⌝ }
-    ensures name { λ r. ⌜ r .session .name ≡ session .name ⌝ }
+    ensures rest { λ r. ⌜ (r .written ≡ 0) × (r .session .name ≡ session .name) ⌝ }
 {
     let shut = session.moved(Phase::Closed, session.tables);
     Received {

@@ -1,4 +1,4 @@
-// Phase one received: a command of the client, judged and kept.
+// Phase one received: one command of the client, judged and kept.
 ghost use mathlib.Core.Path.{_≡_};
 ghost use mathlib.Core.List.{List};
 ghost use Prim.Native.Nat.{ℕ};
@@ -7,8 +7,8 @@ ghost use Rattle.stanza.specs.Parts.{argumentsIn, bodyIn};
 ghost use Rattle.session.specs.Session.{sessionOf, carriedBy};
 ghost use Rattle.phase_one.specs.Commands.{commandSaid};
 ghost use Rattle.phase_one.specs.PhaseOne.{buffersOf};
-ghost use Rattle.conversation.specs.Receiving.{answerOf, received, receivedStanza};
-ghost use Rattle.plugin_receiving.specs.Receiving.{takingSaid, receivedSaid};
+ghost use Rattle.conversation.specs.Receiving.{answerOf, receivedStanza};
+ghost use Rattle.plugin_receiving.specs.Receiving.{takingSaid, receiptSaid};
 use phase_one::CommandOne;
 use phase_one::WordOne;
 use phase_one::step_one;
@@ -16,17 +16,16 @@ use refusal::Refusal;
 use refusal::Verdict;
 use session::Session;
 use session::front;
-use stanza::First;
 use stanza::Stanza;
 use tables::Coding;
 
 // Which command was received and how many bytes of the text it took; or the refusal.
-pub enum Taking {
+pub(crate) enum Taking {
     Command(WordOne, usize),
     Refused(Refusal),
 }
 
-pub struct Received {
+pub(crate) struct Receipt {
     pub answer: Taking,
     pub session: Session,
 }
@@ -42,7 +41,7 @@ fn answer_to(verdict: Verdict, command: CommandOne, taken: usize) -> Taking
 }
 
 // A whole stanza at the front of a text.
-fn receive_stanza(
+pub(crate) fn receive_stanza(
     session: Session,
     text: &[u8],
     s: Stanza,
@@ -52,8 +51,8 @@ fn receive_stanza(
     identities: &mut [u8],
     keys: &mut [u8],
     headers: &mut [u8],
-) -> Received
-    ensures outcome { λ r. ⌜ receivedSaid r (now (slots .exit)) (now («header_slots» .exit)) (now (recipients .exit)) (now (identities .exit))
+) -> Receipt
+    ensures outcome { λ r. ⌜ receiptSaid r (now (slots .exit)) (now («header_slots» .exit)) (now (recipients .exit)) (now (identities .exit))
         (now (keys .exit)) (now (headers .exit)) ≡
         receivedStanza (sessionOf session (now (slots .entry)) (now («header_slots» .entry)))
         (buffersOf (now (recipients .entry)) (now (identities .entry)) (now (keys .entry)) (now (headers .entry))) (argumentsIn (now (text .entry)) s)
@@ -85,56 +84,8 @@ fn receive_stanza(
     let after = step.tables;
     let answer = answer_to(verdict, command, s.taken);
     let phase = phase_one::phase_received(before, verdict, command);
-    Received {
+    Receipt {
         answer: answer,
         session: session.moved(phase, after),
-    }
-}
-
-// A command of phase one at the front of a text: what it was, and the session. 13, 14, 1 to 3, 4, 5, 7 or 8 where it is refused: then tables, slots and buffers
-// stay as they were.
-pub fn receive(
-    session: Session,
-    text: &[u8],
-    slots: &mut [[usize; 4]; Session::OTHER_SLOTS],
-    header_slots: &mut [[usize; 4]; Session::HEADER_STANZAS],
-    recipients: &mut [u8],
-    identities: &mut [u8],
-    keys: &mut [u8],
-    headers: &mut [u8],
-) -> Received
-    ensures outcome { λ r. ⌜ receivedSaid r (now (slots .exit)) (now («header_slots» .exit)) (now (recipients .exit)) (now (identities .exit))
-        (now (keys .exit)) (now (headers .exit)) ≡
-        received (sessionOf session (now (slots .entry)) (now («header_slots» .entry))) (now (text .entry))
-        (buffersOf (now (recipients .entry)) (now (identities .entry)) (now (keys .entry)) (now (headers .entry))) ⌝ }
-    ensures carried { λ r. ⌜ carriedBy (r .session) ≡ carriedBy session ⌝ }
-{
-    let phase = session.phase;
-    let turn = phase_one::turn_one(phase);
-    match turn {
-        Verdict::Refused(r) => Received {
-            answer: Taking::Refused(r),
-            session: session,
-        },
-        Verdict::Accepted => {
-            let first = stanza::read(text);
-            match first {
-                First::Stanza(s) => receive_stanza(
-                    session,
-                    text,
-                    s,
-                    slots,
-                    header_slots,
-                    recipients,
-                    identities,
-                    keys,
-                    headers,
-                ),
-                First::Refused(r) => Received {
-                    answer: Taking::Refused(r),
-                    session: session.moved(session::phase_refused(phase, r), session.tables),
-                },
-            }
-        }
     }
 }

@@ -50,10 +50,10 @@ use Rattle.chunks.proofs.Laws.Singles.{Alike, chunk-single, reply-singl
 use Rattle.chunks.proofs.Laws.Stanzas.{whole-read}
 
 -- a call on chunks does what a call of one stanza does
-record Does (x : one-call.Outcome) (o : Outcome) : Type 0 where
-  session : o .intake .session ≡ x .session
-  buffers : o .buffers ≡ x .buffers
-  written : take (o .size) (o .output) ≡ take (x .size) (x .output)
+pub record Does (x : one-call.Outcome) (o : Outcome) : Type 0 where
+  pub session : o .intake .session ≡ x .session
+  pub buffers : o .buffers ≡ x .buffers
+  pub written : take (o .size) (o .output) ≡ take (x .size) (x .output)
 
 -- .. and keeps no byte
 record Goes (x : one-call.Outcome) (o : Outcome) : Type 0 where
@@ -213,7 +213,7 @@ module _ (e : End) (s : Session) (a : List ℕ) (b : Buffers) (t : List ℕ) (tu
           read-number (λ m. readFirst t ≡ refused m → Does (outcome s b (stanzaCall e (s .phase) t)) (chunked e (emptied s a) b t room))
           (λ r. impossible-does 1 r refl (λ z. omega arith) (cut-fault t r)) (λ r. unfinished-does r h) (λ r. impossible-does 3 r refl (λ z. omega arith) (cut-overlong t r)) t m r r
 
-last-does : (e : End) (s : Session) (a : List ℕ) (b : Buffers) (t : List ℕ) → cut start [] t .texts ≡ [] → Does (outcome s b (stanzaCall e (s .phase) t)) (chunked e (emptied s a) b t room)
+pub last-does : (e : End) (s : Session) (a : List ℕ) (b : Buffers) (t : List ℕ) → cut start [] t .texts ≡ [] → Does (outcome s b (stanzaCall e (s .phase) t)) (chunked e (emptied s a) b t room)
 last-does e s a b t h = ⊎-elim (λ turn. no-stanza-does e s a b t turn h) (λ turn. out-of-turn-goes e s a b t turn .does) (by-turn e (s .phase))
 
 -- ---- lists

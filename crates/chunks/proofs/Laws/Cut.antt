@@ -29,7 +29,7 @@ use Rattle.conversation.specs.TurnsTwo.{undue, dueIn, answered}
 use Rattle.chunks.specs.Cutting.{Rest, unfinished, impossible, bytesOf, cut}
 use Rattle.chunks.specs.Taking.{joined, End, client, plugin, Turn, reads, drops, keeps-back, turnAt, room, stanzaCall, Intake, Taken, noMore, emptied, keeping, takenRest, takenAll}
 use Rattle.chunks.specs.Chunks.{Outcome, untaken, judged, taken, turnOf, chunked, replyAhead, takenBack, repliedTo, repliedBy, replied}
-use Rattle.chunks.specs.Uncut.{Parted, Piece, chunk, reply, outcomeOf, State, after, numbers, written, isClosed, closing, NoneHeldUp, alone, singles, isOver, isWaiting, isUnfit, partedChunk, partedBack, receivedMore, partedBy, parted, uncut, isEnded, NoneBehind, SameRun, textIn, keptBack, AreSingle, IsUncut}
+use Rattle.chunks.specs.Uncut.{Parted, Piece, chunk, reply, outcomeOf, State, after, numbers, written, isClosed, closing, NoneHeldUp, alone, singles, isOver, isWaiting, isUnfit, partedChunk, partedBack, receivedMore, partedBy, parted, uncut, isEnded, NoneBehind, SameRun, textIn, keptBack, AreSingle, IsUncut, HostReply, repliesBy, repliesMade, RepliesDue}
 use Rattle.chunks.specs.Reached.{IsFront}
 use Rattle.chunks.proofs.Laws.Cutting.{IsWhole, IsRest, cutOn, cut-append, cut-joined, cut-parts, none-front}
 use Rattle.chunks.proofs.Laws.Cases.{drops-not-reads, keeps-not-reads, keeps-not-drops, held}
@@ -48,6 +48,8 @@ pub record Follows (e : End) (n : ℕ) (s : Session) (w : List ℕ) (i : Intake)
   pub same-closing : isClosed (s .phase) ≡ false → closing e (emptied s w) b us ≡ pick (isClosed (i .session .phase)) n (closing e i b cs)
   pub same-text : textIn us ++ keptBack e (after e i b cs .intake) ≡ left ++ textIn cs
   pub single : AreSingle us
+  pub same-replies : repliesMade e (emptied s w) b us ≡ repliesMade e i b cs
+  pub replies-due : RepliesDue e (emptied s w) b us
   pub accepted-as : isClosed (i .session .phase) ≡ false → (isEnded (i .session .phase) ≡ true → left ≡ []) → NoneBehind e i b cs → AllZero (numbers e (emptied s w) b us) ↔ AllZero (numbers e i b cs)
   pub refused-late : isOver (i .session .phase) ≡ true → (left ≡ [] → ⊥) → AllZero (numbers e (emptied s w) b us) → ⊥
 
@@ -84,18 +86,89 @@ unfolding All Wholes
 wholes-alone [] h = tt
 wholes-alone (t ∷ ts) h = (refl, (h .0, wholes-alone ts (h .1)))
 
-text-alone : (ts : List (List ℕ)) (x : List ℕ) → textIn (map alone ts) ++ x ≡ joined ts x
+pub text-alone : (ts : List (List ℕ)) (x : List ℕ) → textIn (map alone ts) ++ x ≡ joined ts x
 unfolding textIn joined
 text-alone [] x = refl
 text-alone (t ∷ ts) x = append-assoc t (textIn (map alone ts)) x ∙ ap (λ y. t ++ y) (text-alone ts x)
 
+-- ---- the replies of lists of calls
+
+module _ (e : End) where
+  made-append : (i : Intake) (b : Buffers) (xs ys : List Piece) → repliesMade e i b (xs ++ ys) ≡ repliesMade e i b xs ++ repliesMade e (after e i b xs .intake) (after e i b xs .buffers) ys
+  unfolding repliesMade after
+  made-append i b [] ys = refl
+  made-append i b (c ∷ xs) ys =
+      let o = outcomeOf e i b c in
+      ap (λ z. repliesBy e i c ++ z) (made-append (o .intake) (o .buffers) xs ys) ∙ sym (append-assoc (repliesBy e i c) (repliesMade e (o .intake) (o .buffers) xs) _)
+
+  due-append : (i : Intake) (b : Buffers) (xs ys : List Piece) → RepliesDue e i b xs → RepliesDue e (after e i b xs .intake) (after e i b xs .buffers) ys → RepliesDue e i b (xs ++ ys)
+  unfolding RepliesDue after
+  due-append i b [] ys h k = k
+  due-append i b (c ∷ xs) ys h k = (h .0, due-append (outcomeOf e i b c .intake) (outcomeOf e i b c .buffers) xs ys (h .1) k)
+
+  -- replies of calls that lead from one place to another
+  abbrev Made : Intake → Buffers → List Piece → List HostReply → Type 0
+  Made i b xs rs = (repliesMade e i b xs ≡ rs) × RepliesDue e i b xs
+
+  -- chunks make none
+  made-alone : (ts : List (List ℕ)) (i : Intake) (b : Buffers) → Made i b (map alone ts) []
+  unfolding repliesMade RepliesDue
+  made-alone [] i b = (refl, tt)
+  made-alone (t ∷ ts) i b = let k = made-alone ts (outcomeOf e i b (alone t) .intake) (outcomeOf e i b (alone t) .buffers) in (k .0, (λ h. absurd (false≢true h), k .1))
+
+  made-last : (x : List ℕ) (i : Intake) (b : Buffers) → Made i b (pick (eqb (length x) 0) [] (alone x ∷ [])) []
+  made-last x i b = go (eqb (length x) 0)
+    where
+      go : (d : Bool) → Made i b (pick d [] (alone x ∷ [])) []
+      go true = made-alone [] i b
+      go false = made-alone (x ∷ []) i b
+
+  made-more : (i : Intake) (b : Buffers) (xs ys : List Piece) → Made i b xs [] → Made (after e i b xs .intake) (after e i b xs .buffers) ys [] → Made i b (xs ++ ys) []
+  made-more i b xs ys h k = (made-append i b xs ys ∙ ap₂ (λ u v. u ++ v) (h .0) (k .0), due-append i b xs ys (h .1) (k .1))
+
+  made-singles : (x : List ℕ) (i : Intake) (b : Buffers) → Made i b (singles x) []
+  made-singles x i b =
+      let c = cut start [] x in
+      let xs = map alone (c .texts) in
+      made-more i b xs (pick (eqb (length (bytesOf (c .rest))) 0) [] (alone (bytesOf (c .rest)) ∷ [])) (made-alone (c .texts) i b) (made-last (bytesOf (c .rest)) (after e i b xs .intake) (after e i b xs .buffers))
+
+  -- the reply to the command that waits, and chunks behind it
+  made-reply : (i : Intake) (b : Buffers) (r : Response) (body out : List ℕ) (ts : List (List ℕ)) → isWaiting e (i .session .phase) ≡ true → Made i b (reply r body out ∷ map alone ts) (repliesBy e i (reply r body out))
+  unfolding repliesMade RepliesDue
+  made-reply i b r body out ts h =
+      let o = outcomeOf e i b (reply r body out) in
+      let k = made-alone ts (o .intake) (o .buffers) in
+      (ap (λ x. repliesBy e i (reply r body out) ++ x) (k .0) ∙ append-nil (repliesBy e i (reply r body out)), (λ z. h, k .1))
+
+  -- none is made behind the end
+  over-made : (i : Intake) (c : Piece) → isOver (i .session .phase) ≡ true → repliesBy e i c ≡ []
+  over-made i (chunk bytes out) h = refl
+  over-made i (reply r body out) h = ap (λ d. pick d (record { awaited = i .awaited; response = r; body = body } ∷ []) []) (over-waits e (i .session .phase) h)
+    where
+      over-waits : (e : End) (p : Phase) → isOver p ≡ true → isWaiting e p ≡ false
+      over-waits client One h = refl
+      over-waits client Two h = refl
+      over-waits client (Awaiting v) h = absurd (false≢true h)
+      over-waits client Ended h = refl
+      over-waits client Closed h = refl
+      over-waits plugin p h = refl
+
+-- where calls lead, with none behind them
+run-leads : {e : End} {i : Intake} {b : Buffers} {xs : List Piece} {n : ℕ} {i′ : Intake} {b′ : Buffers} {v : List ℕ} → Runs e i b xs n i′ b′ v → after e i b xs ≡ record { intake = i′; buffers = b′ }
+unfolding after
+run-leads {e} {i} {b} {xs} r = ap (after e i b) (sym (append-nil xs)) ∙ r .leads []
+
 module _ (e : End) (n : ℕ) (s : Session) (w : List ℕ) (i : Intake) (b : Buffers) (left : List ℕ) where
+  made-first : {i′ : Intake} {b′ : Buffers} (c : Piece) (cs : List Piece) → after e i b (c ∷ []) ≡ record { intake = i′; buffers = b′ } → repliesMade e i b (c ∷ cs) ≡ repliesBy e i c ++ repliesMade e i′ b′ cs
+  unfolding repliesMade after
+  made-first c cs h = ap (λ (z : State). repliesBy e i c ++ repliesMade e (z .intake) (z .buffers) cs) h
+
   -- calls of the uncut list for one call of the cut one
   follow : {m k : ℕ} {s′ : Session} {w′ : List ℕ} {i′ : Intake} {b′ : Buffers} {left′ v : List ℕ} (xs us cs : List Piece) (c : Piece) →
       Runs e (emptied s w) b xs m (emptied s′ w′) b′ v → Runs e i b (c ∷ []) m i′ b′ v → At e m s′ w′ i′ left′ → isClosed (i .session .phase) ≡ false → textIn xs ++ left′ ≡ left ++ textIn (c ∷ []) → Wholes xs →
       isOver (i .session .phase) ≡ false → Tally e (emptied s w) b xs k (emptied s′ w′) b′ → Tally e i b (c ∷ []) m i′ b′ → Level i′ left′ k m → (NoneBehind e i b (c ∷ cs) → NoneBehind e i′ b′ cs) →
-      Follows e m s′ w′ i′ b′ left′ us cs → Follows e n s w i b left (xs ++ us) (c ∷ cs)
-  follow {m} {k} {s′} {w′} {i′} {b′} {left′} {v} xs us cs c r q a h d y g x z l nb f = record {
+      Made e (emptied s w) b xs (repliesBy e i c) → Follows e m s′ w′ i′ b′ left′ us cs → Follows e n s w i b left (xs ++ us) (c ∷ cs)
+  follow {m} {k} {s′} {w′} {i′} {b′} {left′} {v} xs us cs c r q a h d y g x z l nb mk f = record {
     none-held-up = r .passes us (f .none-held-up);
     same-output = r .writes us ∙ ap (λ x. v ++ x) (f .same-output) ∙ sym (q .writes cs);
     same-session = ap (λ x. x .intake .session) (r .leads us) ∙ f .same-session ∙ sym (ap (λ x. x .intake .session) (q .leads cs));
@@ -106,6 +179,9 @@ module _ (e : End) (n : ℕ) (s : Session) (w : List ℕ) (i : Intake) (b : Buff
         ap₂ (λ u k. u ++ k) (text-append xs us) (ap (λ z. keptBack e (z .intake)) (q .leads cs)) ∙ append-assoc (textIn xs) (textIn us) (keptBack e (after e i′ b′ cs .intake)) ∙ ap (λ u. textIn xs ++ u) (f .same-text)
         ∙ sym (append-assoc (textIn xs) left′ (textIn cs)) ∙ ap (λ u. u ++ textIn cs) d ∙ append-assoc left (textIn (c ∷ [])) (textIn cs) ∙ ap (λ u. left ++ u) (sym (text-append (c ∷ []) cs));
     single = single-append xs us y (f .single);
+    same-replies =
+        made-append e (emptied s w) b xs us ∙ ap₂ (λ u (z : State). u ++ repliesMade e (z .intake) (z .buffers) us) (mk .0) (run-leads r) ∙ ap (λ u. repliesBy e i c ++ u) (f .same-replies) ∙ sym (made-first c cs (run-leads q));
+    replies-due = due-append e (emptied s w) b xs us (mk .1) (subst (λ (z : State). RepliesDue e (z .intake) (z .buffers) us) (sym (run-leads r)) (f .replies-due));
     accepted-as = λ p t n. accepts l (nb n);
     refused-late = λ p t. absurd (false≢true (sym g ∙ p));
   }
@@ -134,6 +210,8 @@ module _ (e : End) (n : ℕ) (s : Session) (w : List ℕ) (i : Intake) (b : Buff
     same-text =
         ap (λ (z : State). textIn us ++ keptBack e (z .intake)) (q .leads cs) ∙ f .same-text ∙ append-assoc left (textIn (c ∷ [])) (textIn cs) ∙ ap (λ u. left ++ u) (sym (text-append (c ∷ []) cs));
     single = f .single;
+    same-replies = f .same-replies ∙ sym (made-first c cs (run-leads q) ∙ ap (λ u. u ++ repliesMade e i b cs) (over-made e i c o));
+    replies-due = f .replies-due;
     accepted-as = λ p t n. absurd (false≢true (sym (n .0) ∙ over-ended (i .session .phase) o p));
     refused-late = λ p t. f .refused-late p (λ z. t (front-empty left (textIn (c ∷ [])) z));
   }
@@ -150,9 +228,9 @@ module _ (e : End) (n : ℕ) (s : Session) (w : List ℕ) (i : Intake) (b : Buff
   follow-end : {m : ℕ} {i′ : Intake} (xs : List Piece) → Runs e (emptied s w) b xs m i′ b [] → i′ .session ≡ i .session → i′ .awaited ≡ i .awaited →
       (isClosed (s .phase) ≡ false → pick (isClosed (i′ .session .phase)) m 0 ≡ pick (isClosed (i .session .phase)) n 0) → textIn xs ++ keptBack e i ≡ left → AreSingle xs →
       (isClosed (i .session .phase) ≡ false → (isEnded (i .session .phase) ≡ true → left ≡ []) → AllZero (numbers e (emptied s w) b xs)) →
-      (isOver (i .session .phase) ≡ true → (left ≡ [] → ⊥) → AllZero (numbers e (emptied s w) b xs) → ⊥) → Follows e n s w i b left xs []
-  unfolding after written numbers closing NoneHeldUp textIn AllZero
-  follow-end {m} {i′} xs r p q c d y taken-up left-out = record {
+      (isOver (i .session .phase) ≡ true → (left ≡ [] → ⊥) → AllZero (numbers e (emptied s w) b xs) → ⊥) → Made e (emptied s w) b xs [] → Follows e n s w i b left xs []
+  unfolding after written numbers closing NoneHeldUp textIn AllZero repliesMade
+  follow-end {m} {i′} xs r p q c d y taken-up left-out mk = record {
     none-held-up = subst (λ x. NoneHeldUp (numbers e (emptied s w) b x)) (append-nil xs) (r .passes [] tt);
     same-output = ap (written e (emptied s w) b) (sym (append-nil xs)) ∙ r .writes [];
     same-session = ap (λ x. after e (emptied s w) b x .intake .session) (sym (append-nil xs)) ∙ ap (λ x. x .intake .session) (r .leads []) ∙ p;
@@ -161,6 +239,8 @@ module _ (e : End) (n : ℕ) (s : Session) (w : List ℕ) (i : Intake) (b : Buff
     same-closing = λ k. ap (closing e (emptied s w) b) (sym (append-nil xs)) ∙ r .closes-as k [] ∙ c k;
     same-text = d ∙ sym (append-nil left);
     single = y;
+    same-replies = mk .0;
+    replies-due = mk .1;
     accepted-as = λ p t n. (λ z. tt, λ z. taken-up p t);
     refused-late = left-out;
   }
@@ -236,7 +316,7 @@ module _ (e : End) (n : ℕ) (s : Session) (w : List ℕ) (b : Buffers) where
   unfolding uncut
   end-singles i left h r p q c taken-up left-out =
       subst (λ d. Follows e n s w i b left (pick d [] (singles left)) []) (sym h)
-      (follow-end e n s w i b left (singles left) r p q c (ap (λ d. textIn (singles left) ++ pick d (i .kept) []) h ∙ append-nil (textIn (singles left)) ∙ text-singles left) (single-singles left) taken-up left-out)
+      (follow-end e n s w i b left (singles left) r p q c (ap (λ d. textIn (singles left) ++ pick d (i .kept) []) h ∙ append-nil (textIn (singles left)) ∙ text-singles left) (single-singles left) taken-up left-out (made-singles e left (emptied s w) b))
 
   -- no call, or one
   zero-none : (xs : List Piece) → xs ≡ [] → AllZero (numbers e (emptied s w) b xs)
@@ -314,7 +394,7 @@ module _ (e : End) (n : ℕ) (s : Session) (w : List ℕ) (b : Buffers) where
       let h = turn-waits e (s .phase) t in
       subst (λ d. Follows e n s w (keeping s start left w) b left (pick d [] (singles left)) []) (sym h)
       (follow-end e n s w (keeping s start left w) b left [] (run-none e (emptied s w) b 0) refl refl (λ k. rw (c .1)) (ap (λ d. pick d left []) h) tt
-      (λ p l. zero-none [] refl) (λ o. absurd (false≢true (sym (c .0) ∙ o))))
+      (λ p l. zero-none [] refl) (λ o. absurd (false≢true (sym (c .0) ∙ o))) (made-alone e [] (emptied s w) b))
 
   follows-end : (i : Intake) (left : List ℕ) → At e n s w i left → Follows e n s w i b left (uncut e i b left []) []
   follows-end _ _ (in-turn q f t h) = end-in-turn q f t h
@@ -372,11 +452,11 @@ unfolding numbers NoneHeldUp
 none-behind e i b c cs o q h = subst (λ (o : Outcome). ((o .number ≡ 14 → ⊥) × (o .number ≡ 15 → ⊥)) × NoneHeldUp (numbers e (o .intake) (o .buffers) cs)) q h
 
 -- no call behind the end, from the second on
-none-behind-on : (e : End) (i : Intake) (b : Buffers) (c : Piece) (cs : List Piece) (o : Outcome) → outcomeOf e i b c ≡ o → NoneBehind e i b (c ∷ cs) → NoneBehind e (o .intake) (o .buffers) cs
+pub none-behind-on : (e : End) (i : Intake) (b : Buffers) (c : Piece) (cs : List Piece) (o : Outcome) → outcomeOf e i b c ≡ o → NoneBehind e i b (c ∷ cs) → NoneBehind e (o .intake) (o .buffers) cs
 unfolding NoneBehind
 none-behind-on e i b c cs o q h = subst (λ (o : Outcome). NoneBehind e (o .intake) (o .buffers) cs) q (h .1)
 
-closed-turn-of : (e : End) → turnOf e Closed ≡ 13
+pub closed-turn-of : (e : End) → turnOf e Closed ≡ 13
 closed-turn-of client = refl
 closed-turn-of plugin = refl
 
@@ -402,7 +482,7 @@ module _ (cs : List Piece) (go : Goes cs) (e : End) (n : ℕ) (s : Session) (w :
         subst (λ x. Follows e n s w i b f x (c ∷ cs))
         (sym (ap (λ d. pick d (uncut e i b (f ++ bytes) cs) (map alone (p .received) ++ uncut e (chunked e i b bytes out .intake) (chunked e i b bytes out .buffers) (p .left) cs)) v
         ∙ ap (λ (o : Outcome). map alone (p .received) ++ uncut e (o .intake) (o .buffers) (p .left) cs) o))
-        (follow e n s w i b f (map alone (p .received)) (uncut e (r .intake) (r .buffers) (p .left) cs) cs c (m .runs) (run-held e i b c out r o (y .1) (g .0 .0) (g .0 .1)) (m .at) z text wholes v (m .accepts) (tally-one e i b c (held out r) o) (m .level) (none-behind-on e i b c cs (held out r) o)
+        (follow e n s w i b f (map alone (p .received)) (uncut e (r .intake) (r .buffers) (p .left) cs) cs c (m .runs) (run-held e i b c out r o (y .1) (g .0 .0) (g .0 .1)) (m .at) z text wholes v (m .accepts) (tally-one e i b c (held out r) o) (m .level) (none-behind-on e i b c cs (held out r) o) (made-alone e (p .received) (emptied s w) b)
         (go e (r .number) (m .session) (m .awaited) (r .intake) (r .buffers) (p .left) (m .at) (g .1)))
 
     -- one behind the end
@@ -559,7 +639,7 @@ module _ (cs : List Piece) (go : Goes cs) (n : ℕ) (s : Session) (w : List ℕ)
         (run-one client (emptied s w) b (reply r body room) (untaken k (emptied s w) b room) (reply-unfit (emptied s w) b r body room v phase k q z) (g .0 .0) (g .0 .1))
         (run-one client i b c (untaken k i b out) o (g .0 .0) (g .0 .1)) (waiting left keeps) (ap isClosed phase) (sym (append-nil left)) tt (ap isOver phase)
         (tally-one client (emptied s w) b (reply r body room) (untaken k (emptied s w) b room) (reply-unfit (emptied s w) b r body room v phase k q z)) (tally-one client i b c (untaken k i b out) o)
-        (both-refused (eqb-false k 0 z) (eqb-false k 0 z)) (none-behind-on client i b c cs (untaken k i b out) o)
+        (both-refused (eqb-false k 0 z) (eqb-false k 0 z)) (none-behind-on client i b c cs (untaken k i b out) o) (made-reply client (emptied s w) b r body room [] here)
         (go client k s w i b left (waiting left keeps) (g .1)))
 
     -- one that is
@@ -585,7 +665,7 @@ module _ (cs : List Piece) (go : Goes cs) (n : ℕ) (s : Session) (w : List ℕ)
         (follow client n s w i b left (reply r body room ∷ map alone (p .received)) (uncut client (m .intake) (m .buffers) (p .left) cs) cs c
         (run-join client (run-reply q) (λ z. refl) (k .runs)) (run-held client i b c out d o (y .1) (g .0 .0) (g .0 .1)) (k .at) (ap isClosed phase) bytes wholes (ap isOver phase)
         (tally-join client (tally-one client (emptied s w) b (reply r body room) (held room (replyAhead text (noMore 0 (emptied (answered s) []) b))) (reply-alone s w b r body v phase q)) (k .accepts))
-        (tally-one client i b c (held out d) o) (k .level) (none-behind-on client i b c cs (held out d) o)
+        (tally-one client i b c (held out d) o) (k .level) (none-behind-on client i b c cs (held out d) o) (made-reply client (emptied s w) b r body room (p .received) here)
         (go client (m .number) (k .session) (k .awaited) (m .intake) (m .buffers) (p .left) (k .at) (g .1)))
 
     reply-waiting : NoneHeldUp (numbers client i b (c ∷ cs)) → Goal
@@ -637,4 +717,4 @@ cut-accepted e s b cs c h k = follows cs e 0 s [] (emptied s []) b [] (at-start 
 
 -- and its uncut list has each stanza of its text in a chunk of its own
 pub uncut-theorem : (e : End) (s : Session) (b : Buffers) (cs : List Piece) → NoneHeldUp (numbers e (emptied s []) b cs) → IsUncut e s b (uncut e (emptied s []) b [] cs) cs
-uncut-theorem e s b cs h = let f = follows cs e 0 s [] (emptied s []) b [] (at-start e s [] (turnAt e (s .phase)) refl) h in record { same-text = f .same-text; single = f .single }
+uncut-theorem e s b cs h = let f = follows cs e 0 s [] (emptied s []) b [] (at-start e s [] (turnAt e (s .phase)) refl) h in record { same-text = f .same-text; single = f .single; same-replies = f .same-replies; replies-due = f .replies-due }

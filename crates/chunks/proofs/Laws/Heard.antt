@@ -20,8 +20,8 @@ use Rattle.conversation.proofs.Laws.Refusals.{either}
 use Rattle.chunks.specs.Cutting.{Rest, unfinished, impossible, bytesOf, cut}
 use Rattle.chunks.specs.Taking.{End, client, plugin, Turn, reads, drops, keeps-back, turnAt, stanzaCall, awaitedBehind, Intake, Taken, noMore, emptied, takenRest, takenAll}
 use Rattle.chunks.specs.Chunks.{Outcome, untaken, chunked, repliedBy, replied}
-use Rattle.chunks.specs.Uncut.{Piece, chunk, reply, outcomeOf, after, numbers, written, isClosed}
-use Rattle.chunks.specs.Orders.{isReply, heard}
+use Rattle.chunks.specs.Uncut.{Piece, chunk, reply, outcomeOf, after, numbers, written, isClosed, isReply}
+use Rattle.chunks.specs.Orders.{heard}
 use Rattle.chunks.proofs.Laws.Cases.{stanza-cases, chunk-cases, reply-cases}
 use Rattle.chunks.proofs.Laws.Numbers.{Faulty, cut-faulty}
 use Rattle.chunks.proofs.Laws.Stanzas.{Open, stanza-open}

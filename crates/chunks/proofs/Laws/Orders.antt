@@ -39,12 +39,12 @@ use Rattle.chunks.proofs.Laws.Blocks.{Ready, blocks-same}
 
 -- ---- what is written, one behind the other
 
-joined-append : (xs ys : List (List ℕ)) (z : List ℕ) → joined (xs ++ ys) z ≡ joined xs (joined ys z)
+pub joined-append : (xs ys : List (List ℕ)) (z : List ℕ) → joined (xs ++ ys) z ≡ joined xs (joined ys z)
 unfolding joined
 joined-append [] ys z = refl
 joined-append (x ∷ xs) ys z = ap (λ r. x ++ r) (joined-append xs ys z)
 
-written-append : (s : Session) (b : Buffers) (xs ys : List Call) → one-call.written s b (xs ++ ys) ≡ one-call.written s b xs ++ one-call.written (one-call.after s b xs .session) (one-call.after s b xs .buffers) ys
+pub written-append : (s : Session) (b : Buffers) (xs ys : List Call) → one-call.written s b (xs ++ ys) ≡ one-call.written s b xs ++ one-call.written (one-call.after s b xs .session) (one-call.after s b xs .buffers) ys
 unfolding one-call.written one-call.after
 written-append s b [] ys = refl
 written-append s b (c ∷ xs) ys = ap (λ r. writtenBy s b c ∷ r) (written-append (outcome s b c .session) (outcome s b c .buffers) xs ys)
@@ -115,12 +115,12 @@ starts-ready one-part s h = (ap (λ (s : Session). pieces.isWaiting client (s .p
 starts-ready two-part s h = (tt, ap pieces.isClosed (just-done s h .turn))
 
 -- it is accepted where the calls of one stanza are, leaves their session and buffers, and writes what they write
-record CutCalls (part : Part) (x : State) (p : Phase) (cs : List Piece) : Type 0 where
-  accepted : AllTaken (endOf part) x cs ↔ Accepted (x .session) (x .buffers) (callsOf part rooms (blocksOf p))
-  state-is : stateBehind (endOf part) x cs ≡ one-call.after (x .session) (x .buffers) (callsOf part rooms (blocksOf p))
-  written-is : writtenAll (endOf part) x cs ≡ allJoined (writtenIn part (x .session) (x .buffers) rooms (blocksOf p))
+pub record CutCalls (part : Part) (x : State) (p : Phase) (cs : List Piece) : Type 0 where
+  pub accepted : AllTaken (endOf part) x cs ↔ Accepted (x .session) (x .buffers) (callsOf part rooms (blocksOf p))
+  pub state-is : stateBehind (endOf part) x cs ≡ one-call.after (x .session) (x .buffers) (callsOf part rooms (blocksOf p))
+  pub written-is : writtenAll (endOf part) x cs ≡ allJoined (writtenIn part (x .session) (x .buffers) rooms (blocksOf p))
 
-cut-calls : (part : Part) (x : State) (p : Phase) (cs : List Piece) → Starts part (x .session) → IsPhase part p → IsCut (endOf part) (x .session) (x .buffers) cs (blocksOf p) → CutCalls part x p cs
+pub cut-calls : (part : Part) (x : State) (p : Phase) (cs : List Piece) → Starts part (x .session) → IsPhase part p → IsCut (endOf part) (x .session) (x .buffers) cs (blocksOf p) → CutCalls part x p cs
 cut-calls part x p cs st ph c =
     let e = endOf part in
     let i = emptied (x .session) [] in

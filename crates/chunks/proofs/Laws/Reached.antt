@@ -11,8 +11,10 @@ use native.Mathlib.Omega.{arith}
 use borrow.Author.Tests.{eqb-true, eqb-false, leb-true}
 use Rattle.refusal.specs.Pick.{pick}
 use Rattle.refusal.proofs.Laws.Booleans.{cases, and-true}
-use Rattle.stanza.specs.Automaton.{start, scan}
-use Rattle.stanza.specs.Reading.{found}
+use Rattle.stanza.specs.Automaton.{State, start, scan}
+use Rattle.stanza.specs.Exact.{Begins}
+use Rattle.stanza.specs.Reading.{Reading, stanza, refused, readFirst, found}
+use Rattle.stanza.proofs.Laws.Exact.{refused-2}
 use Rattle.responses.specs.declared.Response.{Response}
 use Rattle.session.specs.declared.words.WordTwo.{WordTwo}
 use Rattle.session.specs.declared.phases.Phase.{Phase}
@@ -34,8 +36,9 @@ use Rattle.chunks.specs.Chunks.{untaken, isHeld, taken, chunked, replied
 use Rattle.chunks.specs.Uncut.{chunk, reply, isWaiting}
 use Rattle.chunks.specs.Reached.{AnyCall, piece, sends-one, sends-two, finishes, Has, withSession, intakeAfter, AnyWith, intakeAfterAll, IsFront, Bounded, isIdle}
 use Rattle.chunks.proofs.Laws.Cases.{drops-not-reads, keeps-not-reads, keeps-not-drops, stanza-cases, chunk-cases, answering, reply-cases}
+use Rattle.chunks.proofs.Laws.Reading.{cut-stanza, cut-fault, cut-overlong}
 use Rattle.chunks.proofs.Laws.Finish.{turn-not-waiting, chunk-not-two}
-use Rattle.chunks.proofs.Laws.Short.{OutOfTurn, chunk-out-of-turn}
+use Rattle.chunks.proofs.Laws.Short.{read-number, OutOfTurn, chunk-out-of-turn}
 use Rattle.chunks.proofs.Laws.Cutting.{IsWhole, IsRest, none-front, cut-parts}
 use Rattle.chunks.proofs.Laws.Stanzas.{after-undue, whole-read}
 use Rattle.chunks.proofs.Laws.Taking.{turn-says, turn-waits}
@@ -231,6 +234,23 @@ reached-keeps e machine name screen cs = calls-keep e (emptied (opened machine n
 -- the kept bytes are at most 8,192; where nothing waits they are a proper front of a stanza, at most 8,191
 pub reached-bounded : (e : End) (machine name : List ℕ) (screen : Bool) (cs : List (AnyWith e)) → Bounded e (intakeAfterAll e (emptied (opened machine name screen .session) []) cs)
 reached-bounded e machine name screen cs = let k = reached-keeps e machine name screen cs in record { bound = k .bound; front = k .settled .front }
+
+-- such a front is one by the grammar: some stanza begins with it and is longer
+front-begins : (q : State) (x : List ℕ) → IsFront q x → Begins x
+front-begins q x h = go (readFirst x) refl
+  where
+    apart : {n : ℕ} {y : List ℕ} → cut start [] x .rest ≡ impossible n y → Begins x
+    apart k = let e = sym k ∙ ap (λ c. c .rest) (h .read) in let z : _≡_ {A = ℕ} 0 1 = cc in absurd (omega arith)
+
+    go : (r : Reading) → readFirst x ≡ r → Begins x
+    go (stanza l n k) r = let e = sym (ap (λ c. c .texts) (cut-stanza x l n k r)) ∙ ap (λ c. c .texts) (h .read) in let z : _≡_ {A = ℕ} 0 1 = cc in absurd (omega arith)
+    go (refused m) r =
+        read-number (λ m. readFirst x ≡ refused m → Begins x) (λ r. apart (ap (λ c. c .rest) (cut-fault x r))) (λ r. refused-2 x .0 r .1) (λ r. apart (ap (λ c. c .rest) (cut-overlong x r))) x m r r
+
+pub reached-begins : (e : End) (machine name : List ℕ) (screen : Bool) (cs : List (AnyWith e)) → (let i = intakeAfterAll e (emptied (opened machine name screen .session) []) cs in
+    isWaiting e (i .session .phase) ≡ false → Begins (i .kept))
+reached-begins e machine name screen cs h =
+    let i = intakeAfterAll e (emptied (opened machine name screen .session) []) cs in front-begins (i .reading) (i .kept) (reached-keeps e machine name screen cs .settled .front h)
 
 -- ---- where nothing is kept, and what waits
 

@@ -12,7 +12,7 @@ use Rattle.refusal.specs.Pick.{pick}
 use Rattle.refusal.proofs.Laws.Booleans.{cases}
 use Rattle.stanza.specs.Automaton.{State, start, hyphen, arrow, gap, word, line, ended, dead, next, after, Scan, bad, short, whole, verdict, scan}
 use Rattle.stanza.specs.Reading.{stanza, refused, readFirst, found}
-use Rattle.stanza.proofs.Laws.Exact.{found-whole}
+use Rattle.stanza.proofs.Laws.Exact.{found-whole, found-bad}
 use Rattle.conversation.specs.Phases.{Whole}
 use Rattle.chunks.specs.Cutting.{Rest, unfinished, impossible, Cut, onward, frontOnward, cutAt, cut}
 use Rattle.chunks.proofs.Laws.Cutting.{by-place}
@@ -142,18 +142,8 @@ unfolding cut
 cut-whole t w = cut-stanza t (w .line) (w .body) (length t) (w .read) ∙ rw (take-length t, drop-length t)
 
 -- a text that no stanza begins with
-found-one : (n : ℕ) (w : List ℕ) (x : Scan) → found n w x ≡ refused 1 → x ≡ bad
-unfolding found
-found-one n w bad h = refl
-found-one n w short h = go (ltb n 8192) h
-  where
-    go : (f : Bool) → pick f (refused 2) (refused 3) ≡ refused 1 → short ≡ bad
-    go true h = let z : _≡_ {A = ℕ} 2 1 = cc in absurd (omega arith)
-    go false h = let z : _≡_ {A = ℕ} 3 1 = cc in absurd (omega arith)
-found-one n w (whole k) h = let z : _≡_ {A = ℕ} 0 1 = cc in absurd (omega arith)
-
 pub cut-fault : (x : List ℕ) → readFirst x ≡ refused 1 → cut start [] x ≡ record { texts = []; rest = impossible 1 x }
-cut-fault x h = subst (Agrees start [] x) (found-one (length x) (take 8192 x) (scan start 0 (take 8192 x)) h) (text-scan x)
+cut-fault x h = subst (Agrees start [] x) (found-bad (length x) (take 8192 x) (scan start 0 (take 8192 x)) h) (text-scan x)
 
 -- .. one that ends before its stanza does, and one that is too long
 found-short : (n : ℕ) (w : List ℕ) (x : Scan) (f : Bool) → found n w x ≡ pick f (refused 2) (refused 3) → (x ≡ short) × (ltb n 8192 ≡ f)

@@ -3,12 +3,14 @@ use Prim.Native.Nat.{ℕ}
 use mathlib.Core.Path.{_≡_, refl, sym, ap, subst, _∙_}
 use mathlib.Core.Bool.{Bool, true, false, false≢true}
 use mathlib.Core.Logic.{_⊎_, ⊎-elim, _↔_}
-use mathlib.Core.List.{List, [], _∷_}
-use lib.Dec.{T, eqb, ltb}
-use lib.ListN.{length, take}
+use mathlib.Core.List.{List, [], _∷_, _++_}
+use lib.Dec.{T, eqb, leb, ltb}
+use lib.ListN.{length, take, drop}
 use native.Mathlib.Omega.{arith}
+use borrow.Author.Tests.{le-ltb, leb-true}
 use Rattle.refusal.specs.Output.{overflows}
 use Rattle.refusal.specs.Pick.{pick}
+use Rattle.refusal.proofs.Laws.Booleans.{and-true}
 use Rattle.stanza.specs.Automaton.{start, Scan, bad, short, whole, scan}
 use Rattle.stanza.specs.Reading.{refused, readFirst, found}
 use Rattle.responses.specs.declared.Response.{Response}
@@ -20,10 +22,11 @@ use Rattle.conversation.specs.Calls.{outcome}
 use Rattle.conversation.specs.Kinds.{Buffers}
 use Rattle.conversation.specs.Phases.{All}
 use Rattle.conversation.specs.Replying.{numberReplied}
-use Rattle.conversation.specs.TurnsTwo.{answered}
+use Rattle.conversation.specs.TurnsTwo.{answered, dueIn}
+use Rattle.conversation.proofs.Laws.StepsTwo.{all-written}
 use Rattle.chunks.specs.Cutting.{Rest, unfinished, impossible, bytesOf, cut}
 use Rattle.chunks.specs.Taking.{End, client, Turn, reads, drops, keeps-back, turnAt, stanzaCall, Intake, Taken, emptied, noMore, takenRest, takenAll, no-stanza}
-use Rattle.chunks.specs.Chunks.{untaken, isHeld, taken, turnOf, chunked, takenBack, replied}
+use Rattle.chunks.specs.Chunks.{RestStays, untaken, isHeld, taken, turnOf, chunked, takenBack, repliedTo, repliedBy, replied}
 use Rattle.chunks.proofs.Laws.Cases.{drops-not-reads, stanza-cases, held, isTurned, chunk-cases, isUntaken, answering, reply-cases}
 use Rattle.chunks.proofs.Laws.Numbers.{Faulty, cut-faulty, stanza-number, all-number}
 
@@ -88,12 +91,32 @@ pub reply-short : (i : Intake) (b : Buffers) (r : Response) (body out : List ℕ
 reply-short i b r body out =
     reply-cases (λ o. o .number ≡ 15 → o ≡ untaken 15 i b out) i b r body out (λ w q t h z. absurd (back-not-short i b z)) (λ w q t h z. refl) (λ n h z. ap (λ n. untaken n i b out) z)
 
--- it is refused so only if it is due, fits and can be written, and what is written, or kept back again, is too long
-pub reply-short-if : (i : Intake) (b : Buffers) (r : Response) (body out : List ℕ) → replied i b r body out .number ≡ 15 →
-    (w : WordTwo) × (i .session .phase ≡ Awaiting w) × (numberReplied w r body ≡ 0) × (isHeld (answering i b r body) out ≡ false)
-reply-short-if i b r body out =
-    reply-cases (λ o. o .number ≡ 15 → (w : WordTwo) × (i .session .phase ≡ Awaiting w) × (numberReplied w r body ≡ 0) × (isHeld (answering i b r body) out ≡ false)) i b r body out
-    (λ w q t h z. absurd (back-not-short i b z)) (λ w q t h z. (w, q, t, h)) (λ n h z. absurd (subst (λ n. T (isUntaken n)) z h))
+-- it is refused so exactly if it is due, fits and can be written, and what is written, or kept back again, is too long
+pub reply-short-iff : (i : Intake) (b : Buffers) (r : Response) (body out : List ℕ) →
+    (replied i b r body out .number ≡ 15) ↔ ((w : WordTwo) × (i .session .phase ≡ Awaiting w) × (numberReplied w r body ≡ 0) × (isHeld (answering i b r body) out ≡ false))
+reply-short-iff i b r body out = (
+  reply-cases (λ o. o .number ≡ 15 → (w : WordTwo) × (i .session .phase ≡ Awaiting w) × (numberReplied w r body ≡ 0) × (isHeld (answering i b r body) out ≡ false)) i b r body out
+      (λ w q t h z. absurd (back-not-short i b z)) (λ w q t h z. (w, q, t, h)) (λ n h z. absurd (subst (λ n. T (isUntaken n)) z h)),
+  λ k. ap (λ p. repliedBy (dueIn p) i b r body out .number) (k .1) ∙ to (k .0) (k .2) (k .3),
+)
+  where
+    to : (w : WordTwo) → numberReplied w r body ≡ 0 → isHeld (answering i b r body) out ≡ false → repliedTo w i b r body out .number ≡ 15
+    to w t h = unfold repliedTo in rw t (rw h refl)
+
+-- ---- the output buffer behind what is written
+
+held-stays : (out : List ℕ) (x : Taken) → isHeld x out ≡ true → RestStays (held out x) out
+held-stays out x h =
+    let l = leb-true (length (x .written)) (length out) (and-true (leb (length (x .written)) (length out)) (leb (length (x .intake .kept)) 8192) h .0) in
+    ap (λ f. pick f out (x .written ++ drop (length (x .written)) out)) (le-ltb (length out) (length (x .written)) l) ∙ ap (λ w. w ++ drop (length (x .written)) out) (sym (all-written (x .written) out l))
+
+-- a chunk, whatever its number
+pub chunk-stays : (e : End) (i : Intake) (b : Buffers) (bytes out : List ℕ) → RestStays (chunked e i b bytes out) out
+chunk-stays e i b bytes out = chunk-cases (λ o. RestStays o out) e i b bytes out (λ t h. held-stays out (taken e i b bytes) h) (λ t h. refl) (λ n t h. refl)
+
+-- a reply
+pub reply-stays : (i : Intake) (b : Buffers) (r : Response) (body out : List ℕ) → RestStays (replied i b r body out) out
+reply-stays i b r body out = reply-cases (λ o. RestStays o out) i b r body out (λ w q t h. held-stays out (answering i b r body) h) (λ w q t h. refl) (λ n h. refl)
 
 -- ---- a call refused with 13 or 14 ahead of any stanza
 

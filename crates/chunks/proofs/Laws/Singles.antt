@@ -51,7 +51,7 @@ pub record Alike (x : one-call.Outcome) (o : Outcome) : Type 0 where
   pub written : take (o .size) (o .output) ≡ take (x .size) (x .output)
 
 -- a text that is read as one whole stanza
-whole-is : (t : List ℕ) → Whole t → IsWhole t
+pub whole-is : (t : List ℕ) → Whole t → IsWhole t
 whole-is t w =
     let p = taken-iff t (length t) .0 (w .line, w .body, w .read) in
     record { alone = cut-whole t w; at-end = ended-iff t .1 (subst IsStanza (take-length t) (p .whole)); short = p .limit }

@@ -27,11 +27,11 @@ back-whole line body text h = record { line = length line + 3; body = length bod
 stanza-ahead : (t x : List ℕ) → cut start [] t ≡ record { texts = t ∷ []; rest = unfinished start [] } → cut start [] (t ++ x) .texts ≡ t ∷ cut start [] x .texts
 stanza-ahead t x h = ap (λ c. c .texts) (cut-append t x start [] ∙ ap (λ c. cutOn c x) h)
 
--- a text of whole stanzas is cut into them
-pub cut-wholes : (ts : List (List ℕ)) → All Whole ts → cut start [] (joined ts []) .texts ≡ ts
+-- a text of whole stanzas is cut into them, and nothing is left
+pub cut-wholes : (ts : List (List ℕ)) → All Whole ts → cut start [] (joined ts []) ≡ record { texts = ts; rest = unfinished start [] }
 unfolding All joined cut
 cut-wholes [] h = refl
-cut-wholes (t ∷ ts) h = stanza-ahead t (joined ts []) (cut-whole t (h .0)) ∙ ap (λ x. t ∷ x) (cut-wholes ts (h .1))
+cut-wholes (t ∷ ts) h = cut-append t (joined ts []) start [] ∙ ap (λ c. cutOn c (joined ts [])) (cut-whole t (h .0)) ∙ ap (λ c. record { texts = t ∷ c .texts; rest = c .rest }) (cut-wholes ts (h .1))
 
 -- the joined chunks, each a stanza, hold their stanzas
 single-stanzas : (us : List Piece) → AreSingle us → cut start [] (textIn us) .texts ≡ stanzasIn us
@@ -53,4 +53,4 @@ chunks-written e s b cs ts w q h k =
     let u = uncut-theorem e s b cs h in
     let i = after e (emptied s []) b cs .intake in
     let text : textIn us ≡ joined ts [] = sym (append-nil (textIn us)) ∙ sym (ap (λ f. textIn us ++ pick f (i .kept) []) k) ∙ u .same-text ∙ q in
-    sym (single-stanzas us (u .single)) ∙ ap (λ x. cut start [] x .texts) text ∙ cut-wholes ts w
+    sym (single-stanzas us (u .single)) ∙ ap (λ x. cut start [] x .texts) text ∙ ap (λ c. c .texts) (cut-wholes ts w)

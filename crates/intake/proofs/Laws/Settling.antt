@@ -30,9 +30,6 @@ reads-waits e p t = turn-says e p .waits (λ h. keeps-not-reads (sym h ∙ t))
 pub drops-waits : (e : End) (p : Phase) (n : ℕ) → turnAt e p ≡ drops n → isWaiting e p ≡ false
 drops-waits e p n t = turn-says e p .waits (λ h. keeps-not-drops n (sym h ∙ t))
 
-pub back-waits : (e : End) (p : Phase) → turnAt e p ≡ keeps-back → isWaiting e p ≡ true
-back-waits e p t = let h = turn-says e p .host t in ap₂ isWaiting (h .0) (h .1 .1)
-
 -- no text waits where nothing is kept back
 pub may-settle : (e : End) (p : Phase) (t u : Turn) (a rest input : List ℕ) → t ≡ u → (u ≡ keeps-back → ⊥) → MaySettle e p t a rest input →
     (a ≡ []) × MaySettle e p u [] rest input

@@ -1,5 +1,5 @@
 -- A closed session keeps nothing, and nothing waits in it.
-use mathlib.Core.Path.{ap, _∙_}
+use mathlib.Core.Path.{refl, ap, _∙_}
 use borrow.Author.Needs.{needs}
 use Rattle.intake.proofs.Laws.Keeping.{closed-waits}
 use Rattle.intake.proofs.answers.close.Statement.{statement}
@@ -14,7 +14,7 @@ keeping-requires c κs = search needs
 returns : tie.Need-returns
 returns c = (
   λ e xs hs input b. rw (c .keeping .ensures, c .before .moved .ensures, closed-waits e),
-  ap (λ s. s .name) (c .keeping .ensures) ∙ ap (λ s. s .name) (c .before .moved .ensures),
+  (refl, ap (λ s. s .name) (c .keeping .ensures) ∙ ap (λ s. s .name) (c .before .moved .ensures)),
 )
 
 pub close-spec : {M : Type 1} → statement M

@@ -11,7 +11,8 @@ use Rattle.chunks.specs.Taking.{noMore, keeping, behind}
 use Rattle.chunks.proofs.Laws.Texts.{text-kept-back}
 use Rattle.intake.specs.Intake.{lastSaid}
 use Rattle.intake.proofs.Laws.Keeping.{both, awaited-back, kept-back}
-use Rattle.intake.proofs.Laws.Settling.{back-waits, behind-last}
+use Rattle.intake.proofs.Laws.Settling.{behind-last}
+use Rattle.chunks.proofs.Laws.Taking.{turn-waits}
 use borrow.Author.Needs.{needs}
 use Rattle.intake.proofs.keeping.settle_back.Statement.{statement}
 use Rattle.intake.proofs.keeping.settle_back.Tie as tie
@@ -46,8 +47,8 @@ returns c =
           let v = awaited-back t rest o (l .0) (l .1) (l .2) in
           let z = kept-back t rest o (l .0) (l .1) (l .2) in
           record {
-            taken = rw (c .settled .ensures, c .before .keeping .ensures, back-waits e (f .session .phase) (m .turn), y, v, z) (sym (ap (behind (f .count) (lastSaid (f .last)) w) (text-kept-back e s b t (m .turn) rest) ∙ behind-last (f .count) (lastSaid (f .last)) w 0 (keeping s start rest t) b));
-            input = rw (c .settled .ensures, c .before .keeping .ensures, back-waits e (f .session .phase) (m .turn), y, v, z);
+            taken = rw (c .settled .ensures, c .before .keeping .ensures, turn-waits e (f .session .phase) (m .turn), y, v, z) (sym (ap (behind (f .count) (lastSaid (f .last)) w) (text-kept-back e s b t (m .turn) rest) ∙ behind-last (f .count) (lastSaid (f .last)) w 0 (keeping s start rest t) b));
+            input = rw (c .settled .ensures, c .before .keeping .ensures, turn-waits e (f .session .phase) (m .turn), y, v, z);
           }),
       (ap (λ r. r .written) (c .settled .ensures), ap (λ r. r .session .name) (c .settled .ensures) ∙ ap (λ s. s .name) (c .before .keeping .ensures)),
     )

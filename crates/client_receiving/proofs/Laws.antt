@@ -1,0 +1,3 @@
+-- What receiving a text goes by.
+pub mod Stanzas
+pub mod Texts

@@ -1,0 +1,184 @@
+-- A text received: behind each of its stanzas what is left comes to what the whole came to.
+use Prim.Native.Nat.{ℕ, _+_, _-_, _≤_, min}
+use mathlib.Core.Path.{_≡_, refl, sym, ap, ap₂, _∙_, subst}
+use mathlib.Core.Bool.{Bool, true, false, _&&_}
+use mathlib.Core.List.{List, [], _++_, append-nil}
+use lib.Dec.{eqb, leb}
+use lib.ListN.{length, take, drop, length-append, length-drop, length-take, take-append-drop}
+use lib.Seq.{length-take-le, take-append-add, drop-append-add, drop-drop}
+use native.Mathlib.Omega.{arith}
+use borrow.Author.Tests.{le-ltb, leb-true}
+use Rattle.refusal.specs.Output.{filled}
+use Rattle.refusal.specs.Pick.{pick}
+use Rattle.refusal.specs.Number.{numberOf}
+use Rattle.refusal.specs.declared.Refusal.{Refusal}
+use Rattle.refusal.specs.declared.Verdict.the-variants.{Refused}
+use Rattle.refusal.proofs.Laws.Booleans.{and-true}
+use Rattle.refusal.proofs.Laws.Lists.{part-rest, put-rest}
+use Rattle.stanza.specs.Automaton.{start}
+use Rattle.stanza.specs.declared.places.Place.the-variants as place
+use Rattle.stanza.specs.Reading.{stanza, refused, readFirst}
+use Rattle.session.specs.declared.words.WordTwo.{WordTwo}
+use Rattle.session.specs.declared.phases.Phase.{Phase}
+use Rattle.session.specs.declared.phases.Phase.the-variants.{One, Two, Awaiting, Ended, Closed}
+use Rattle.session.specs.declared.sessions.Session.{Session as CodeSession}
+use Rattle.session.specs.Session.{Session, sessionOf}
+use Rattle.phase_one.specs.PhaseOne.{BuffersOne}
+use Rattle.conversation.specs.CommandsTwo.{textOfWord}
+use Rattle.conversation.specs.ReceivingTwo.{took, declined, Received, receivedStanza}
+use Rattle.conversation.specs.Kinds.{Buffers, buffersOf}
+use Rattle.conversation.specs.Calls.{receive-two, outcome}
+use Rattle.chunks.specs.Taking.{client, Turn, reads, drops, keeps-back, turnAt, room, awaitedBehind, Last, command, Taken, noMore, emptied, keeping, oneMore, behind, takenText}
+use Rattle.chunks.specs.Chunks.{isHeld}
+use Rattle.chunks.specs.Uncut.{isWaiting}
+use Rattle.chunks.proofs.Laws.Cases.{drops-not-reads, keeps-not-reads, keeps-not-drops}
+use Rattle.chunks.proofs.Laws.Texts.{stanzaTaken, text-kept-back, text-stanza, behind-more}
+use Rattle.intake.specs.Intake.{intakeOf, lastSaid, takenSaid, storedIn}
+use Rattle.intake.specs.Settling.{MaySettle, Says}
+use Rattle.intake.specs.declared.answers.Last.{Last as CodeLast}
+use Rattle.intake.specs.declared.answers.Received.{Received as CodeReceived}
+use Rattle.client_room.specs.Stanzas.{nextIn}
+use Rattle.client_room.proofs.Laws.Stanzas.{lineOf, bodyBehind, reads-two}
+use Rattle.client_room.proofs.Laws.Room.{next-turn, next-first}
+use Rattle.client_receiving.specs.Texts.{lent, behindAnswer, Answers}
+use Rattle.client_receiving.proofs.Laws.Stanzas.{TookOn, Declined, took-on, declined-is}
+
+-- ---- what waits
+
+-- nothing waits where no text does
+pub none-awaited : (p : Phase) → awaitedBehind client p [] ≡ []
+none-awaited One = refl
+none-awaited Two = refl
+none-awaited (Awaiting w) = refl
+none-awaited Ended = refl
+none-awaited Closed = refl
+
+awaited-short : (p : Phase) (a : List ℕ) → length (awaitedBehind client p a) ≤ length a
+awaited-short One a = omega arith
+awaited-short Two a = omega arith
+awaited-short (Awaiting w) a = omega arith
+awaited-short Ended a = omega arith
+awaited-short Closed a = omega arith
+
+awaited-none : (p : Phase) (a : List ℕ) → (turnAt client p ≡ keeps-back → ⊥) → awaitedBehind client p a ≡ []
+awaited-none One a h = refl
+awaited-none Two a h = refl
+awaited-none (Awaiting w) a h = absurd (h refl)
+awaited-none Ended a h = refl
+awaited-none Closed a h = refl
+
+-- ---- what is left may be settled
+
+no-stanza-next : (u : Turn) (x : List ℕ) (n : ℕ) → refused n ≡ nextIn u x → u ≡ reads → (l m k : ℕ) → readFirst x ≡ stanza l m k → ⊥
+no-stanza-next u x n h t l m k e =
+    let y : refused n ≡ stanza l m k = h ∙ ap (λ u. nextIn u x) t ∙ e in
+    let z : _≡_ {A = ℕ} 0 1 = cc in
+    omega arith
+
+pub may-settle : (p : Phase) (u : Turn) (a rest input : List ℕ) (n : ℕ) → u ≡ turnAt client p → refused n ≡ nextIn (turnAt client p) rest → length a ≤ 8192 →
+    16384 ≤ length input → (turnAt client p ≡ keeps-back → length rest ≤ 8192) → MaySettle client p u (awaitedBehind client p a) rest input
+may-settle p u a rest input n t h l i k = record {
+  turn = sym t;
+  none-waits = λ z. awaited-none p a (λ y. z (t ∙ y));
+  no-stanza = λ y. no-stanza-next (turnAt client p) rest n h (sym t ∙ y);
+  short = λ y. (omega (arith, awaited-short p a), k (sym t ∙ y), i);
+  long = omega arith;
+}
+
+-- what is kept back has room
+pub back-short : (n : ℕ) (g : Last) (w : List ℕ) (s : Session) (b : Buffers) (a x out : List ℕ) → isHeld (behind n g w (takenText client s b a x)) out ≡ true →
+    turnAt client (s .phase) ≡ keeps-back → length x ≤ 8192
+back-short n g w s b a x out h t =
+    let u = takenText client s b a x in
+    let v = and-true (leb (length (w ++ u .written)) (length out)) (leb (length (u .intake .kept)) 8192) h .1 in
+    omega (arith, leb-true (length (u .intake .kept)) 8192 v, ap (λ u. length (u .intake .kept)) (text-kept-back client s b a t x))
+
+-- ---- an answer by what settling says
+
+module _ (r : CodeReceived) (xs hs : List (List ℕ)) (before after : List ℕ) (b : Buffers) (out₀ out : List ℕ) (w : ℕ) (t t₀ : Taken) where
+  pub answers-says : Says client r xs hs before after (take w out) b t → t₀ ≡ t → r .written ≡ w → w ≤ length out → length out ≡ length out₀ → drop w out ≡ drop w out₀ →
+      Answers r xs hs before after b out₀ out t₀
+  answers-says h e size within long rest = record {
+    says = record { taken = ap (λ v. takenSaid client r xs hs after v b) (sym v) ∙ h .taken ∙ sym e; input = h .input };
+    size = size ∙ sym l ∙ ap length v;
+    output =
+        sym (take-append-drop w out)
+        ∙ ap₂ _++_ v (rest ∙ ap (λ n. drop n out₀) (sym l ∙ ap length v))
+        ∙ sym (ap (λ f. pick f out₀ (t₀ .written ++ drop (length (t₀ .written)) out₀)) (le-ltb (length out₀) (length (t₀ .written)) (omega (arith, l, ap length v))));
+  }
+    where
+      v : take w out ≡ t₀ .written
+      v = ap (λ u. u .written) (h .taken) ∙ sym (ap (λ u. u .written) e)
+
+      l : length (take w out) ≡ w
+      l = length-take-le w out within
+
+-- ---- a refusal
+
+-- a session that keeps nothing
+pub emptied-is : (s : CodeSession) (xs hs : List (List ℕ)) (input : List ℕ) →
+    intakeOf client (record { machine = s .machine; phase = s .phase; screen = s .screen; name = s .name; tables = s .tables; reading = place.Start; kept = 0; awaited = 0 }) xs hs input
+    ≡ emptied (sessionOf s xs hs) []
+emptied-is s xs hs input = go (isWaiting client (s .phase))
+  where
+    go : (f : Bool) → keeping (sessionOf s xs hs) start (take (min 0 (pick f 8192 8191)) (drop (pick f (min 0 8192) 0) input)) (take (pick f (min 0 8192) 0) input) ≡ emptied (sessionOf s xs hs) []
+    go true = refl
+    go false = refl
+
+stored-none : (input : List ℕ) → filled [] input ≡ input
+stored-none input = ap (λ f. pick f input input) (le-ltb (length input) 0 (omega arith))
+
+-- what a refusal says behind what was taken
+pub stop-says : (n : ℕ) (count : ℕ) (last : CodeLast) (written : ℕ) (r : Refusal) (s : CodeSession) (xs hs : List (List ℕ)) (input w : List ℕ) (b : Buffers) →
+    Says client
+    (record {
+      verdict = Refused r;
+      count = count;
+      last = last;
+      written = written;
+      session = record { machine = s .machine; phase = s .phase; screen = s .screen; name = s .name; tables = s .tables; reading = place.Start; kept = 0; awaited = 0 };
+    })
+    xs hs input input w b (behind count (lastSaid last) w (noMore (numberOf r) (emptied (sessionOf s xs hs) []) b))
+stop-says n count last written r s xs hs input w b = record {
+  taken =
+      ap₂ (λ i v. record { number = numberOf r; count = count; last = lastSaid last; written = v; intake = i; buffers = b }) (emptied-is s xs hs input) (sym (append-nil w))
+      ∙ ap (λ c. record { number = numberOf r; count = c; last = lastSaid last; written = w ++ []; intake = emptied (sessionOf s xs hs) []; buffers = b }) (omega arith);
+  input = sym (ap (λ i. storedIn i input) (emptied-is s xs hs input) ∙ stored-none input);
+}
+
+-- ---- one stanza more
+
+module _ (n : ℕ) (g : Last) (wr : ℕ) (out : List ℕ) (fit : wr ≤ length out) where
+  abbrev part : List ℕ
+  part = take (length out - wr) (drop wr out)
+
+  -- the output buffer behind it
+  abbrev put : List ℕ → List ℕ
+  put o = take wr out ++ (o ++ drop (length out - wr) (drop wr out))
+
+  part-long : length part ≡ length out - wr
+  part-long = ap length (part-rest wr out) ∙ length-drop wr out
+
+  front-long : length (take wr out) ≡ wr
+  front-long = length-take-le wr out fit
+
+  pub on-same : (u v : Taken) (g′ : Last) (o : List ℕ) (j : ℕ) → u ≡ oneMore g′ (take j o) v →
+      behind n g (take wr out) u ≡ behind (n + 1) g′ (take (wr + j) (put o)) v
+  on-same u v g′ o j e =
+      ap (behind n g (take wr out)) e ∙ behind-more n g g′ (take wr out) (take j o) v
+      ∙ ap (λ w. behind (n + 1) g′ w v) (sym (ap (take (wr + j)) (put-rest wr out o) ∙ ap (λ i. take (i + j) (take wr out ++ o)) (sym front-long) ∙ take-append-add (take wr out) o j))
+
+  pub on-size : (o : List ℕ) → length o ≡ length part → length (put o) ≡ length out
+  on-size o l = omega (arith, ap length (put-rest wr out o), length-append (take wr out) o, front-long, part-long)
+
+  pub on-rest : (o : List ℕ) (j : ℕ) → drop j o ≡ drop j part → drop (wr + j) (put o) ≡ drop (wr + j) out
+  on-rest o j e =
+      ap (drop (wr + j)) (put-rest wr out o) ∙ ap (λ i. drop (i + j) (take wr out ++ o)) (sym front-long) ∙ drop-append-add (take wr out) o j
+      ∙ e ∙ ap (drop j) (part-rest wr out) ∙ drop-drop j wr out
+
+  pub on-within : (j : ℕ) → j ≤ length part → wr + j ≤ length out
+  on-within j l = omega (arith, part-long)
+
+  -- where nothing was written
+  pub put-same : (o : List ℕ) → o ≡ part → put o ≡ out
+  put-same o e = put-rest wr out o ∙ ap (λ o. take wr out ++ o) (e ∙ part-rest wr out) ∙ take-append-drop wr out

@@ -1,0 +1,17 @@
+use borrow.Author.Needs.{needs}
+use Rattle.client_receiving.proofs.texts.stop.Statement.{statement}
+use Rattle.client_receiving.proofs.texts.stop.Tie as tie
+use Rattle.client_receiving.proofs.texts.stop.Reads as reads
+use Rattle.client_receiving.proofs.texts.stop.Lts as lts
+use Rattle.session.proofs.sessions.Session.keeping.Reads as keeping-reads
+
+-- src/texts.rt:86:18
+keeping-requires : tie.Need-keeping-requires
+keeping-requires c κs = search needs
+
+-- src/texts.rt:62:1
+returns : tie.Need-returns
+returns c = ?
+
+pub stop-spec : {M : Type 1} → statement M
+stop-spec = tie.close (tie.spec keeping-requires returns)
