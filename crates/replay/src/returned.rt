@@ -114,7 +114,7 @@ fn print_file(
 fn print_stanza(file: usize, k: usize, payload: &[u8], out: &mut Output, at: usize) -> usize {
     let mut text = [0u8; 20];
     let n = io::decimal(k as u64, &mut text);
-    print_entry(b"stanza", file, front(&text, n), payload, b"", out, at)
+    print_entry(b"stanza", file, &text[..n], payload, b"", out, at)
 }
 
 // The key of each file; the files are those that header stanzas name, whose numbers never fall.

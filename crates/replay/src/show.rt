@@ -64,7 +64,7 @@ pub fn look<'a>(
         Look::Awaited => {
             Answer::Printed(printing::print_word(
                 b"ok",
-                awaited::text(host.session, input),
+                awaited::awaited_text(host.session, input),
                 out,
                 at,
             ))
@@ -216,19 +216,14 @@ fn print_slot(
     out: &mut Output,
     at: usize,
 ) -> usize {
-    let mut text = [0u8; 20];
-    let k = put_index(kind, e.index, &mut text);
     let mark = stanza::argument(&MARKS, mark_number(kind, e.mark));
     let head = stanza::argument(&KINDS, kind);
-    print_entry(head, n, front(&text, k), payload, mark, out, at)
-}
-
-// The index of a header stanza in decimal: how many bytes, none for another kind.
-fn put_index(kind: usize, index: usize, text: &mut [u8; 20]) -> usize {
-    if kind == HEADER {
-        return io::decimal(index as u64, text);
+    if kind != HEADER {
+        return print_entry(head, n, b"", payload, mark, out, at);
     }
-    0
+    let mut text = [0u8; 20];
+    let k = io::decimal(e.index as u64, &mut text);
+    print_entry(head, n, &text[..k], payload, mark, out, at)
 }
 
 // The number of a mark's word: a recipient or an identity is valid where its mark is 0; a header stanza's mark is 0, 1 or 2; a file key's is no word.

@@ -130,7 +130,7 @@ command-phase s b x (refused n) first = either (λ (s : Session). isWaiting clie
 module _ (r : CodeReceived) (xs hs xs′ hs′ : List (List ℕ)) (b b′ : BuffersOne) (x : List ℕ) (answer : CodeTaking) (after : CodeSession)
     (first : r .session .phase ≡ One)
     (is : record { answer = takingSaid answer; session = sessionOf after xs′ hs′; buffers = b′ } ≡
-        receivedAs (readFirst x) (sessionOf (r .session) xs hs) x b) where
+    receivedAs (readFirst x) (sessionOf (r .session) xs hs) x b) where
   comes-on : (c : BuffersTwo) (t rest : List ℕ) →
       behind (r .count) (lastSaid (r .last)) [] (callTaken (sessionOf (r .session) xs hs) b c x first _ is t rest) ≡
       comesTo (answerBehind r answer after) xs′ hs′ (buffersOf b′ c) rest
@@ -221,7 +221,7 @@ module _ (r : CodeReceived) (text : List ℕ) (at : ℕ) (in-text : at ≤ lengt
 
   pub advanced : (r′ : CodeReceived) (xs hs xs′ hs′ : List (List ℕ)) (b b′ : BuffersOne) (answer : CodeTaking) (after : CodeSession) →
       record { answer = takingSaid answer; session = sessionOf after xs′ hs′; buffers = b′ } ≡
-          receivedStanza (sessionOf (r .session) xs hs) b (argumentsIn x s) (bodyIn x s) (s .taken) →
+      receivedStanza (sessionOf (r .session) xs hs) b (argumentsIn x s) (bodyIn x s) (s .taken) →
       r′ ≡ answerBehind r answer after → Advanced r r′ xs hs xs′ hs′ b b′ text at (s .taken) after
   advanced r′ xs hs xs′ hs′ b b′ answer after is e =
       let f = next-stanza (verdictSaid (r .verdict)) (r .session .phase) (readFirst x) (s .line) (s .body) (s .taken) found in
@@ -387,7 +387,7 @@ fronted s xs hs xs′ hs′ b b′ input chunk k r answer after long first h tex
           let turn : turnAt plugin (s .phase) ≡ reads = ap (turnAt plugin) first in
           let d = chunk-ends s xs hs input long turn chunk k h (buffersOf b c) in
           let whole-taken : taken plugin (intakeOf plugin s xs hs input) (buffersOf b c) chunk ≡ callTaken (sessionOf s xs hs) b c text first _ is text (drop k chunk) =
-              d ∙ ap (λ t. stanzaTaken plugin (buffersOf b c) (outcome (sessionOf s xs hs) (buffersOf b c) (stanzaCall plugin (s .phase) t)) t (drop k chunk)) (sym at) in
+          d ∙ ap (λ t. stanzaTaken plugin (buffersOf b c) (outcome (sessionOf s xs hs) (buffersOf b c) (stanzaCall plugin (s .phase) t)) t (drop k chunk)) (sym at) in
           sym (z .comes c text (drop k chunk))
           ∙ ap (behind 0 no-stanza []) (sym whole-taken)
           ∙ behind-none plugin (sessionOf s xs hs) (buffersOf b c) [] _ _;
