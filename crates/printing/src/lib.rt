@@ -5,7 +5,6 @@ mod rows;
 
 pub use page::put;
 pub use page::put_number;
-pub use page::put_word;
 pub use rows::print_number;
 pub use rows::print_row;
 pub use rows::print_word;

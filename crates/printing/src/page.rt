@@ -51,7 +51,7 @@ pub fn put_number(n: u64, out: &mut [u8], at: usize) -> usize
 }
 
 // A space and a byte string as a word.
-pub fn put_word(bytes: &[u8], out: &mut [u8], at: usize) -> usize
+pub(crate) fn put_word(bytes: &[u8], out: &mut [u8], at: usize) -> usize
     ensures { λ r. ⌜ page r (now (out .exit)) ≡ putWord (now (bytes .entry)) (page at (now (out .entry))) ⌝ }
 {
     let next = put(b" ", out, at);

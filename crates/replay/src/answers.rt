@@ -1,6 +1,11 @@
 // What a line came to, and the line that is printed for it.
 use crate::parts::front;
 use crate::print::Output;
+use crate::print::print_bytes;
+use crate::print::print_number;
+use crate::print::print_row;
+use crate::print::print_word;
+use crate::print::put_number;
 use intake::Last;
 use intake::Received;
 use judging::Judged;
@@ -136,18 +141,13 @@ pub fn print_answer(
     }
     match answer {
         Answer::Printed(next) => next,
-        Answer::Bad => printing::print_number(b"bad line", number, out, at),
-        Answer::Missing => printing::put(b"none\n", out, at),
-        Answer::Refused(r) => printing::print_number(
-            b"refused",
-            refusal::number(r) as u64,
-            out,
-            at,
-        ),
-        Answer::Accepted => printing::put(b"ok\n", out, at),
-        Answer::Finding(k) => printing::print_word(b"ok", stanza::argument(&FINDINGS, k), out, at),
-        Answer::Number(n) => printing::print_number(b"ok", n, out, at),
-        Answer::Text(n) => printing::print_word(b"ok", front(buffer, n), out, at),
+        Answer::Bad => print_number(b"bad line", number, out, at),
+        Answer::Missing => print_bytes(b"none\n", out, at),
+        Answer::Refused(r) => print_number(b"refused", refusal::number(r) as u64, out, at),
+        Answer::Accepted => print_bytes(b"ok\n", out, at),
+        Answer::Finding(k) => print_word(b"ok", stanza::argument(&FINDINGS, k), out, at),
+        Answer::Number(n) => print_number(b"ok", n, out, at),
+        Answer::Text(n) => print_word(b"ok", front(buffer, n), out, at),
         Answer::Received(r, count, last, n) => {
             print_received(r, count, last, front(buffer, n), out, at)
         }
@@ -161,24 +161,22 @@ fn print_received(
     count: usize,
     last: usize,
     bytes: &[u8],
-    out: &mut [u8],
+    out: &mut Output,
     at: usize,
 ) -> usize {
     let word = stanza::argument(&NAMES, last);
     if refused == 0 {
-        return printing::print_row(b"ok", count as u64, word, bytes, b"", out, at);
+        return print_row(b"ok", count, word, bytes, b"", out, at);
     }
-    let a = printing::put(b"refused", out, at);
-    let b = printing::put_number(refused as u64, out, a);
-    printing::print_row(b"", count as u64, word, bytes, b"", out, b)
+    let next = put_number(b"refused", refused as usize, out, at);
+    print_row(b"", count, word, bytes, b"", out, next)
 }
 
 // The judging program's verdict.
-fn print_judged(judged: Judged, out: &mut [u8], at: usize) -> usize {
-    let a = printing::put(b"ok", out, at);
-    let b = printing::put_number(judged.recipients as u64, out, a);
-    let c = printing::put_number(judged.identities as u64, out, b);
-    let d = printing::put_number(judged.keys as u64, out, c);
-    let e = printing::put_number(judged.headers as u64, out, d);
-    printing::print_number(b"", judged.answer as u64, out, e)
+fn print_judged(judged: Judged, out: &mut Output, at: usize) -> usize {
+    let a = put_number(b"ok", judged.recipients, out, at);
+    let b = put_number(b"", judged.identities, out, a);
+    let c = put_number(b"", judged.keys, out, b);
+    let d = put_number(b"", judged.headers, out, c);
+    print_number(b"", judged.answer as u64, out, d)
 }

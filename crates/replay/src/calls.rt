@@ -9,6 +9,9 @@ use crate::parts::LONGEST;
 use crate::parts::cut;
 use crate::parts::front;
 use crate::print::Output;
+use crate::print::print_bytes;
+use crate::print::print_row;
+use crate::print::print_word;
 use crate::requests::Request;
 use crate::words::Words;
 use crate::words::last_word;
@@ -120,15 +123,7 @@ fn print_stanza(
     match body {
         Written::Bytes(n) => {
             let line = stanza::arguments_of(text, s);
-            Answer::Printed(printing::print_row(
-                b"ok",
-                s.taken as u64,
-                line,
-                front(buffer, n),
-                b"",
-                out,
-                at,
-            ))
+            Answer::Printed(print_row(b"ok", s.taken, line, front(buffer, n), b"", out, at))
         }
         Written::Refused(r) => Answer::Refused(r),
     }
@@ -218,9 +213,9 @@ fn print_reading(reading: ReadText, buffer: &[u8], out: &mut Output, at: usize) 
     let bytes = name.bytes;
     match answer {
         Written::Bytes(n) => {
-            let a = printing::put(b"ok", out, at);
-            let b = printing::put_word(front(&bytes, name.length), out, a);
-            Answer::Printed(printing::print_word(b"", front(buffer, n), out, b))
+            let next = print_bytes(b"ok ", out, at);
+            let a = print_bytes(front(&bytes, name.length), out, next);
+            Answer::Printed(print_word(b"", front(buffer, n), out, a))
         }
         Written::Refused(r) => Answer::Refused(r),
     }

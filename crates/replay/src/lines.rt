@@ -5,7 +5,6 @@ use crate::parts::front;
 use crate::parts::part;
 use crate::print::Output;
 use crate::print::flush;
-use crate::print::make_space;
 use libc::STDERR_FILENO;
 use libc::STDIN_FILENO;
 
@@ -41,8 +40,7 @@ pub fn start() -> State {
 pub fn advance(chunk: &mut Buffer, line: &mut Line, out: &Output, s: State) -> State {
     let kept = kept_length(s.ended, s.length);
     if s.from < s.to {
-        let at = make_space(out, s.at);
-        return take_piece(front(chunk, s.to), line, kept, at, s);
+        return take_piece(front(chunk, s.to), line, kept, s);
     }
     flush(out, s.at);
     let n = read_some(chunk);
@@ -55,7 +53,7 @@ fn kept_length(ended: bool, length: usize) -> usize {
 }
 
 // The bytes of a chunk up to the next LF, or all that are left.
-fn take_piece(chunk: &[u8], line: &mut [u8], kept: usize, at: usize, s: State) -> State {
+fn take_piece(chunk: &[u8], line: &mut [u8], kept: usize, s: State) -> State {
     let end = script::find_lf(chunk, s.from);
     let length = append(part(chunk, s.from, end), line, kept);
     if end < chunk.len() {
@@ -66,7 +64,7 @@ fn take_piece(chunk: &[u8], line: &mut [u8], kept: usize, at: usize, s: State) -
             length: length,
             ended: true,
             lines: std::num::wrapping_add_u64(s.lines, 1),
-            at: at,
+            at: s.at,
         };
     }
     State {
@@ -76,7 +74,7 @@ fn take_piece(chunk: &[u8], line: &mut [u8], kept: usize, at: usize, s: State) -
         length: length,
         ended: false,
         lines: s.lines,
-        at: at,
+        at: s.at,
     }
 }
 

@@ -1,9 +1,9 @@
-// The output buffer, of which the first `at` bytes are in use, written to standard output before a line might not fit behind them.
+// The output buffer, of which the first `at` bytes are in use, written to standard output before a piece might not fit behind them.
 use crate::parts::front;
 use libc::STDERR_FILENO;
 use libc::STDOUT_FILENO;
 
-// The longest line, a payload of 65,536 bytes with four for each, fits behind the bytes that may be in use when it is begun.
+// The longest piece, 65,536 bytes with four for each, fits behind the bytes that may be in use when its line is begun.
 pub type Output = [u8; 524288];
 
 const MOST_USED: usize = 131072;
@@ -15,8 +15,8 @@ pub fn flush(out: &[u8], at: usize) {
     }
 }
 
-// Where the next line goes.
-pub fn make_space(out: &[u8], at: usize) -> usize {
+// Where the next piece goes.
+fn make_space(out: &[u8], at: usize) -> usize {
     if at <= MOST_USED {
         return at;
     }
@@ -24,8 +24,26 @@ pub fn make_space(out: &[u8], at: usize) -> usize {
     0
 }
 
-// The line of an entry of a table.
-pub fn print_entry(
+// Some bytes as they are.
+pub fn print_bytes(bytes: &[u8], out: &mut Output, at: usize) -> usize {
+    let from = make_space(out, at);
+    printing::put(bytes, out, from)
+}
+
+// Some bytes, and a number at the end of the line.
+pub fn print_number(head: &[u8], n: u64, out: &mut Output, at: usize) -> usize {
+    let from = make_space(out, at);
+    printing::print_number(head, n, out, from)
+}
+
+// Some bytes, and a word at the end of the line.
+pub fn print_word(head: &[u8], word: &[u8], out: &mut Output, at: usize) -> usize {
+    let from = make_space(out, at);
+    printing::print_word(head, word, out, from)
+}
+
+// A line that begins with some bytes and a number, as that of an entry of a table.
+pub fn print_row(
     head: &[u8],
     n: usize,
     second: &[u8],
@@ -36,4 +54,10 @@ pub fn print_entry(
 ) -> usize {
     let from = make_space(out, at);
     printing::print_row(head, n as u64, second, payload, tail, out, from)
+}
+
+// Some bytes, a space and a number.
+pub fn put_number(head: &[u8], n: usize, out: &mut [u8], at: usize) -> usize {
+    let next = printing::put(head, out, at);
+    printing::put_number(n as u64, out, next)
 }

@@ -1,9 +1,11 @@
 // What `show` prints of phase two, by the library's look-ups: the errors, and the stanzas and keys that were returned, file by file.
 use crate::host::HeaderSlots;
 use crate::host::Slots;
+use crate::parts::append;
 use crate::parts::front;
 use crate::print::Output;
-use crate::print::print_entry;
+use crate::print::print_row;
+use crate::print::put_number;
 use look_up::ErrorNamed;
 use session::Kind;
 use session::Session;
@@ -43,27 +45,20 @@ pub fn print_errors(
 fn print_error(n: usize, named: ErrorNamed, message: &[u8], out: &mut Output, at: usize) -> usize {
     let mut what = [0u8; 64];
     let k = put_named(named, &mut what);
-    print_entry(b"error", n, front(&what, k), message, b"", out, at)
+    print_row(b"error", n, front(&what, k), message, b"", out, at)
 }
 
 // What an error names, as one word: its kind, the file of a header stanza, and the index.
 fn put_named(named: ErrorNamed, what: &mut [u8]) -> usize {
     match named {
-        ErrorNamed::Internal => printing::put(b"internal", what, 0),
-        ErrorNamed::Identity(i) => {
-            let next = printing::put(b"identity", what, 0);
-            printing::put_number(i as u64, what, next)
-        }
-        ErrorNamed::Recipient(i) => {
-            let next = printing::put(b"recipient", what, 0);
-            printing::put_number(i as u64, what, next)
-        }
+        ErrorNamed::Internal => append(b"internal", what, 0),
+        ErrorNamed::Identity(i) => put_number(b"identity", i, what, 0),
+        ErrorNamed::Recipient(i) => put_number(b"recipient", i, what, 0),
         ErrorNamed::Header(file, i) => {
-            let a = printing::put(b"stanza", what, 0);
-            let b = printing::put_number(file as u64, what, a);
-            printing::put_number(i as u64, what, b)
+            let next = put_number(b"stanza", file, what, 0);
+            put_number(b"", i, what, next)
         }
-        ErrorNamed::Nothing => printing::put(b"-", what, 0),
+        ErrorNamed::Nothing => append(b"-", what, 0),
     }
 }
 
@@ -114,7 +109,7 @@ fn print_file(
 fn print_stanza(file: usize, k: usize, payload: &[u8], out: &mut Output, at: usize) -> usize {
     let mut text = [0u8; 20];
     let n = io::decimal(k as u64, &mut text);
-    print_entry(b"stanza", file, &text[..n], payload, b"", out, at)
+    print_row(b"stanza", file, &text[..n], payload, b"", out, at)
 }
 
 // The key of each file; the files are those that header stanzas name, whose numbers never fall.
@@ -154,7 +149,7 @@ fn print_key(
 ) -> usize {
     if due & look_up::has_key(tables, file, slots) {
         let payload = look_up::key_of(tables, file, slots, returned);
-        return print_entry(b"key", file, b"", payload, b"", out, at);
+        return print_row(b"key", file, b"", payload, b"", out, at);
     }
     at
 }

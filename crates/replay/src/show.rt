@@ -14,7 +14,9 @@ use crate::parts::front;
 use crate::parts::least;
 use crate::parts::rear;
 use crate::print::Output;
-use crate::print::print_entry;
+use crate::print::print_bytes;
+use crate::print::print_row;
+use crate::print::print_word;
 use crate::requests::Look;
 use crate::returned::print_errors;
 use crate::returned::print_keys;
@@ -62,12 +64,7 @@ pub fn look<'a>(
             Answer::Printed(look_up_entry(kind, n, host, slots, recipients, identities, out, at))
         }
         Look::Awaited => {
-            Answer::Printed(printing::print_word(
-                b"ok",
-                awaited::awaited_text(host.session, input),
-                out,
-                at,
-            ))
+            Answer::Printed(print_word(b"ok", awaited::awaited_text(host.session, input), out, at))
         }
         Look::Show => Answer::Printed(show(
             host,
@@ -100,7 +97,7 @@ fn look_up_entry<'a>(
     let session = host.session;
     let r = front(recipients, lengths.recipients);
     let i = front(identities, lengths.identities);
-    printing::print_word(
+    print_word(
         b"ok",
         look_up::entry(session.tables, kind, n, slots, r, i),
         out,
@@ -148,15 +145,15 @@ fn show(
     let l = print_errors(tables, slots, header_slots, e, out, j);
     let m = print_stanzas(tables, slots, s, out, l);
     let n = print_keys(tables, slots, header_slots, f, out, m);
-    printing::put(b"end\n", out, n)
+    print_bytes(b"end\n", out, n)
 }
 
 // The lines of the phase, and of the command that awaits an answer.
-fn print_phase(phase: Phase, out: &mut [u8], at: usize) -> usize {
+fn print_phase(phase: Phase, out: &mut Output, at: usize) -> usize {
     let word = stanza::argument(&PHASES, phase_number(phase));
-    let next = printing::print_word(b"phase", word, out, at);
+    let next = print_word(b"phase", word, out, at);
     let waiting = stanza::argument(&NAMES, number_awaited(phase));
-    printing::print_word(b"awaits", waiting, out, next)
+    print_word(b"awaits", waiting, out, next)
 }
 
 // The number of the word of the command that awaits an answer.
@@ -219,11 +216,11 @@ fn print_slot(
     let mark = stanza::argument(&MARKS, mark_number(kind, e.mark));
     let head = stanza::argument(&KINDS, kind);
     if kind != HEADER {
-        return print_entry(head, n, b"", payload, mark, out, at);
+        return print_row(head, n, b"", payload, mark, out, at);
     }
     let mut text = [0u8; 20];
     let k = io::decimal(e.index as u64, &mut text);
-    print_entry(head, n, &text[..k], payload, mark, out, at)
+    print_row(head, n, &text[..k], payload, mark, out, at)
 }
 
 // The number of a mark's word: a recipient or an identity is valid where its mark is 0; a header stanza's mark is 0, 1 or 2; a file key's is no word.
