@@ -32,7 +32,8 @@ use session::Session;
 use turns::make_call;
 use words::read_line;
 
-// The last four arrays are the stores of the session's buffers, two in each.
+// The last four arrays are the stores of the session's buffers: recipients and errors, identities and returned stanzas, file keys and returned
+// keys, and header stanzas alone.
 fn main() {
     let mut chunk = io::large_buffer();
     let mut line = [0u8; 65537];

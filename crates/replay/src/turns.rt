@@ -30,7 +30,7 @@ use intake::Received;
 use refusal::Written;
 use session::Session;
 
-// Makes the call of a line.
+// Makes the call of a line. Each store has the name of its first buffer.
 pub fn make_call(
     w: Words,
     text: &[u8],

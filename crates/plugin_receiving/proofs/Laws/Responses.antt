@@ -216,30 +216,30 @@ module _ (s : Session) (b : Buffers) (i : Intake) (bytes t rest out : List ℕ)
       let said-is : said b i (length rest) v after (x .answer) ≡ outcome s b (respond t out) = ap (respondedOutcome b) e in
       cases (eqb (inRoom .number) 0)
       (λ f.
-          let z = eqb-true (inRoom .number) 0 f in
-          cases (leb (inRoom .size) (length out))
-          (λ g.
-              let l = leb-true (inRoom .size) (length out) g in
-              settled-took b i (length rest) v after (x .answer) _ (said-is ∙ response-fits s b t out z l) z
-              ∙ ap (λ n. record {
-                number = pick (eqb (length rest) 0) 0 14;
-                count = 1;
-                last = lastIn (inRoom .given);
-                size = n;
-                intake = emptied (inRoom .session) [];
-                buffers = b;
-                output = filled (w z) out;
-              }) (sym (written-size z))
-              ∙ sym (ap (judged i b out) (one-taken z) ∙ judged-held i b out (more z (w z)) (omega (arith, written-size z)) (omega arith)))
-          (λ g.
-              let l = leb-false (inRoom .size) (length out) g in
-              settled-short b i (length rest) v after (x .answer) _ (said-is ∙ response-overflows s b t out z l) refl
-              ∙ sym (ap (judged i b out) (one-taken z) ∙ judged-overflows i b out (more z (w z)) (omega (arith, written-size z)))))
+      let z = eqb-true (inRoom .number) 0 f in
+      cases (leb (inRoom .size) (length out))
+      (λ g.
+      let l = leb-true (inRoom .size) (length out) g in
+      settled-took b i (length rest) v after (x .answer) _ (said-is ∙ response-fits s b t out z l) z
+      ∙ ap (λ n. record {
+        number = pick (eqb (length rest) 0) 0 14;
+        count = 1;
+        last = lastIn (inRoom .given);
+        size = n;
+        intake = emptied (inRoom .session) [];
+        buffers = b;
+        output = filled (w z) out;
+      }) (sym (written-size z))
+      ∙ sym (ap (judged i b out) (one-taken z) ∙ judged-held i b out (more z (w z)) (omega (arith, written-size z)) (omega arith)))
+      (λ g.
+      let l = leb-false (inRoom .size) (length out) g in
+      settled-short b i (length rest) v after (x .answer) _ (said-is ∙ response-overflows s b t out z l) refl
+      ∙ sym (ap (judged i b out) (one-taken z) ∙ judged-overflows i b out (more z (w z)) (omega (arith, written-size z)))))
       (λ f.
-          let z = eqb-false (inRoom .number) 0 f in
-          settled-refused b i (length rest) v after (x .answer) _ (said-is ∙ response-declined s b t out z) z
-          (λ h. taken-not-short plugin i b bytes (ap (λ (t : Taken). t .number) (none-taken z) ∙ h))
-          ∙ sym (ap (judged i b out) (none-taken z) ∙ judged-silent i b out (noMore (inRoom .number) (emptied (inRoom .session) []) b) refl (omega arith)))
+      let z = eqb-false (inRoom .number) 0 f in
+      settled-refused b i (length rest) v after (x .answer) _ (said-is ∙ response-declined s b t out z) z
+      (λ h. taken-not-short plugin i b bytes (ap (λ (t : Taken). t .number) (none-taken z) ∙ h))
+      ∙ sym (ap (judged i b out) (none-taken z) ∙ judged-silent i b out (noMore (inRoom .number) (emptied (inRoom .session) []) b) refl (omega arith)))
 
 -- an answer that says what was taken, and wrote nothing
 pub says-judged : (r : CodeReceived) (xs hs : List (List ℕ)) (before after out : List ℕ) (b : Buffers) (i : Intake) (t : Taken) →
