@@ -1,5 +1,5 @@
 use mathlib.Core.Path.{subst}
-use mathlib.Core.List.{[]}
+use mathlib.Core.List.{[], _++_}
 use lib.ListN.{take}
 use Rattle.refusal.specs.Number.{numberOf}
 use Rattle.stanza.specs.Reading.{readSaid}
@@ -218,7 +218,7 @@ returns-2 c =
     let h = sym (ap readSaid (c .before .before .before .before .before .before .before .before .before .before .before .before .before .before .before .before .before .before .before .before .before .before .first .given .1)) ∙ c .before .before .before .before .before .before .before .before .before .before .before .before .before .before .before .before .before .before .before .before .before .before .before .before .next-stanza .ensures in
     let y = c .before .before .before .before .before .before .before .before .before .before .before .before .before .receive-stanza in (
       (λ b.
-          subst (λ i. Answers (c .stop .result) (y .last .1 .1 .1 .0) (now (a .header-slots)) i (q .input) (lent b (y .last .1 .1 .1 .1 .1 .0) (y .last .1 .1 .1 .1 .1 .1 .0) (y .last .1 .1 .1 .1 .1 .1 .1 .0)) (now (a .out)) _
+          subst (λ i. Answers (c .stop .result) (y .last .1 .1 .1 .0) (now (a .header-slots)) i (q .input) (lent b (y .last .1 .1 .1 .1 .1 .0) (y .last .1 .1 .1 .1 .1 .1 .0) (y .last .1 .1 .1 .1 .1 .1 .1 .0)) (now (a .out)) (take (q .done .written) (q .out) ++ (y .last .1 .1 .1 .1 .1 .1 .1 .1 .0 ++ drop (length (q .out) - q .done .written) (drop (q .done .written) (q .out))))
           (behindAnswer (a .so-far) (now (a .slots)) (now (a .header-slots)) (lent b (now (a .errors)) (now (a .stanzas)) (now (a .returned))) [] (now (a .text)) (now (a .out)))) (q .inv .0)
           (going-refused (a .so-far) (now (a .slots)) (now (a .header-slots)) (now (a .errors)) (now (a .stanzas)) (now (a .returned)) (now (a .text)) (now (a .out)) (q .done) (q .slots) (q .errors) (q .stanzas) (q .returned) (q .out) (q .begun) (q .at) (q .inv .1) held (x .line) (x .body) (x .taken) h (y .result) (y .last .1 .1 .1 .0) (y .last .1 .1 .1 .1 .1 .0) (y .last .1 .1 .1 .1 .1 .1 .0) (y .last .1 .1 .1 .1 .1 .1 .1 .0) (y .last .1 .1 .1 .1 .1 .1 .1 .1 .0) (y .ensures .0) b (c .before .before .answer .given .0 .0) (c .stop .result) (q .input) (ap takingSaid (c .before .before .answer .given .1)) (c .stop .ensures))),
       ap (λ r. r .session .name) (c .stop .ensures) ∙ ap (λ s. s .name) (y .ensures .1) ∙ q .inv .1 .name,
