@@ -1,3 +1,4 @@
 -- What receiving a text goes by.
 pub mod Stanzas
 pub mod Texts
+pub mod Front

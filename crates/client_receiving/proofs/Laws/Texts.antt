@@ -66,7 +66,7 @@ awaited-short (Awaiting w) a = omega arith
 awaited-short Ended a = omega arith
 awaited-short Closed a = omega arith
 
-awaited-none : (p : Phase) (a : List ℕ) → (turnAt client p ≡ keeps-back → ⊥) → awaitedBehind client p a ≡ []
+pub awaited-none : (p : Phase) (a : List ℕ) → (turnAt client p ≡ keeps-back → ⊥) → awaitedBehind client p a ≡ []
 awaited-none One a h = refl
 awaited-none Two a h = refl
 awaited-none (Awaiting w) a h = absurd (h refl)
@@ -192,7 +192,7 @@ module _ (n : ℕ) (g : Last) (wr : ℕ) (out : List ℕ) (fit : wr ≤ length o
 -- ---- the loop's invariant
 
 -- phase one's buffers do not matter
-none-lent : BuffersOne
+pub none-lent : BuffersOne
 none-lent = one.buffersOf [] [] [] []
 
 -- behind the stanzas up to `at`, of which the last begins at `begun`
