@@ -36,7 +36,7 @@ use Rattle.intake.specs.Settling.{MaySettle, Says}
 use Rattle.intake.specs.declared.answers.Last.the-variants.{Nothing, CommandTwo}
 use Rattle.intake.specs.declared.answers.Received.{Received as CodeReceived}
 use Rattle.client_room.specs.Stanzas.{takingSaid}
-use Rattle.client_room.specs.Room.{stanzaAhead}
+use Rattle.client_room.specs.Room.{hasRoom, stanzaAhead}
 use Rattle.client_room.specs.declared.stanzas.Step.{Step as CodeStep}
 use Rattle.client_room.proofs.Laws.Stanzas.{lineOf, bodyBehind}
 use Rattle.client_receiving.specs.Stanzas.{stepSaid}
@@ -65,6 +65,16 @@ none-front Two a h = refl
 none-front (Awaiting w) a h = absurd (false≢true (sym h))
 none-front Ended a h = refl
 none-front Closed a h = refl
+
+-- a refusal behind what was taken
+abbrev pub stoppedAt : Refusal → CodeSession → CodeReceived → CodeReceived
+stoppedAt n s g = record {
+  verdict = Refused n;
+  count = g .count;
+  last = g .last;
+  written = g .written;
+  session = record { machine = s .machine; phase = s .phase; screen = s .screen; name = s .name; tables = s .tables; reading = place.Start; kept = 0; awaited = 0 };
+}
 
 -- a refusal of the first text
 abbrev stopped : Refusal → CodeSession → CodeReceived
@@ -147,7 +157,7 @@ module _ (given : CodeSession) (xs hs : List (List ℕ)) (e s d front text out :
           few = omega arith;
           within = omega (arith, written, size, took-here none-lent .fits);
           long = i;
-          held = λ b. ap (λ n. leb _ n && leb _ 8192) size
+          held = λ b. ap (λ n. hasRoom (behindAnswer x xs′ hs (lent b e′ s′ d′) [] text o′) n) size
               ∙ subst (λ a. isHeld (behindAnswer x xs′ hs (lent b e′ s′ d′) a text o′) out ≡ true) (none-front (x .session .phase) front v) (held-on b);
         }
 
