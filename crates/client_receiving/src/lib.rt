@@ -1,4 +1,7 @@
 // The client end's receiving: chunks of the plugin's commands in phase two, and its host's replies.
+mod receiving;
 mod stanzas;
 mod texts;
+
+pub use receiving::receive;
 
