@@ -2,3 +2,4 @@
 pub mod Stanzas
 pub mod Texts
 pub mod Front
+pub mod Receiving

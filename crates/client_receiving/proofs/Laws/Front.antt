@@ -77,7 +77,7 @@ stoppedAt n s g = record {
 }
 
 -- a refusal of the first text
-abbrev stopped : Refusal → CodeSession → CodeReceived
+abbrev pub stopped : Refusal → CodeSession → CodeReceived
 stopped n s = record {
   verdict = Refused n;
   count = 0;
