@@ -1,3 +1,19 @@
+use Prim.Native.Nat.{min}
+use mathlib.Core.Path.{_≡_, sym, ap, _∙_, subst}
+use mathlib.Core.List.{_++_}
+use lib.ListN.{take, drop}
+use native.Mathlib.Omega.{arith}
+use denote.Ref.{now}
+use Rattle.stanza.specs.Resuming.{placeSaid, continued, continuedSaid}
+use Rattle.stanza.proofs.Laws.Resuming.{whole-within, unfinished-is}
+use Rattle.session.specs.Session.{sessionOf}
+use Rattle.chunks.specs.Taking.{client}
+use Rattle.chunks.specs.Chunks.{isHeld}
+use Rattle.chunks.specs.Uncut.{isWaiting}
+use Rattle.client_room.specs.Room.{stanzaAhead}
+use Rattle.client_receiving.specs.Texts.{lent, Answers}
+use Rattle.client_receiving.proofs.Laws.Front.{stoppedAt}
+use Rattle.client_receiving.proofs.Laws.Receiving.{start-is, whole-is, unfinished-here, fault-here}
 use borrow.Author.Needs.{needs}
 use Rattle.client_receiving.proofs.receiving.receive_held.Statement.{statement}
 use Rattle.client_receiving.proofs.receiving.receive_held.Tie as tie
@@ -27,7 +43,17 @@ is-start-requires c κs = search needs
 
 -- src/receiving.rt:105:9
 take-text-requires : tie.Need-take-text-requires
-take-text-requires c κs = ?
+take-text-requires c κs =
+    let a = c .before .before .before .before .before .before .before .before .before .before .before .before .before .before .before .before .before .args in
+    let p = c .before .before .before .before .before .before .before .before .before .before .before .before .before .before .before .before .before .pre in
+    let k = c .before .before .before .before .before .before .before .before .before .before .kept-of .ensures in
+    let g = c .before .before .before .before .before .before .before .before .before .begin in
+    record {
+      few = omega (arith, ap (λ r. r .count) (g .ensures));
+      within = omega (arith, ap (λ r. r .written) (g .ensures));
+      long = p .0 .1;
+      held = λ b. ap (λ t. isHeld t (now (a .out))) (start-is (a .session) (now (a .slots)) (now (a .header-slots)) (now (a .input)) (now (a .chunk)) (lent b (now (a .errors)) (now (a .stanzas)) (now (a .returned))) (p .0 .0) (omega (arith, p .0 .1)) (g .result) (now (a .out)) (c .before .before .before .before .before .before .before .before .before .before .kept-of .result) k (omega arith) (c .before .before .before .before .before .before .before .is-start .ensures (c .before .before .before .before .before .before .if2 .taken)) (ap (λ r. r .count) (g .ensures)) (ap (λ r. r .last) (g .ensures)) (ap (λ r. r .written) (g .ensures)) (ap (λ r. r .session) (g .ensures))) ∙ p .1 b;
+    }
 
 -- src/receiving.rt:105:9
 same-length : tie.Need-same-length
@@ -51,7 +77,15 @@ same-length-5 c = search needs
 
 -- src/receiving.rt:105:9
 returns : tie.Need-returns
-returns c = ?
+returns c =
+    let a = c .before .before .before .before .before .before .before .before .before .before .before .before .before .before .before .before .before .before .before .before .before .before .before .before .before .before .before .before .args in
+    let p = c .before .before .before .before .before .before .before .before .before .before .before .before .before .before .before .before .before .before .before .before .before .before .before .before .before .before .before .before .pre in
+    let k = c .before .before .before .before .before .before .before .before .before .before .before .before .before .before .before .before .before .before .before .before .before .kept-of .ensures in
+    let g = c .before .before .before .before .before .before .before .before .before .before .before .before .before .before .before .before .before .before .before .before .begin in
+    let f = c .before .before .before .before .before .before .before .before .before .before .take-text in (
+      (λ b. subst (λ t. Answers (f .result) (f .last .1 .1 .1 .0) (now (a .header-slots)) (now (a .input)) (f .last .1 .1 .0) (lent b (f .last .1 .1 .1 .1 .1 .0) (f .last .1 .1 .1 .1 .1 .1 .0) (f .last .1 .1 .1 .1 .1 .1 .1 .0)) (now (a .out)) (f .last .1 .1 .1 .1 .1 .1 .1 .1 .0) t) (start-is (a .session) (now (a .slots)) (now (a .header-slots)) (now (a .input)) (now (a .chunk)) (lent b (now (a .errors)) (now (a .stanzas)) (now (a .returned))) (p .0 .0) (omega (arith, p .0 .1)) (g .result) (now (a .out)) (c .before .before .before .before .before .before .before .before .before .before .before .before .before .before .before .before .before .before .before .before .before .kept-of .result) k (omega (arith, c .before .before .before .before .before .before .before .before .before .before .before .before .before .before .before .before .before .before .before .if1 .taken)) (c .before .before .before .before .before .before .before .before .before .before .before .before .before .before .before .before .before .before .is-start .ensures (c .before .before .before .before .before .before .before .before .before .before .before .before .before .before .before .before .before .if2 .taken)) (ap (λ r. r .count) (g .ensures)) (ap (λ r. r .last) (g .ensures)) (ap (λ r. r .written) (g .ensures)) (ap (λ r. r .session) (g .ensures))) (f .ensures .0 b)),
+      f .ensures .1 ∙ ap (λ r. r .session .name) (g .ensures),
+    )
 
 -- src/receiving.rt:117:9
 read-on-requires : tie.Need-read-on-requires
@@ -83,7 +117,14 @@ enum-known-continued-3 c = search needs
 
 -- src/receiving.rt:124:32
 take-joined-requires : tie.Need-take-joined-requires
-take-joined-requires c κs = ?
+take-joined-requires c κs =
+    let a = c .before .before .before .before .before .before .before .before .before .before .before .before .before .before .before .before .before .before .before .args in
+    let p = c .before .before .before .before .before .before .before .before .before .before .before .before .before .before .before .before .before .before .before .pre in
+    let k = c .before .before .before .before .before .before .before .before .before .before .before .before .kept-of .ensures in
+    let j = c .before .before .before .before .before .before .before .continued3 .given .0 .0 in
+    let h = (ap (λ n. continued (placeSaid (a .session .reading)) n (now (a .chunk))) (sym k) ∙ sym (c .before .before .before .before .before .before .before .before .before .read-on .ensures) ∙ ap continuedSaid (c .before .before .before .before .before .before .before .continued3 .given .1)) in
+    let w = whole-within (now (a .chunk)) (placeSaid (a .session .reading)) (min (a .session .kept) 8191) j h in
+    ((p .0 .0, w .1, omega (arith, w .2, k), p .0 .1), λ b. ap (λ t. isHeld t (now (a .out))) (ap (λ n. stanzaAhead (sessionOf (a .session) (now (a .slots)) (now (a .header-slots))) (lent b (now (a .errors)) (now (a .stanzas)) (now (a .returned))) (take n (now (a .input)) ++ take j (now (a .chunk))) (drop j (now (a .chunk)))) k ∙ sym (whole-is (a .session) (now (a .slots)) (now (a .header-slots)) (now (a .input)) (now (a .chunk)) (lent b (now (a .errors)) (now (a .stanzas)) (now (a .returned))) (p .0 .0) (omega (arith, p .0 .1)) j h)) ∙ p .1 b)
 
 -- src/receiving.rt:81:1
 same-length-6 : tie.Need-same-length-6
@@ -91,11 +132,31 @@ same-length-6 c = search needs
 
 -- src/receiving.rt:81:1
 returns-2 : tie.Need-returns-2
-returns-2 c = ?
+returns-2 c =
+    let a = c .before .before .before .before .before .before .before .before .before .before .before .before .before .before .before .before .before .args in
+    let p = c .before .before .before .before .before .before .before .before .before .before .before .before .before .before .before .before .before .pre in
+    let k = c .before .before .before .before .before .before .before .before .before .before .kept-of .ensures in
+    let f = c .before .before .keep-on in
+    let q = c .before .before .before .before .before .continued .given in
+    let h = (ap (λ n. continued (placeSaid (a .session .reading)) n (now (a .chunk))) (sym k) ∙ sym (c .before .before .before .before .before .before .before .read-on .ensures) ∙ ap continuedSaid (c .before .before .before .before .before .continued .given .1)) in
+    let w = unfinished-is (now (a .chunk)) (placeSaid (a .session .reading)) (placeSaid (q .0 .0)) (min (a .session .kept) 8191) h .1 in (
+      (λ b. unfinished-here (a .session) (now (a .slots)) (now (a .header-slots)) (now (a .input)) (now (a .chunk)) (lent b (now (a .errors)) (now (a .stanzas)) (now (a .returned))) (p .0 .0) (omega (arith, p .0 .1)) (q .0 .0) (f .result) (f .last .1 .1 .1 .0) (now (a .out)) h
+          (f .ensures .0 client (now (a .slots)) (now (a .header-slots)) (lent b (now (a .errors)) (now (a .stanzas)) (now (a .returned))) (ap (isWaiting client) (p .0 .0)) (omega arith) (omega (arith, p .0 .1))) (f .ensures .1 .0)),
+      f .ensures .1 .1,
+    )
 
 -- src/receiving.rt:81:1
 returns-3 : tie.Need-returns-3
-returns-3 c = ?
+returns-3 c =
+    let a = c .before .before .before .before .before .before .before .before .before .before .before .before .before .before .before .args in
+    let p = c .before .before .before .before .before .before .before .before .before .before .before .before .before .before .before .pre in
+    let k = c .before .before .before .before .before .before .before .before .kept-of .ensures in
+    let q = c .before .before .before .continued2 .given in
+    let h = (ap (λ n. continued (placeSaid (a .session .reading)) n (now (a .chunk))) (sym k) ∙ sym (c .before .before .before .before .before .read-on .ensures) ∙ ap continuedSaid (c .before .before .before .continued2 .given .1)) in (
+      (λ b. fault-here (a .session) (now (a .slots)) (now (a .header-slots)) (now (a .input)) (now (a .chunk)) (lent b (now (a .errors)) (now (a .stanzas)) (now (a .returned))) (p .0 .0) (omega (arith, p .0 .1)) (q .0 .0) (c .before .moved .result) (c .stop .result) (now (a .out)) h (ap (λ s. sessionOf s (now (a .slots)) (now (a .header-slots))) (c .before .moved .ensures))
+          (c .stop .ensures ∙ ap (stoppedAt (q .0 .0) (c .before .moved .result)) (c .before .before .before .before .before .before .before .begin .ensures))),
+      ap (λ r. r .session .name) (c .stop .ensures) ∙ ap (λ s. s .name) (c .before .moved .ensures),
+    )
 
 -- src/receiving.rt:81:1
 same-length-7 : tie.Need-same-length-7
@@ -119,7 +180,17 @@ same-length-11 c = search needs
 
 -- src/receiving.rt:81:1
 returns-4 : tie.Need-returns-4
-returns-4 c = ?
+returns-4 c =
+    let a = c .before .before .before .before .before .before .before .before .before .before .before .before .before .before .before .before .before .before .before .before .before .before .before .before .before .before .before .before .before .before .args in
+    let p = c .before .before .before .before .before .before .before .before .before .before .before .before .before .before .before .before .before .before .before .before .before .before .before .before .before .before .before .before .before .before .pre in
+    let k = c .before .before .before .before .before .before .before .before .before .before .before .before .before .before .before .before .before .before .before .before .before .before .before .kept-of .ensures in
+    let j = c .before .before .before .before .before .before .before .before .before .before .before .before .before .before .before .before .before .before .continued3 .given .0 .0 in
+    let h = (ap (λ n. continued (placeSaid (a .session .reading)) n (now (a .chunk))) (sym k) ∙ sym (c .before .before .before .before .before .before .before .before .before .before .before .before .before .before .before .before .before .before .before .before .read-on .ensures) ∙ ap continuedSaid (c .before .before .before .before .before .before .before .before .before .before .before .before .before .before .before .before .before .before .continued3 .given .1)) in
+    let w = whole-within (now (a .chunk)) (placeSaid (a .session .reading)) (min (a .session .kept) 8191) j h in
+    let f = c .before .before .before .before .before .before .before .before .before .before .take-joined in (
+      (λ b. subst (λ t. Answers (f .result) (f .last .1 .1 .1 .1 .1 .0) (now (a .header-slots)) (now (a .input)) (f .last .1 .1 .1 .1 .0) (lent b (f .last .1 .1 .1 .1 .1 .1 .1 .0) (f .last .1 .1 .1 .1 .1 .1 .1 .1 .0) (f .last .1 .1 .1 .1 .1 .1 .1 .1 .1 .0)) (now (a .out)) (f .last .1 .1 .1 .1 .1 .1 .1 .1 .1 .1 .0) t) (ap (λ n. stanzaAhead (sessionOf (a .session) (now (a .slots)) (now (a .header-slots))) (lent b (now (a .errors)) (now (a .stanzas)) (now (a .returned))) (take n (now (a .input)) ++ take j (now (a .chunk))) (drop j (now (a .chunk)))) k ∙ sym (whole-is (a .session) (now (a .slots)) (now (a .header-slots)) (now (a .input)) (now (a .chunk)) (lent b (now (a .errors)) (now (a .stanzas)) (now (a .returned))) (p .0 .0) (omega (arith, p .0 .1)) j h)) (f .ensures .0 b)),
+      f .ensures .1,
+    )
 
 pub receive-held-spec : {M : Type 1} → statement M
 receive-held-spec =
