@@ -3,7 +3,10 @@ use Prim.Native.Nat.{ℕ, _+_, _≤_, min}
 use mathlib.Core.Path.{_≡_, refl, sym, ap, ap₂, _∙_, subst}
 use mathlib.Core.Bool.{true, false}
 use mathlib.Core.List.{List, [], _++_}
+use lib.Dec.{eqb}
 use lib.ListN.{length, take, drop}
+use Rattle.refusal.specs.Output.{filled}
+use Rattle.refusal.specs.Pick.{pick}
 use lib.Seq.{length-take-le}
 use native.Mathlib.Omega.{arith}
 use Rattle.refusal.specs.Number.{numberOf}
@@ -16,11 +19,12 @@ use Rattle.session.specs.declared.phases.Phase.the-variants.{Two}
 use Rattle.session.specs.declared.sessions.Session.{Session as CodeSession}
 use Rattle.session.specs.Session.{Session, sessionOf, closed}
 use Rattle.conversation.specs.Kinds.{Buffers}
+use Rattle.conversation.specs.TurnsTwo.{turnTwo}
 use Rattle.chunks.specs.Cutting.{cut}
-use Rattle.chunks.specs.Taking.{client, turnAt, Taken, noMore, emptied, keeping, behind, no-stanza, takenText}
-use Rattle.chunks.specs.Chunks.{taken}
+use Rattle.chunks.specs.Taking.{client, turnAt, Intake, Taken, noMore, emptied, keeping, behind, no-stanza, takenText}
+use Rattle.chunks.specs.Chunks.{Outcome, untaken, isHeld, judged, taken, chunked}
 use Rattle.chunks.proofs.Laws.Texts.{takenCut, front-left, front-fault, front-stanza, behind-none}
-use Rattle.intake.specs.Intake.{intakeOf, lastSaid}
+use Rattle.intake.specs.Intake.{intakeOf, lastSaid, takenSaid, receivedSaid}
 use Rattle.intake.specs.Settling.{Says}
 use Rattle.intake.specs.declared.answers.Last.the-variants.{Nothing}
 use Rattle.intake.specs.declared.answers.Received.{Received as CodeReceived}
@@ -77,3 +81,30 @@ module _ (given : CodeSession) (xs hs : List (List ℕ)) (input x : List ℕ) (b
       (answers-says (stopped n v) xs hs input input b out out 0 _ _ (stop-says 0 Nothing 0 n v xs hs input [] b)
       (here-is ∙ front-fault client now b [] (ap (turnAt client) second) (placeSaid (given .reading)) front x (numberOf n) (omega (arith, front-long)) (read-on (resuming.refused (numberOf n)) h)
       ∙ ap (λ q. behind 0 no-stanza [] (noMore (numberOf n) (emptied q []) b)) (sym sv)) refl (omega arith) refl refl)
+
+-- ---- what a call comes to
+
+module _ (i : Intake) (b : Buffers) (x out : List ℕ) where
+  pub out-of-turn : (n : ℕ) → n ≡ turnTwo (i .session .phase) → eqb n 0 ≡ false → untaken n i b out ≡ chunked client i b x out
+  unfolding chunked
+  out-of-turn n e f = ap (λ d. pick d (judged i b out (taken client i b x)) (untaken n i b out)) (sym f) ∙ ap (λ n. pick (eqb n 0) (judged i b out (taken client i b x)) (untaken n i b out)) e
+
+  pub no-room : 0 ≡ turnTwo (i .session .phase) → isHeld (taken client i b x) out ≡ false → untaken 15 i b out ≡ chunked client i b x out
+  unfolding chunked
+  no-room e f =
+      let t = taken client i b x in
+      ap (λ d. pick d (record { number = t .number; count = t .count; last = t .last; size = length (t .written); intake = t .intake; buffers = t .buffers; output = filled (t .written) out }) (untaken 15 i b out)) (sym f)
+      ∙ ap (λ n. pick (eqb n 0) (judged i b out t) (untaken n i b out)) e
+
+  pub with-room : 0 ≡ turnTwo (i .session .phase) → isHeld (taken client i b x) out ≡ true → (r : CodeReceived) (xs hs : List (List ℕ)) (before after : List ℕ) (b′ : Buffers) (out′ : List ℕ) →
+      Answers r xs hs before after b′ out out′ (taken client i b x) → receivedSaid client r xs hs after b′ out′ ≡ chunked client i b x out
+  unfolding chunked
+  with-room e f r xs hs before after b′ out′ a =
+      let t = taken client i b x in
+      ap₂ (λ n o. said (takenSaid client r xs hs after (t .written) b′) n o) (a .size) (a .output)
+      ∙ ap (λ u. said u (length (t .written)) (filled (t .written) out)) (a .says .taken)
+      ∙ ap (λ d. pick d (said t (length (t .written)) (filled (t .written) out)) (untaken 15 i b out)) (sym f)
+      ∙ ap (λ n. pick (eqb n 0) (judged i b out t) (untaken n i b out)) e
+    where
+      said : Taken → ℕ → List ℕ → Outcome
+      said t n o = record { number = t .number; count = t .count; last = t .last; size = n; intake = t .intake; buffers = t .buffers; output = o }
