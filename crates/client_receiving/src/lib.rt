@@ -4,4 +4,3 @@ mod stanzas;
 mod texts;
 
 pub use receiving::receive;
-

@@ -108,7 +108,7 @@ module _ (given : CodeSession) (xs hs : List (List ℕ)) (e s d front text out :
     front-refused b n x input z xz =
         let u = stanzaAhead now (lent b e s d) front text in
         let t = declined-is now (lent b e s d) front l m k out second h (stepSaid y xs′ hs e′ s′ d′ o′) q front text (numberOf n) z
-            (leb-true (length (u .written)) (length out) (and-true (leb (length (u .written)) (length out)) (leb (length (u .intake .kept)) 8192) (held b) .0)) in
+        (leb-true (length (u .written)) (length out) (and-true (leb (length (u .written)) (length out)) (leb (length (u .intake .kept)) 8192) (held b) .0)) in
         subst (λ x. Answers x xs′ hs input input (lent b e′ s′ d′) out o′ u) (sym xz)
         (answers-says (stopped n (y .session)) xs′ hs input input (lent b e′ s′ d′) out o′ 0 _ _ (stop-says 0 Nothing 0 n (y .session) xs′ hs input [] (lent b e′ s′ d′))
         (t .same) refl (omega arith) (ap length (t .output)) (t .output))

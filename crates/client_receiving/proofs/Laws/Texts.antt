@@ -342,10 +342,10 @@ module _ (r₀ : CodeReceived) (xs₀ hs : List (List ℕ)) (e₀ s₀ d₀ text
           let part = take (length out - r .written) (drop (r .written) out) in
           let u = takenText client now (lent b e s d) awaited (drop at text) in
           let v = leb-true (length (take (r .written) out ++ u .written)) (length out₀)
-              (and-true (leb (length (take (r .written) out ++ u .written)) (length out₀)) (leb (length (u .intake .kept)) 8192) (held-on b) .0) in
+          (and-true (leb (length (take (r .written) out ++ u .written)) (length out₀)) (leb (length (u .intake .kept)) 8192) (held-on b) .0) in
           let t = declined-is now (lent b e s d) rest l m k part (reads-two (r .session .phase) turn) first
-              (stepSaid y xs′ hs e′ s′ d′ o′) q (take k rest) (drop k rest) (numberOf n) z
-              (omega (arith, v, length-append (take (r .written) out) (takenText client now (lent b e s d) awaited (drop at text) .written), length-take-le (r .written) out (g .room), ap length (part-rest (r .written) out), length-drop (r .written) out, ap (λ u. length (u .written)) (ahead-is b), g .size)) in
+          (stepSaid y xs′ hs e′ s′ d′ o′) q (take k rest) (drop k rest) (numberOf n) z
+          (omega (arith, v, length-append (take (r .written) out) (takenText client now (lent b e s d) awaited (drop at text) .written), length-take-le (r .written) out (g .room), ap length (part-rest (r .written) out), length-drop (r .written) out, ap (λ u. length (u .written)) (ahead-is b), g .size)) in
           let p : take (r .written) out ++ (o′ ++ drop (length out - r .written) (drop (r .written) out)) ≡ out = put-same (r .count) (lastSaid (r .last)) (r .written) out (g .room) o′ (t .output) in
           subst (λ o. Answers x xs′ hs input input (lent b e′ s′ d′) out₀ o (behindAnswer r₀ xs₀ hs (lent b e₀ s₀ d₀) [] text out₀)) (sym p)
           (subst (λ x. Answers x xs′ hs input input (lent b e′ s′ d′) out₀ out (behindAnswer r₀ xs₀ hs (lent b e₀ s₀ d₀) [] text out₀)) (sym xz)

@@ -69,10 +69,12 @@ take-front-requires c κs =
     let r = take (a .k) (now (a .chunk)) in
     let k = length-take-le (a .k) (now (a .chunk)) (p .0 .1) in
     let i : a .kept ≤ length (now (a .input)) = omega (arith, p .0 .2, p .0 .3) in
-    let e = joined-front (now (a .input)) r _ _ (a .kept) (a .k) i k (c .before .before .before .before .before .before .before .before .before .put-together .ensures) in
-    ((p .0 .0, omega (arith, ap length e ∙ length-append (take (a .kept) (now (a .input))) r ∙ ap₂ _+_ (length-take-le (a .kept) (now (a .input)) i) k, p .0 .2), p .0 .3), λ b.
-    ap₂ (λ t x. isHeld (stanzaAhead (sessionOf (a .session) (now (a .slots)) (now (a .header-slots))) (lent b (now (a .errors)) (now (a .stanzas)) (now (a .returned))) t x) (now (a .out))) e (part-rest (a .k) (now (a .chunk)))
-    ∙ p .1 b)
+    let e = joined-front (now (a .input)) r _ _ (a .kept) (a .k) i k (c .before .before .before .before .before .before .before .before .before .put-together .ensures) in (
+      (p .0 .0, omega (arith, ap length e ∙ length-append (take (a .kept) (now (a .input))) r ∙ ap₂ _+_ (length-take-le (a .kept) (now (a .input)) i) k, p .0 .2), p .0 .3),
+      λ b.
+          ap₂ (λ t x. isHeld (stanzaAhead (sessionOf (a .session) (now (a .slots)) (now (a .header-slots))) (lent b (now (a .errors)) (now (a .stanzas)) (now (a .returned))) t x) (now (a .out))) e (part-rest (a .k) (now (a .chunk)))
+          ∙ p .1 b,
+    )
 
 -- src/receiving.rt:40:1
 same-length : tie.Need-same-length
