@@ -24,10 +24,11 @@ use Rattle.chunks.specs.Cutting.{cut}
 use Rattle.chunks.specs.Taking.{client, turnAt, Intake, Taken, noMore, emptied, keeping, behind, no-stanza, takenText}
 use Rattle.chunks.specs.Chunks.{Outcome, untaken, isHeld, judged, taken, chunked}
 use Rattle.chunks.proofs.Laws.Texts.{takenCut, front-left, front-fault, front-stanza, behind-none}
-use Rattle.intake.specs.Intake.{intakeOf, lastSaid, takenSaid, receivedSaid}
+use Rattle.intake.specs.Intake.{intakeOf, lastSaid, takenSaid, receivedSaid, storedIn}
 use Rattle.intake.specs.Settling.{Says}
 use Rattle.intake.specs.declared.answers.Last.the-variants.{Nothing}
 use Rattle.intake.specs.declared.answers.Received.{Received as CodeReceived}
+use Rattle.intake.proofs.Laws.Keeping.{stored-own}
 use Rattle.client_room.specs.Room.{stanzaAhead}
 use Rattle.client_room.proofs.Laws.Room.{intake-two}
 use Rattle.client_receiving.specs.Texts.{Answers, behindAnswer}
@@ -108,3 +109,8 @@ module _ (i : Intake) (b : Buffers) (x out : List ℕ) where
     where
       said : Taken → ℕ → List ℕ → Outcome
       said t n o = record { number = t .number; count = t .count; last = t .last; size = n; intake = t .intake; buffers = t .buffers; output = o }
+
+-- nothing is stored by a call that takes nothing
+pub untaken-input : (given : CodeSession) (xs hs : List (List ℕ)) (input : List ℕ) (n : ℕ) (b : Buffers) (out : List ℕ) (r : CodeReceived) →
+    receivedSaid client r xs hs input b out ≡ untaken n (intakeOf client given xs hs input) b out → input ≡ storedIn (intakeOf client (r .session) xs hs input) input
+untaken-input given xs hs input n b out r h = sym (ap (λ o. storedIn (o .intake) input) h ∙ stored-own client given xs hs input)

@@ -1,19 +1,18 @@
 -- What is kept in the lent input, and read back from it.
 use Prim.Native.Nat.{ℕ, _+_, _≤_, _<_, min}
-use mathlib.Core.Path.{_≡_, refl, sym, ap, _∙_}
-use mathlib.Core.Bool.{Bool, true, false}
+use mathlib.Core.Path.{_≡_, refl, sym, ap, _∙_, subst}
+use mathlib.Core.Bool.{false}
 use mathlib.Core.List.{List, [], _∷_, _++_, append-assoc, append-nil}
 use lib.ListN.{length, take, drop, length-append, length-drop, drop-of-length-le, take-append-drop}
 use lib.Seq.{take-at, drop-at, take-all, take-add, drop-drop, take-append-seam, drop-append-seam, length-take-le}
 use native.Mathlib.Omega.{arith}
 use borrow.Author.Tests.{lt-ltb, le-ltb}
 use Rattle.refusal.specs.Output.{filled}
-use Rattle.refusal.specs.Pick.{pick}
 use Rattle.session.specs.declared.phases.Phase.the-variants.{Closed}
 use Rattle.session.specs.declared.sessions.Session.{Session as CodeSession}
 use Rattle.chunks.specs.Taking.{End, client, plugin}
 use Rattle.chunks.specs.Uncut.{isWaiting}
-use Rattle.intake.specs.Intake.{intakeOf, storedIn}
+use Rattle.intake.specs.Intake.{awaitedSize, keptSize, intakeOf, storedIn}
 
 -- no command waits in a closed session
 pub closed-waits : (e : End) → isWaiting e Closed ≡ false
@@ -75,16 +74,13 @@ kept-back a k o h j m =
 -- ---- stored where it lies
 
 -- a text's own first bytes, in two parts
-own-parts : (a k : ℕ) (x : List ℕ) → a + k ≤ length x → filled (take a x ++ take k (drop a x)) x ≡ x
-own-parts a k x h =
-    let l : length (take (a + k) x) ≡ a + k = length-take-le (a + k) x h in
-    ap (λ t. filled t x) (sym (take-add a k x)) ∙ filled-whole (take (a + k) x) x (omega arith) ∙ ap (λ n. take (a + k) x ++ drop n x) l
-    ∙ take-append-drop (a + k) x
+own-parts : (a k : ℕ) (x : List ℕ) → filled (take a x ++ take k (drop a x)) x ≡ x
+own-parts a k x =
+    let t = take (a + k) x in
+    let r = drop (a + k) x in
+    ap (λ t. filled t x) (sym (take-add a k x))
+    ∙ subst (λ y. filled t y ≡ y) (take-append-drop (a + k) x) (filled-whole t (t ++ r) (simp length-append (omega arith)) ∙ ap (λ y. t ++ y) (drop-append-seam t r))
 
 -- what an end keeps, by its own input
-pub stored-own : (e : End) (s : CodeSession) (xs hs : List (List ℕ)) (x : List ℕ) → 16384 ≤ length x → storedIn (intakeOf e s xs hs x) x ≡ x
-stored-own e s xs hs x h = go (isWaiting e (s .phase))
-  where
-    go : (f : Bool) → filled (take (pick f (min (s .awaited) 8192) 0) x ++ take (min (s .kept) (pick f 8192 8191)) (drop (pick f (min (s .awaited) 8192) 0) x)) x ≡ x
-    go true = own-parts (min (s .awaited) 8192) (min (s .kept) 8192) x (omega arith)
-    go false = own-parts 0 (min (s .kept) 8191) x (omega arith)
+pub stored-own : (e : End) (s : CodeSession) (xs hs : List (List ℕ)) (x : List ℕ) → storedIn (intakeOf e s xs hs x) x ≡ x
+stored-own e s xs hs x = own-parts (awaitedSize e s) (keptSize e s) x
