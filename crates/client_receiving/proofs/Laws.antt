@@ -3,3 +3,4 @@ pub mod Stanzas
 pub mod Texts
 pub mod Front
 pub mod Receiving
+pub mod Replying

@@ -85,30 +85,35 @@ module _ (given : CodeSession) (xs hs : List (List ℕ)) (input x : List ℕ) (b
 
 -- ---- what a call comes to
 
-module _ (i : Intake) (b : Buffers) (x out : List ℕ) where
-  pub out-of-turn : (n : ℕ) → n ≡ turnTwo (i .session .phase) → eqb n 0 ≡ false → untaken n i b out ≡ chunked client i b x out
-  unfolding chunked
-  out-of-turn n e f = ap (λ d. pick d (judged i b out (taken client i b x)) (untaken n i b out)) (sym f) ∙ ap (λ n. pick (eqb n 0) (judged i b out (taken client i b x)) (untaken n i b out)) e
+abbrev said : Taken → ℕ → List ℕ → Outcome
+said t n o = record { number = t .number; count = t .count; last = t .last; size = n; intake = t .intake; buffers = t .buffers; output = o }
 
-  pub no-room : 0 ≡ turnTwo (i .session .phase) → isHeld (taken client i b x) out ≡ false → untaken 15 i b out ≡ chunked client i b x out
-  unfolding chunked
-  no-room e f =
-      let t = taken client i b x in
-      ap (λ d. pick d (record { number = t .number; count = t .count; last = t .last; size = length (t .written); intake = t .intake; buffers = t .buffers; output = filled (t .written) out }) (untaken 15 i b out)) (sym f)
-      ∙ ap (λ n. pick (eqb n 0) (judged i b out t) (untaken n i b out)) e
+module _ (i : Intake) (b : Buffers) (out : List ℕ) (t : Taken) where
+  -- 15
+  pub judged-short : isHeld t out ≡ false → untaken 15 i b out ≡ judged i b out t
+  judged-short f = ap (λ d. pick d (said t (length (t .written)) (filled (t .written) out)) (untaken 15 i b out)) (sym f)
 
-  pub with-room : 0 ≡ turnTwo (i .session .phase) → isHeld (taken client i b x) out ≡ true → (r : CodeReceived) (xs hs : List (List ℕ)) (before after : List ℕ) (b′ : Buffers) (out′ : List ℕ) →
-      Answers r xs hs before after b′ out out′ (taken client i b x) → receivedSaid client r xs hs after b′ out′ ≡ chunked client i b x out
-  unfolding chunked
-  with-room e f r xs hs before after b′ out′ a =
-      let t = taken client i b x in
+  pub judged-held : isHeld t out ≡ true → (r : CodeReceived) (xs hs : List (List ℕ)) (before after : List ℕ) (b′ : Buffers) (out′ : List ℕ) →
+      Answers r xs hs before after b′ out out′ t → receivedSaid client r xs hs after b′ out′ ≡ judged i b out t
+  judged-held f r xs hs before after b′ out′ a =
       ap₂ (λ n o. said (takenSaid client r xs hs after (t .written) b′) n o) (a .size) (a .output)
       ∙ ap (λ u. said u (length (t .written)) (filled (t .written) out)) (a .says .taken)
       ∙ ap (λ d. pick d (said t (length (t .written)) (filled (t .written) out)) (untaken 15 i b out)) (sym f)
-      ∙ ap (λ n. pick (eqb n 0) (judged i b out t) (untaken n i b out)) e
-    where
-      said : Taken → ℕ → List ℕ → Outcome
-      said t n o = record { number = t .number; count = t .count; last = t .last; size = n; intake = t .intake; buffers = t .buffers; output = o }
+
+module _ (i : Intake) (b : Buffers) (x out : List ℕ) where
+  in-turn : (n : ℕ) → n ≡ turnTwo (i .session .phase) → pick (eqb n 0) (judged i b out (taken client i b x)) (untaken n i b out) ≡ chunked client i b x out
+  unfolding chunked
+  in-turn n e = ap (λ n. pick (eqb n 0) (judged i b out (taken client i b x)) (untaken n i b out)) e
+
+  pub out-of-turn : (n : ℕ) → n ≡ turnTwo (i .session .phase) → eqb n 0 ≡ false → untaken n i b out ≡ chunked client i b x out
+  out-of-turn n e f = ap (λ d. pick d (judged i b out (taken client i b x)) (untaken n i b out)) (sym f) ∙ in-turn n e
+
+  pub no-room : 0 ≡ turnTwo (i .session .phase) → isHeld (taken client i b x) out ≡ false → untaken 15 i b out ≡ chunked client i b x out
+  no-room e f = judged-short i b out (taken client i b x) f ∙ in-turn 0 e
+
+  pub with-room : 0 ≡ turnTwo (i .session .phase) → isHeld (taken client i b x) out ≡ true → (r : CodeReceived) (xs hs : List (List ℕ)) (before after : List ℕ) (b′ : Buffers) (out′ : List ℕ) →
+      Answers r xs hs before after b′ out out′ (taken client i b x) → receivedSaid client r xs hs after b′ out′ ≡ chunked client i b x out
+  with-room e f r xs hs before after b′ out′ a = judged-held i b out (taken client i b x) f r xs hs before after b′ out′ a ∙ in-turn 0 e
 
 -- nothing is stored by a call that takes nothing
 pub untaken-input : (given : CodeSession) (xs hs : List (List ℕ)) (input : List ℕ) (n : ℕ) (b : Buffers) (out : List ℕ) (r : CodeReceived) →

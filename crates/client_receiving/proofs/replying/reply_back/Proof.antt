@@ -1,0 +1,98 @@
+use borrow.Author.Needs.{needs}
+use Rattle.client_receiving.proofs.replying.reply_back.Statement.{statement}
+use Rattle.client_receiving.proofs.replying.reply_back.Tie as tie
+use Rattle.client_receiving.proofs.replying.reply_back.Reads as reads
+use Rattle.client_receiving.proofs.replying.reply_back.Lts as lts
+use Rattle.client_receiving.proofs.replying.at_most_longest.Reads as at-most-longest-reads
+use Rattle.client_receiving.proofs.replying.reply_ahead.Reads as reply-ahead-reads
+use Rattle.stanza.proofs.copy.Reads as copy-reads
+
+-- src/replying.rt:174:9
+at-most-longest-requires : tie.Need-at-most-longest-requires
+at-most-longest-requires c κs = search needs
+
+-- src/replying.rt:175:9
+at-most-longest-requires-2 : tie.Need-at-most-longest-requires-2
+at-most-longest-requires-2 c κs = search needs
+
+-- src/replying.rt:176:15
+add-end : tie.Need-add-end
+add-end c = search needs
+
+-- src/replying.rt:178:18
+sub-copy : tie.Need-sub-copy
+sub-copy c = search needs
+
+-- src/replying.rt:178:18
+part-copy-start : tie.Need-part-copy-start
+part-copy-start c = search needs
+
+-- src/replying.rt:178:18
+part-copy-end : tie.Need-part-copy-end
+part-copy-end c = search needs
+
+-- src/replying.rt:178:35
+slice-aggregate-copy : tie.Need-slice-aggregate-copy
+slice-aggregate-copy c = search needs
+
+-- src/replying.rt:178:5
+copy-requires : tie.Need-copy-requires
+copy-requires c κs = search needs
+
+-- src/replying.rt:184:9
+array-share-prefix-store : tie.Need-array-share-prefix-store
+array-share-prefix-store c = search needs
+
+-- src/replying.rt:184:9
+slice-aggregate-reply-ahead : tie.Need-slice-aggregate-reply-ahead
+slice-aggregate-reply-ahead c = ?
+
+-- src/replying.rt:179:5
+reply-ahead-requires : tie.Need-reply-ahead-requires
+reply-ahead-requires c κs = search needs
+
+-- src/replying.rt:148:1
+same-length : tie.Need-same-length
+same-length c = search needs
+
+-- src/replying.rt:148:1
+same-length-2 : tie.Need-same-length-2
+same-length-2 c = search needs
+
+-- src/replying.rt:148:1
+same-length-3 : tie.Need-same-length-3
+same-length-3 c = search needs
+
+-- src/replying.rt:148:1
+same-length-4 : tie.Need-same-length-4
+same-length-4 c = search needs
+
+-- src/replying.rt:148:1
+same-length-5 : tie.Need-same-length-5
+same-length-5 c = search needs
+
+-- src/replying.rt:148:1
+returns : tie.Need-returns
+returns c = ?
+
+pub reply-back-spec : {M : Type 1} → statement M
+reply-back-spec =
+    tie.close
+    (tie.spec
+    at-most-longest-requires
+    at-most-longest-requires-2
+    add-end
+    sub-copy
+    part-copy-start
+    part-copy-end
+    slice-aggregate-copy
+    copy-requires
+    array-share-prefix-store
+    slice-aggregate-reply-ahead
+    reply-ahead-requires
+    same-length
+    same-length-2
+    same-length-3
+    same-length-4
+    same-length-5
+    returns)
