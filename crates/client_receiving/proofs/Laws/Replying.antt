@@ -5,7 +5,7 @@ use mathlib.Core.Bool.{Bool, true, false}
 use mathlib.Core.List.{List, [], _++_}
 use lib.Dec.{eqb, leb}
 use lib.ListN.{length, take, drop, length-append, length-drop}
-use lib.Seq.{take-append-seam, drop-append-add, drop-drop}
+use lib.Seq.{length-take-le, take-append-seam, drop-append-add, drop-drop}
 use native.Mathlib.Omega.{arith}
 use borrow.Author.Tests.{leb-true}
 use Rattle.refusal.specs.Output.{Answer, bytes, refused, filled}
@@ -123,6 +123,13 @@ begunWith n s = record { verdict = Accepted; count = 0; last = Nothing; written 
 abbrev pub givenTo : CodeSession → CodeSession
 givenTo s = record { machine = s .machine; phase = Two; screen = s .screen; name = s .name; tables = s .tables; reading = s .reading; kept = s .kept; awaited = s .awaited }
 
+-- there is room for the whole or not
+pub given-room : (s s′ : CodeSession) (xs hs : List (List ℕ)) (b : Buffers) (r : Response) (body back out : List ℕ) (f v : Bool) → s′ ≡ givenTo s →
+    f ≡ hasRoom (replyAhead (stanzaText (responseLine r) body) (takenText client (sessionOf s′ xs hs) b [] back)) (length out) → f ≡ v →
+    isHeld (answeredWith (sessionOf s xs hs) b r body back) out ≡ v
+given-room s s′ xs hs b r body back out f v e h q =
+    sym (h ∙ ap (λ s. hasRoom (replyAhead (stanzaText (responseLine r) body) (takenText client (sessionOf s xs hs) b [] back)) (length out)) e) ∙ q
+
 module _ (s : CodeSession) (xs hs : List (List ℕ)) (r : Response) (body back out out′ : List ℕ) (n : ℕ) (writable : isWritable (responseLine r) body ≡ true)
     (size : n ≡ length (stanzaText (responseLine r) body)) (g : CodeReceived) (begun : g ≡ begunWith n (givenTo s)) (put : out′ ≡ bufferAfter (responseLine r) body out) where
   abbrev text : List ℕ
@@ -181,7 +188,19 @@ module _ (s : CodeSession) (xs hs : List (List ℕ)) (r : Response) (body back o
 
 -- ---- the copy
 
--- a part at the front of a store
-pub copied-front : (part store store′ : List ℕ) (k : ℕ) → length part ≡ k → k ≤ length store → store′ ≡ filled part store → take k store′ ≡ part
-copied-front part store store′ k l h e =
-    ap₂ take (sym l) (e ∙ filled-front part store (omega arith)) ∙ take-append-seam part (drop (length part) store)
+-- bytes of the input at the front of a store
+module _ (input store store′ : List ℕ) (at k m : ℕ) (same : m ≡ k) (within : at + k ≤ length input)
+    (copied : store′ ≡ filled (take m (drop at input)) store) (room : k ≤ length store) where
+  abbrev part : List ℕ
+  part = take m (drop at input)
+
+  part-long : length part ≡ k
+  part-long = length-take-le m (drop at input) (omega (arith, length-drop at input)) ∙ same
+
+  pub back-copied : take k store′ ≡ take k (drop at input)
+  back-copied =
+      ap₂ take (sym part-long) (copied ∙ filled-front part store (omega (arith, part-long))) ∙ take-append-seam part (drop (length part) store)
+      ∙ ap (λ m. take m (drop at input)) same
+
+  pub back-long : k ≡ length (take k store′)
+  back-long = sym (ap length back-copied ∙ length-take-le k (drop at input) (omega (arith, length-drop at input)))
