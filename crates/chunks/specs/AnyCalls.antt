@@ -14,7 +14,7 @@ use Rattle.conversation.specs.Calls.{Call, send, send-two, outcome, writtenBy}
 use Rattle.conversation.specs.Kinds.{Buffers}
 use Rattle.conversation.specs.TurnsTwo.{answered}
 use Rattle.chunks.specs.Cutting.{Rest, unfinished, impossible, cut}
-use Rattle.chunks.specs.Taking.{End, client, Turn, reads, drops, keeps-back, turnAt, room, stanzaCall, Intake, joined}
+use Rattle.chunks.specs.Taking.{End, client, Turn, reads, drops, keeps-back, turnAt, ample, stanzaCall, Intake, joined}
 use Rattle.chunks.specs.Chunks.{finished}
 use Rattle.chunks.specs.Uncut.{chunk, reply, outcomeOf, State, isUnfit}
 use Rattle.chunks.specs.Reached.{AnyCall, piece, sends-one, sends-two, finishes, intakeAfter}
@@ -91,7 +91,7 @@ callsIn e i b (piece (chunk bytes out)) =
     let c = cut (i .reading) (i .kept) bytes in pick (eqb (outcomeOf e i b (chunk bytes out) .number) 15) [] (stanzaCalls e (i .session) b (c .texts) (c .rest))
 callsIn e i b (piece (reply r body out)) =
     let c = cut start [] (i .kept) in
-    pick (isUnfit (outcomeOf e i b (reply r body out))) [] (one-call.reply r body room ∷ stanzaCalls client (answered (i .session)) b (c .texts) (c .rest))
+    pick (isUnfit (outcomeOf e i b (reply r body out))) [] (one-call.reply r body ample ∷ stanzaCalls client (answered (i .session)) b (c .texts) (c .rest))
 callsIn e i b (sends-one word arguments body out) = send word arguments body out ∷ []
 callsIn e i b (sends-two word arguments body out) = send-two word arguments body out ∷ []
 callsIn e i b finishes = []

@@ -11,18 +11,18 @@ use Rattle.conversation.specs.Calls as one-call
 use Rattle.conversation.specs.Calls.{AllZero}
 use Rattle.conversation.specs.Kinds.{Buffers}
 use Rattle.conversation.specs.Phases.{Reply, Block, Supply, Part, one-part, two-part, Phase, blocksOf, callsOf, responsesTo, SameTables}
-use Rattle.chunks.specs.Taking.{End, client, plugin, room, Intake, emptied, joined}
+use Rattle.chunks.specs.Taking.{End, client, plugin, ample, Intake, emptied, joined}
 use Rattle.chunks.specs.Uncut.{Piece, reply, outcomeOf, after, numbers, written, isClosed, NoneHeldUp, NoneBehind, alone, uncut, isReply}
 
 -- ---- cuts of a phase
 
--- an output buffer of `room` for each call
-abbrev pub rooms : Supply
-rooms = λ n. room
+-- an output buffer of `ample` for each call
+abbrev pub amples : Supply
+amples = λ n. ample
 
 -- a reply in a call of its own
 abbrev pub replyAlone : Reply → Piece
-replyAlone r = reply (r .response) (r .body) room
+replyAlone r = reply (r .response) (r .body) ample
 
 -- a phase's blocks, a stanza to a call, each reply directly behind its command
 unfoldable pub uncutCalls : List Block → List Piece
@@ -30,16 +30,16 @@ uncutCalls [] = []
 uncutCalls (x ∷ xs) = (alone (x .text) ∷ map replyAlone (x .replies)) ++ uncutCalls xs
 
 -- a list without the replies that are made when the session is closed: no command waits for them any more
-unfoldable pub heard : End → Intake → Buffers → List Piece → List Piece
-heard e i b [] = []
-heard e i b (c ∷ cs) =
+unfoldable pub inTime : End → Intake → Buffers → List Piece → List Piece
+inTime e i b [] = []
+inTime e i b (c ∷ cs) =
     let o = outcomeOf e i b c in
-    pick (isReply c && isClosed (i .session .phase)) [] (c ∷ []) ++ heard e (o .intake) (o .buffers) cs
+    pick (isReply c && isClosed (i .session .phase)) [] (c ∷ []) ++ inTime e (o .intake) (o .buffers) cs
 
 -- a list of chunks and replies is a cut of blocks: the list that it amounts to has a stanza of theirs to a call, and each command's replies, made while it waits,
 -- directly behind it
 pub record IsCut (e : End) (s : Session) (b : Buffers) (cs : List Piece) (xs : List Block) : Type 0 where
-  pub uncut-is : uncut e (emptied s []) b [] cs ≡ heard e (emptied s []) b (uncutCalls xs)
+  pub uncut-is : uncut e (emptied s []) b [] cs ≡ inTime e (emptied s []) b (uncutCalls xs)
   pub none-held-up : NoneHeldUp (numbers e (emptied s []) b cs)
   pub none-behind : NoneBehind e (emptied s []) b cs
 
@@ -52,7 +52,7 @@ endOf two-part = client
 
 -- a phase that is received with a stanza to a call, where no call is refused with 14 or 15 and none is made in a session that has ended
 pub record OneByOne (part : Part) (x : one-call.State) (p : Phase) : Type 0 where
-  pub none-held-up : NoneHeldUp (one-call.numbers (x .session) (x .buffers) (callsOf part rooms (blocksOf p)))
+  pub none-held-up : NoneHeldUp (one-call.numbers (x .session) (x .buffers) (callsOf part amples (blocksOf p)))
   pub none-behind : NoneBehind (endOf part) (emptied (x .session) []) (x .buffers) (uncutCalls (blocksOf p))
 
 -- every call of a list is accepted, from a session with nothing kept

@@ -42,17 +42,17 @@ turnAt plugin Ended = drops 13
 turnAt plugin Closed = drops 13
 
 -- an output buffer that is long enough for what one stanza is answered with, or for its body
-unfoldable pub room : List ℕ
-room = replicate 8192 0
+unfoldable pub ample : List ℕ
+ample = replicate 8192 0
 
 -- the call that takes one whole stanza: the client's commands come in phase two; the plugin's commands in phase one, its responses in phase two
 abbrev pub stanzaCall : End → Phase → List ℕ → Call
-stanzaCall client p t = receive-two t room
+stanzaCall client p t = receive-two t ample
 stanzaCall plugin One t = receive t
-stanzaCall plugin Two t = respond t room
-stanzaCall plugin (Awaiting w) t = respond t room
-stanzaCall plugin Ended t = respond t room
-stanzaCall plugin Closed t = respond t room
+stanzaCall plugin Two t = respond t ample
+stanzaCall plugin (Awaiting w) t = respond t ample
+stanzaCall plugin Ended t = respond t ample
+stanzaCall plugin Closed t = respond t ample
 
 -- the text that waits for the host's reply behind a stanza
 abbrev pub awaitedBehind : End → Phase → List ℕ → List ℕ

@@ -18,7 +18,7 @@ use Rattle.conversation.specs.Calls.{outcome, AllZero}
 use Rattle.conversation.specs.Kinds.{Buffers}
 use Rattle.conversation.specs.TurnsTwo.{answered}
 use Rattle.chunks.specs.Cutting.{Rest, unfinished, bytesOf, cut}
-use Rattle.chunks.specs.Taking.{End, client, plugin, Turn, reads, drops, keeps-back, turnAt, room, stanzaCall, Intake, emptied, joined}
+use Rattle.chunks.specs.Taking.{End, client, plugin, Turn, reads, drops, keeps-back, turnAt, ample, stanzaCall, Intake, emptied, joined}
 use Rattle.chunks.specs.Chunks.{Outcome, untaken, chunked, replied}
 
 -- ---- lists of calls
@@ -112,7 +112,7 @@ parted e s b (t ∷ ts) r =
 
 -- a stanza in a chunk of its own
 abbrev pub alone : List ℕ → Piece
-alone t = chunk t room
+alone t = chunk t ample
 
 -- each stanza of a text in a chunk of its own, "a last unfinished or impossible rest in one more"
 abbrev pub singles : List ℕ → List Piece
@@ -159,7 +159,7 @@ uncut e i b left (reply r body out ∷ cs) =
     let o = outcomeOf e i b (reply r body out) in
     let p = partedBack i b in
     pick (isWaiting e (i .session .phase))
-    (reply r body room ∷ pick (isUnfit o) (uncut e (o .intake) (o .buffers) left cs) (map alone (p .received) ++ uncut e (o .intake) (o .buffers) (p .left) cs))
+    (reply r body ample ∷ pick (isUnfit o) (uncut e (o .intake) (o .buffers) left cs) (map alone (p .received) ++ uncut e (o .intake) (o .buffers) (p .left) cs))
     (uncut e (o .intake) (o .buffers) left cs)
 
 -- ---- that a list is uncut
@@ -208,7 +208,7 @@ keptBack e i = pick (isWaiting e (i .session .phase)) (i .kept) []
 
 -- a chunk is one whole stanza, with room for its answer; or it holds none and is the last call
 abbrev pub IsSingle : List ℕ → List ℕ → List Piece → Type 0
-IsSingle t out cs = (out ≡ room) × ((cut start [] t ≡ record { texts = t ∷ []; rest = unfinished start [] }) ⊎ ((cut start [] t .texts ≡ []) × (cs ≡ [])))
+IsSingle t out cs = (out ≡ ample) × ((cut start [] t ≡ record { texts = t ∷ []; rest = unfinished start [] }) ⊎ ((cut start [] t .texts ≡ []) × (cs ≡ [])))
 
 -- every chunk of a list
 unfoldable pub AreSingle : List Piece → Type 0

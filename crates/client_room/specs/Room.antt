@@ -8,7 +8,7 @@ use Rattle.refusal.specs.Pick.{pick}
 use Rattle.session.specs.Session.{Session}
 use Rattle.conversation.specs.Calls.{receive-two, outcome}
 use Rattle.conversation.specs.Kinds.{Buffers}
-use Rattle.chunks.specs.Taking.{client, Turn, reads, drops, keeps-back, room, awaitedBehind, Taken, lastIn, noMore, emptied, oneMore, takenText}
+use Rattle.chunks.specs.Taking.{client, Turn, reads, drops, keeps-back, ample, awaitedBehind, Taken, lastIn, noMore, emptied, oneMore, takenText}
 
 -- what is written has room in n bytes, and what is kept in 8,192: `isHeld` by the output buffer's length
 abbrev pub hasRoom : Taken → ℕ → Bool
@@ -23,7 +23,7 @@ isKeepable keeps-back n = leb n 8192
 -- a text that is taken as one stanza, and the text behind it
 abbrev pub stanzaAhead : Session → Buffers → List ℕ → List ℕ → Taken
 stanzaAhead s b t x =
-    let o = outcome s b (receive-two t room) in
+    let o = outcome s b (receive-two t ample) in
     pick (eqb (o .number) 0)
     (oneMore (lastIn (o .given)) (take (o .size) (o .output)) (takenText client (o .session) (o .buffers) (awaitedBehind client (o .session .phase) t) x))
     (noMore (o .number) (emptied (o .session) []) b)

@@ -10,7 +10,7 @@ use Rattle.session.specs.Session.{Session}
 use Rattle.conversation.specs.CommandsTwo.{CommandTwo, wordOf}
 use Rattle.conversation.specs.PhaseTwo.{BuffersTwo}
 use Rattle.conversation.specs.ReceivingTwo.{Taking, took, declined, receivedStanza}
-use Rattle.chunks.specs.Taking.{Turn, reads, drops, keeps-back, room}
+use Rattle.chunks.specs.Taking.{Turn, reads, drops, keeps-back, ample}
 use Rattle.client_room.specs.declared.stanzas.Taking.{Taking as CodeTaking}
 use Rattle.client_room.specs.declared.stanzas.Taking.the-variants as the
 
@@ -31,5 +31,5 @@ nextIn keeps-back text = refused 2
 
 -- the answer and the session of a whole stanza of k bytes that has room
 pub record Tried (s : Session) (b : BuffersTwo) (line body : List ℕ) (k : ℕ) (answer : Taking) (after : Session) : Type 0 where
-  pub answer-is : answer ≡ receivedStanza s b room line body k .answer
-  pub session-is : after ≡ receivedStanza s b room line body k .session
+  pub answer-is : answer ≡ receivedStanza s b ample line body k .answer
+  pub session-is : after ≡ receivedStanza s b ample line body k .session

@@ -69,14 +69,14 @@ use Rattle.conversation.specs.WrittenRead.{OneReadsBack, TwoReadsBack, Response
 use Rattle.conversation.specs.Replying.{numberReplied}
 use Rattle.conversation.specs.TurnsTwo.{undue, dueIn, answered as behindReply}
 use Rattle.conversation.specs.WrittenRead.{ReadsBack}
-use Rattle.chunks.specs.Taking.{End, client, plugin, room, Intake, no-stanza, emptied, joined}
+use Rattle.chunks.specs.Taking.{End, client, plugin, ample, Intake, no-stanza, emptied, joined}
 use Rattle.chunks.specs.Chunks.{RestStays, untaken, isHeld, taken, turnOf, chunked, replyAhead, takenBack, repliedBy, replied, finished}
 use Rattle.chunks.specs.Uncut as chunk-lists
 use Rattle.chunks.specs.Uncut.{Piece, isClosed, NoneHeldUp, isWaiting, alone, partedChunk, partedBack, uncut, textIn, stanzasIn, IsUncut, SameRun, Together, Prefix}
 use Rattle.chunks.specs.Calls as chunk-calls
 use Rattle.chunks.specs.Calls.{callsFor, lastFrom, AsCalls}
 use Rattle.chunks.specs.Reached.{AnyCall, sends-one, Has, intakeAfter, AnyWith, intakeAfterAll, Bounded, isIdle}
-use Rattle.chunks.specs.Orders.{uncutCalls, rooms, IsCut, endOf, OneByOne, AllTaken, SameCuts}
+use Rattle.chunks.specs.Orders.{uncutCalls, amples, IsCut, endOf, OneByOne, AllTaken, SameCuts}
 use Rattle.chunks.specs.AnyCalls.{afterAny, numbersAny, InTurn, callsAll, ComesTo}
 use Rattle.chunks.specs.Sent.{sentAny, OfBytes, textSent, stanzasSent, textsSent}
 use Rattle.refusal.proofs.Laws.Output as outputs
@@ -176,7 +176,7 @@ demand-1-chunk-turn = prefixes.prefix-turn
 
 -- a reply that is taken stands, and behind it the stanzas that were kept back, as far as the fault
 pub demand-1-reply : (i : Intake) (b : Buffers) (r : Response) (body out : List ℕ) (w : WordTwo) → let o = replied i b r body out in i .session .phase ≡ Awaiting w → numberReplied w r body ≡ 0 →
-    (o .number ≡ 0 → ⊥) → (o .number ≡ 15 → ⊥) → Prefix client i b (i .kept) o (chunk-lists.reply r body room ∷ map alone (take (o .count) (partedBack i b .received)))
+    (o .number ≡ 0 → ⊥) → (o .number ≡ 15 → ⊥) → Prefix client i b (i .kept) o (chunk-lists.reply r body ample ∷ map alone (take (o .count) (partedBack i b .received)))
 demand-1-reply = prefixes.prefix-reply
 
 -- .. 12 and 17 leave the command waiting and the kept-back bytes; 13 and 14, where none waits, leave everything
@@ -652,7 +652,7 @@ demand-3-itself part x p st ph h = itself.blocks-cut part (x .session) (x .buffe
 -- .. and demand 3 of two such lists follows from it
 pub demand-3-stanzas : (part : Part) (x y : State) → Starts part (x .session) → Starts part (y .session) → SameStart part x y → (p q : Phase) → IsPhase part p → IsPhase part q →
     Rearranged part (x .session .machine) (x .session .name) p q → OneByOne part x p → OneByOne part y q →
-    let cs = callsOf part rooms (blocksOf p) in let ds = callsOf part rooms (blocksOf q) in (Accepted (x .session) (x .buffers) cs ↔ Accepted (y .session) (y .buffers) ds)
+    let cs = callsOf part amples (blocksOf p) in let ds = callsOf part amples (blocksOf q) in (Accepted (x .session) (x .buffers) cs ↔ Accepted (y .session) (y .buffers) ds)
     × (Accepted (x .session) (x .buffers) cs → SameTables (after (x .session) (x .buffers) cs) (after (y .session) (y .buffers) ds))
 demand-3-stanzas = itself.order-of-stanzas
 

@@ -30,7 +30,7 @@ use Rattle.conversation.proofs.Laws.Runs.{after-append}
 use Rattle.conversation.proofs.Laws.StepsTwo.{all-written}
 use Rattle.conversation.proofs.Laws.Tables.{tables-opened}
 use Rattle.chunks.specs.Cutting.{Rest, unfinished, impossible, bytesOf, cut}
-use Rattle.chunks.specs.Taking.{End, client, plugin, Turn, reads, drops, keeps-back, turnAt, room, stanzaCall, awaitedBehind, Intake, Taken, lastIn, noMore, emptied, oneMore, joined, takenRest, takenBy, takenAll}
+use Rattle.chunks.specs.Taking.{End, client, plugin, Turn, reads, drops, keeps-back, turnAt, ample, stanzaCall, awaitedBehind, Intake, Taken, lastIn, noMore, emptied, oneMore, joined, takenRest, takenBy, takenAll}
 use Rattle.chunks.specs.Chunks.{Outcome, isHeld, taken, turnOf, chunked, takenBack, replied}
 use Rattle.chunks.specs.Uncut.{chunk, reply, State, isUnfit}
 use Rattle.chunks.specs.Reached.{AnyCall, piece, sends-one, sends-two, finishes, Has, intakeAfter}
@@ -177,7 +177,7 @@ chunk-as e i b bytes out k =
 reply-as : (i : Intake) (b : Buffers) (r : Response) (body out : List ℕ) → CallAs (i .session) b (replied i b r body out) (callsIn client i b (piece (reply r body out)))
 reply-as i b r body out =
     let c = cut start [] (i .kept) in
-    let ds = one-call.reply r body room ∷ stanzaCalls client (answered (i .session)) b (c .texts) (c .rest) in
+    let ds = one-call.reply r body ample ∷ stanzaCalls client (answered (i .session)) b (c .texts) (c .rest) in
     reply-cases (λ o. CallAs (i .session) b o (pick (isUnfit o) [] ds)) i b r body out
     (λ w q t h. rw (ne-eqb (length (text ++ takenBack i b .written)) 0 (λ z. omega arith)) (held-as (i .session) b out (answering i b r body) ds h (behind w q t)))
     (λ w q t h. as-none (i .session) b) (λ n h. as-none (i .session) b)
@@ -186,7 +186,7 @@ reply-as i b r body out =
     text = stanzaText (responseLine r) body
 
     back : Call
-    back = one-call.reply r body room
+    back = one-call.reply r body ample
 
     behind : (w : WordTwo) → i .session .phase ≡ Awaiting w → numberReplied w r body ≡ 0 →
         TakenAs (i .session) b (answering i b r body) (back ∷ stanzaCalls client (answered (i .session)) b (cut start [] (i .kept) .texts) (cut start [] (i .kept) .rest))
@@ -194,12 +194,12 @@ reply-as i b r body out =
         let s = i .session in
         let c = cut start [] (i .kept) in
         let x = takenBack i b in
-        let a = reply-single s [] b r body room in
+        let a = reply-single s [] b r body ample in
         let h = reply-alone s [] b r body w q t in
         let session : answered s ≡ outcome s b back .session = sym (ap (λ (o : Outcome). o .intake .session) h) ∙ ap (λ (i : Intake). i .session) (a .intake) in
         let buffers : b ≡ outcome s b back .buffers = sym (ap (λ (o : Outcome). o .buffers) h) ∙ a .buffers in
         let written : writtenBy s b back ≡ text =
-        sym (a .written) ∙ ap (λ (o : Outcome). take (o .size) (o .output)) h ∙ all-written (text ++ []) room (room-fits (text ++ []) (reply-room w r body t)) ∙ append-nil text in
+        sym (a .written) ∙ ap (λ (o : Outcome). take (o .size) (o .output)) h ∙ all-written (text ++ []) ample (room-fits (text ++ []) (reply-room w r body t)) ∙ append-nil text in
         let ds = stanzaCalls client (answered s) b (c .texts) (c .rest) in
         let m = taken-as (c .texts) client (answered s) b [] (c .rest) (cut-parts (i .kept) start [] none-front .rest) in
         subst (λ v. As s b (x .intake .session) (x .buffers) (v ++ x .written) (back ∷ ds)) written

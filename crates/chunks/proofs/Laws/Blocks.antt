@@ -16,8 +16,8 @@ use Rattle.conversation.specs.Kinds.{Buffers}
 use Rattle.conversation.proofs.Laws.Accepted.{accepted}
 use Rattle.conversation.proofs.Laws.Refusals.{refusal}
 use Rattle.conversation.specs.Phases.{lineIn, bodyIn, All, Whole, Part, one-part, two-part, Reply, Block, Quiet, replyCalls, blockCalls, callsOf}
-use Rattle.chunks.specs.Taking.{End, client, plugin, room, Intake, emptied, joined}
-use Rattle.chunks.specs.Orders.{replyAlone, uncutCalls, endOf, rooms}
+use Rattle.chunks.specs.Taking.{End, client, plugin, ample, Intake, emptied, joined}
+use Rattle.chunks.specs.Orders.{replyAlone, uncutCalls, endOf, amples}
 use Rattle.chunks.specs.Uncut as pieces
 use Rattle.chunks.specs.Uncut.{Piece, outcomeOf, alone, isWaiting}
 use Rattle.chunks.proofs.Laws.Stanzas.{after-undue}
@@ -75,16 +75,16 @@ matched-same e Inv (p ∷ ps) (c ∷ cs) m s a b k =
 abbrev pub Any : Session → Type 0
 Any s = Unit
 
-replies-match : (rs : List Reply) → Matched client Any (map replyAlone rs) (replyCalls rooms rs)
+replies-match : (rs : List Reply) → Matched client Any (map replyAlone rs) (replyCalls amples rs)
 unfolding Matched replyCalls
 replies-match [] = tt
-replies-match (r ∷ rs) = (λ s a b k. (reply-single s a b (r .response) (r .body) room, tt), replies-match rs)
+replies-match (r ∷ rs) = (λ s a b k. (reply-single s a b (r .response) (r .body) ample, tt), replies-match rs)
 
-client-match : (xs : List Block) → All (λ x. Whole (x .text)) xs → Matched client Any (uncutCalls xs) (callsOf two-part rooms xs)
+client-match : (xs : List Block) → All (λ x. Whole (x .text)) xs → Matched client Any (uncutCalls xs) (callsOf two-part amples xs)
 unfolding Matched All uncutCalls callsOf
 client-match [] w = tt
 client-match (x ∷ xs) w =
-    matched-append client Any (alone (x .text) ∷ map replyAlone (x .replies)) (uncutCalls xs) (blockCalls two-part rooms x) (callsOf two-part rooms xs)
+    matched-append client Any (alone (x .text) ∷ map replyAlone (x .replies)) (uncutCalls xs) (blockCalls two-part amples x) (callsOf two-part amples xs)
     (λ s a b k. (chunk-client s a b (x .text) (w .0), tt), replies-match (x .replies)) (client-match xs (w .1))
 
 -- the plugin's, where no response is due: none is behind a command of phase one
@@ -101,12 +101,12 @@ received-undue s b t k =
     left true = refl
     left false = k
 
-plugin-match : (xs : List Block) → All (λ x. Whole (x .text)) xs → All (Quiet one-part) xs → Matched plugin Undue (uncutCalls xs) (callsOf one-part rooms xs)
+plugin-match : (xs : List Block) → All (λ x. Whole (x .text)) xs → All (Quiet one-part) xs → Matched plugin Undue (uncutCalls xs) (callsOf one-part amples xs)
 unfolding Matched All uncutCalls callsOf replyCalls
 plugin-match [] w q = tt
 plugin-match (x ∷ xs) w q =
-    matched-append plugin Undue (alone (x .text) ∷ map replyAlone (x .replies)) (uncutCalls xs) (blockCalls one-part rooms x) (callsOf one-part rooms xs)
-    (λ s a b k. (chunk-plugin s a b (x .text) (w .0) k, received-undue s b (x .text) k), subst (λ rs. Matched plugin Undue (map replyAlone rs) (replyCalls rooms rs)) (sym (q .0)) tt) (plugin-match xs (w .1) (q .1))
+    matched-append plugin Undue (alone (x .text) ∷ map replyAlone (x .replies)) (uncutCalls xs) (blockCalls one-part amples x) (callsOf one-part amples xs)
+    (λ s a b k. (chunk-plugin s a b (x .text) (w .0) k, received-undue s b (x .text) k), subst (λ rs. Matched plugin Undue (map replyAlone rs) (replyCalls amples rs)) (sym (q .0)) tt) (plugin-match xs (w .1) (q .1))
 
 -- the session may receive the phase: at the plugin end no response is due
 abbrev pub Ready : Part → Session → Type 0
@@ -114,6 +114,6 @@ Ready one-part s = Undue s
 Ready two-part s = Unit
 
 -- a phase's blocks run as the calls of one stanza do
-pub blocks-same : (part : Part) (s : Session) (b : Buffers) (xs : List Block) → Ready part s → All (λ x. Whole (x .text)) xs → All (Quiet part) xs → SameAs (endOf part) (emptied s []) b s b (uncutCalls xs) (callsOf part rooms xs)
-blocks-same one-part s b xs k w q = matched-same plugin Undue (uncutCalls xs) (callsOf one-part rooms xs) (plugin-match xs w q) s [] b k
-blocks-same two-part s b xs k w q = matched-same client Any (uncutCalls xs) (callsOf two-part rooms xs) (client-match xs w) s [] b k
+pub blocks-same : (part : Part) (s : Session) (b : Buffers) (xs : List Block) → Ready part s → All (λ x. Whole (x .text)) xs → All (Quiet part) xs → SameAs (endOf part) (emptied s []) b s b (uncutCalls xs) (callsOf part amples xs)
+blocks-same one-part s b xs k w q = matched-same plugin Undue (uncutCalls xs) (callsOf one-part amples xs) (plugin-match xs w q) s [] b k
+blocks-same two-part s b xs k w q = matched-same client Any (uncutCalls xs) (callsOf two-part amples xs) (client-match xs w) s [] b k

@@ -38,7 +38,7 @@ use Rattle.conversation.proofs.Laws.NumberParts.{asRead, decidedTwo, atOnceText
 use Rattle.conversation.proofs.Laws.Refusals.{either, refusal}
 use Rattle.conversation.proofs.Laws.WrittenRead.{at-once-text}
 use Rattle.chunks.specs.Cutting.{Rest, unfinished, impossible, bytesOf, cut}
-use Rattle.chunks.specs.Taking.{End, client, plugin, Turn, reads, drops, keeps-back, turnAt, room, stanzaCall, awaitedBehind, Taken, noMore, emptied, joined, takenRest, takenAll, takenText}
+use Rattle.chunks.specs.Taking.{End, client, plugin, Turn, reads, drops, keeps-back, turnAt, ample, stanzaCall, awaitedBehind, Taken, noMore, emptied, joined, takenRest, takenAll, takenText}
 use Rattle.chunks.proofs.Laws.Cases.{stanza-cases}
 use Rattle.chunks.proofs.Laws.Cutting.{cut-joined}
 use Rattle.chunks.proofs.Laws.Numbers.{at-once-short}
@@ -92,15 +92,15 @@ all-written : (ts : List (List ℕ)) (s : Session) (b : Buffers) (a : List ℕ) 
 unfolding takenAll joined
 all-written [] s b a r = rw (rest-written (turnAt client (s .phase)) s b a r) (omega arith)
 all-written (t ∷ ts) s b a r =
-    let c = receive-two t room in
+    let c = receive-two t ample in
     let o = outcome s b c in
     let more = takenAll client (o .session) (o .buffers) (awaitedBehind client (o .session .phase) t) ts r in
     stanza-cases (λ x. 6 * length (x .written) ≤ 16 * length (t ++ joined ts (bytesOf r))) client s b a t ts r
     (λ q z. omega (
       arith,
       all-written ts (o .session) (o .buffers) (awaitedBehind client (o .session .phase) t) r,
-      accepted-long s b t room z,
-      answer-short s b t room,
+      accepted-long s b t ample z,
+      answer-short s b t ample,
       length-append (writtenBy s b c) (more .written),
       length-append t (joined ts (bytesOf r)),
     ))

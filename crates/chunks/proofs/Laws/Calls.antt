@@ -34,7 +34,7 @@ use Rattle.conversation.proofs.Laws.Refusals.{either, refusal}
 use Rattle.conversation.proofs.Laws.Runs.{after-append}
 use Rattle.conversation.proofs.Laws.Tables.{tables-after, tables-opened}
 use Rattle.chunks.specs.Cutting.{Rest, unfinished, impossible, bytesOf, Cut, cut}
-use Rattle.chunks.specs.Taking.{End, client, plugin, Turn, reads, drops, keeps-back, turnAt, room, stanzaCall, Intake, Taken, noMore, emptied, keeping, joined, takenRest, takenAll}
+use Rattle.chunks.specs.Taking.{End, client, plugin, Turn, reads, drops, keeps-back, turnAt, ample, stanzaCall, Intake, Taken, noMore, emptied, keeping, joined, takenRest, takenAll}
 use Rattle.chunks.specs.Chunks.{Outcome, turnOf, chunked}
 use Rattle.chunks.specs.Uncut as pieces
 use Rattle.chunks.specs.Uncut.{Piece, chunk, reply, outcomeOf, isClosed, NoneHeldUp, alone, uncut, AreSingle}
@@ -88,20 +88,20 @@ refused-leaves e p s b t n q h =
 
 module _ (s : Session) (b : Buffers) (t : List ℕ) where
   abbrev late-two : ℕ
-  late-two = asRead (readFirst t) (firstOf (decidedTwo s b false (lineIn t) (bodyIn t)) (shortness (atOnceText s b (lineIn t) (bodyIn t)) room))
+  late-two = asRead (readFirst t) (firstOf (decidedTwo s b false (lineIn t) (bodyIn t)) (shortness (atOnceText s b (lineIn t) (bodyIn t)) ample))
 
   abbrev late-answer : WordTwo → ℕ
-  late-answer w = asRead (readFirst t) (firstOf (unfitness s b w (responseOf (lineIn t)) (bodyIn t)) (shortness (bodyIn t) room))
+  late-answer w = asRead (readFirst t) (firstOf (unfitness s b w (responseOf (lineIn t)) (bodyIn t)) (shortness (bodyIn t) ample))
 
   -- No. 13 and 14 close no session
   number-leaves : (e : End) (p : Phase) (n : ℕ) → outcome s b (stanzaCall e p t) .number ≡ n → (n ≡ 0 → ⊥) → closes n ≡ false → Leaves s b (stanzaCall e p t)
   number-leaves e p n q h k = let z = refused-leaves e p s b t n q h in (z .0 ∙ ap (λ f. pick f (closed s) s) k, z .1, z .2)
 
-  client-number : (p : Phase) → s .phase ≡ p → outcome s b (receive-two t room) .number ≡ firstOf (turnTwo p) late-two
-  client-number p q = given-receive-two s b t room ∙ ap (λ p. firstOf (turnTwo p) late-two) q
+  client-number : (p : Phase) → s .phase ≡ p → outcome s b (receive-two t ample) .number ≡ firstOf (turnTwo p) late-two
+  client-number p q = given-receive-two s b t ample ∙ ap (λ p. firstOf (turnTwo p) late-two) q
 
-  answer-number : (p : Phase) → s .phase ≡ p → outcome s b (respond t room) .number ≡ byDue s b (dueIn p) late-answer
-  answer-number p q = given-respond s b t room ∙ ap (λ p. byDue s b (dueIn p) late-answer) q
+  answer-number : (p : Phase) → s .phase ≡ p → outcome s b (respond t ample) .number ≡ byDue s b (dueIn p) late-answer
+  answer-number p q = given-respond s b t ample ∙ ap (λ p. byDue s b (dueIn p) late-answer) q
 
   -- the call of a stanza out of turn
   stanza-leaves : (e : End) (p : Phase) → s .phase ≡ p → (turnAt e p ≡ reads → ⊥) → Leaves s b (stanzaCall e p t)
@@ -119,7 +119,7 @@ module _ (s : Session) (b : Buffers) (t : List ℕ) where
   -- .. in turn, of a text that is no stanza
   stanza-unread : (e : End) (p : Phase) → s .phase ≡ p → turnAt e p ≡ reads → (m : ℕ) → readFirst t ≡ refused m → outcome s b (stanzaCall e p t) .number ≡ m
   stanza-unread client One q h m r = absurd (drops-not-reads 14 h)
-  stanza-unread client Two q h m r = client-number Two q ∙ ap (λ r. asRead r (firstOf (decidedTwo s b false (lineIn t) (bodyIn t)) (shortness (atOnceText s b (lineIn t) (bodyIn t)) room))) r
+  stanza-unread client Two q h m r = client-number Two q ∙ ap (λ r. asRead r (firstOf (decidedTwo s b false (lineIn t) (bodyIn t)) (shortness (atOnceText s b (lineIn t) (bodyIn t)) ample))) r
   stanza-unread client (Awaiting w) q h m r = absurd (keeps-not-reads h)
   stanza-unread client Ended q h m r = absurd (drops-not-reads 13 h)
   stanza-unread client Closed q h m r = absurd (drops-not-reads 13 h)
@@ -127,7 +127,7 @@ module _ (s : Session) (b : Buffers) (t : List ℕ) where
       let late = firstOf (decidedOne s b (lineIn t) (bodyIn t)) 0 in
       given-receive s b t ∙ ap (λ p. firstOf (turnOne p) (asRead (readFirst t) late)) q ∙ ap (λ r. asRead r late) r
   stanza-unread plugin Two q h m r = absurd (drops-not-reads 14 h)
-  stanza-unread plugin (Awaiting w) q h m r = answer-number (Awaiting w) q ∙ ap (λ r. asRead r (firstOf (unfitness s b w (responseOf (lineIn t)) (bodyIn t)) (shortness (bodyIn t) room))) r
+  stanza-unread plugin (Awaiting w) q h m r = answer-number (Awaiting w) q ∙ ap (λ r. asRead r (firstOf (unfitness s b w (responseOf (lineIn t)) (bodyIn t)) (shortness (bodyIn t) ample))) r
   stanza-unread plugin Ended q h m r = absurd (drops-not-reads 13 h)
   stanza-unread plugin Closed q h m r = absurd (drops-not-reads 13 h)
 
@@ -158,9 +158,9 @@ chunk-stays e s a b t out h =
     (z .0, z .1, ap (λ w. take (length w) (filled w out)) (z .2)))
     (λ n k. (refl, refl, refl)) (λ n q k. (refl, refl, refl))
 
-out-of-turn-goes : (e : End) (s : Session) (a : List ℕ) (b : Buffers) (t : List ℕ) → (turnAt e (s .phase) ≡ reads → ⊥) → Goes (outcome s b (stanzaCall e (s .phase) t)) (chunked e (emptied s a) b t room)
+out-of-turn-goes : (e : End) (s : Session) (a : List ℕ) (b : Buffers) (t : List ℕ) → (turnAt e (s .phase) ≡ reads → ⊥) → Goes (outcome s b (stanzaCall e (s .phase) t)) (chunked e (emptied s a) b t ample)
 out-of-turn-goes e s a b t h =
-    let k = chunk-stays e s a b t room h in
+    let k = chunk-stays e s a b t ample h in
     let z = stanza-leaves s b t e (s .phase) refl h in
     record {
       does = record { session = ap (λ (i : Intake). i .session) (k .0) ∙ sym (z .0); buffers = k .1 ∙ sym (z .1); written = k .2 ∙ sym (z .2) };
@@ -177,43 +177,43 @@ by-turn e p = go (turnAt e p)
 
 -- ---- a whole stanza in a chunk of its own
 
-whole-goes : (e : End) (s : Session) (a : List ℕ) (b : Buffers) (t : List ℕ) → Whole t → Goes (outcome s b (stanzaCall e (s .phase) t)) (chunked e (emptied s a) b t room)
+whole-goes : (e : End) (s : Session) (a : List ℕ) (b : Buffers) (t : List ℕ) → Whole t → Goes (outcome s b (stanzaCall e (s .phase) t)) (chunked e (emptied s a) b t ample)
 whole-goes e s a b t w =
-    ⊎-elim (λ h. alike-goes (outcome s b (stanzaCall e (s .phase) t)) (chunked e (emptied s a) b t room) (chunk-single s a b t w e h)) (λ h. out-of-turn-goes e s a b t h) (by-turn e (s .phase))
+    ⊎-elim (λ h. alike-goes (outcome s b (stanzaCall e (s .phase) t)) (chunked e (emptied s a) b t ample) (chunk-single s a b t w e h)) (λ h. out-of-turn-goes e s a b t h) (by-turn e (s .phase))
 
 -- ---- a rest that holds no stanza
 
 module _ (e : End) (s : Session) (a : List ℕ) (b : Buffers) (t : List ℕ) (turn : turnAt e (s .phase) ≡ reads) where
   -- what it comes to, by what it is read as
-  rest-does : (m : ℕ) (q : Taken) → readFirst t ≡ refused m → (m ≡ 0 → ⊥) → outcomeOf e (emptied s a) b (alone t) ≡ held room q → q .written ≡ [] → q .intake .session ≡ pick (closes m) (closed s) s → q .buffers ≡ b →
-      Does (outcome s b (stanzaCall e (s .phase) t)) (chunked e (emptied s a) b t room)
+  rest-does : (m : ℕ) (q : Taken) → readFirst t ≡ refused m → (m ≡ 0 → ⊥) → outcomeOf e (emptied s a) b (alone t) ≡ held ample q → q .written ≡ [] → q .intake .session ≡ pick (closes m) (closed s) s → q .buffers ≡ b →
+      Does (outcome s b (stanzaCall e (s .phase) t)) (chunked e (emptied s a) b t ample)
   rest-does m q r n o w k v =
       let z = refused-leaves e (s .phase) s b t m (stanza-unread s b t e (s .phase) refl turn m r) n in
       subst (Does (outcome s b (stanzaCall e (s .phase) t))) (sym o)
-      (record { session = k ∙ sym (z .0); buffers = v ∙ sym (z .1); written = ap (λ w. take (length w) (filled w room)) w ∙ sym (z .2) })
+      (record { session = k ∙ sym (z .0); buffers = v ∙ sym (z .1); written = ap (λ w. take (length w) (filled w ample)) w ∙ sym (z .2) })
 
-  impossible-does : (m : ℕ) → readFirst t ≡ refused m → closes m ≡ true → (m ≡ 0 → ⊥) → cut start [] t ≡ record { texts = []; rest = impossible m t } → Does (outcome s b (stanzaCall e (s .phase) t)) (chunked e (emptied s a) b t room)
+  impossible-does : (m : ℕ) → readFirst t ≡ refused m → closes m ≡ true → (m ≡ 0 → ⊥) → cut start [] t ≡ record { texts = []; rest = impossible m t } → Does (outcome s b (stanzaCall e (s .phase) t)) (chunked e (emptied s a) b t ample)
   impossible-does m r c n h =
       let q = noMore m (emptied (closed s) []) b in
       rest-does m q r n (last-held e 0 s a b t (impossible m t) q turn h refl refl (omega arith)) refl (sym (ap (λ f. pick f (closed s) s) c)) refl
 
-  unfinished-does : readFirst t ≡ refused 2 → cut start [] t .texts ≡ [] → Does (outcome s b (stanzaCall e (s .phase) t)) (chunked e (emptied s a) b t room)
+  unfinished-does : readFirst t ≡ refused 2 → cut start [] t .texts ≡ [] → Does (outcome s b (stanzaCall e (s .phase) t)) (chunked e (emptied s a) b t ample)
   unfinished-does r h =
       let k = cut-unfinished t r in
       let f = subst (λ (c : Cut). IsRest (c .rest)) k (cut-parts t start [] none-front .rest) in
       let q = noMore 0 (keeping s (automaton.after start t) t a) b in
       rest-does 2 q r (λ z. omega arith) (last-held e 0 s a b t (unfinished (automaton.after start t) t) q turn k refl refl (omega (arith, f .short))) refl refl refl
 
-  no-stanza-does : cut start [] t .texts ≡ [] → Does (outcome s b (stanzaCall e (s .phase) t)) (chunked e (emptied s a) b t room)
+  no-stanza-does : cut start [] t .texts ≡ [] → Does (outcome s b (stanzaCall e (s .phase) t)) (chunked e (emptied s a) b t ample)
   no-stanza-does h = go (readFirst t) refl
     where
-      go : (q : Reading) → readFirst t ≡ q → Does (outcome s b (stanzaCall e (s .phase) t)) (chunked e (emptied s a) b t room)
+      go : (q : Reading) → readFirst t ≡ q → Does (outcome s b (stanzaCall e (s .phase) t)) (chunked e (emptied s a) b t ample)
       go (stanza l n k) r = let x = sym (ap (λ (c : Cut). c .texts) (cut-stanza t l n k r)) ∙ h in let z : _≡_ {A = ℕ} 0 1 = cc in absurd (omega arith)
       go (refused m) r =
-          read-number (λ m. readFirst t ≡ refused m → Does (outcome s b (stanzaCall e (s .phase) t)) (chunked e (emptied s a) b t room))
+          read-number (λ m. readFirst t ≡ refused m → Does (outcome s b (stanzaCall e (s .phase) t)) (chunked e (emptied s a) b t ample))
           (λ r. impossible-does 1 r refl (λ z. omega arith) (cut-fault t r)) (λ r. unfinished-does r h) (λ r. impossible-does 3 r refl (λ z. omega arith) (cut-overlong t r)) t m r r
 
-pub last-does : (e : End) (s : Session) (a : List ℕ) (b : Buffers) (t : List ℕ) → cut start [] t .texts ≡ [] → Does (outcome s b (stanzaCall e (s .phase) t)) (chunked e (emptied s a) b t room)
+pub last-does : (e : End) (s : Session) (a : List ℕ) (b : Buffers) (t : List ℕ) → cut start [] t .texts ≡ [] → Does (outcome s b (stanzaCall e (s .phase) t)) (chunked e (emptied s a) b t ample)
 last-does e s a b t h = ⊎-elim (λ turn. no-stanza-does e s a b t turn h) (λ turn. out-of-turn-goes e s a b t turn .does) (by-turn e (s .phase))
 
 -- ---- lists

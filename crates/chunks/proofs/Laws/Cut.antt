@@ -27,7 +27,7 @@ use Rattle.conversation.specs.Phases.{All}
 use Rattle.conversation.specs.Replying.{numberReplied}
 use Rattle.conversation.specs.TurnsTwo.{undue, dueIn, answered}
 use Rattle.chunks.specs.Cutting.{Rest, unfinished, impossible, bytesOf, cut}
-use Rattle.chunks.specs.Taking.{joined, End, client, plugin, Turn, reads, drops, keeps-back, turnAt, room, stanzaCall, Intake, Taken, noMore, emptied, keeping, takenRest, takenAll}
+use Rattle.chunks.specs.Taking.{joined, End, client, plugin, Turn, reads, drops, keeps-back, turnAt, ample, stanzaCall, Intake, Taken, noMore, emptied, keeping, takenRest, takenAll}
 use Rattle.chunks.specs.Chunks.{Outcome, untaken, judged, taken, turnOf, chunked, replyAhead, takenBack, repliedTo, repliedBy, replied}
 use Rattle.chunks.specs.Uncut.{Parted, Piece, chunk, reply, outcomeOf, State, after, numbers, written, isClosed, closing, NoneHeldUp, alone, singles, isOver, isWaiting, isUnfit, partedChunk, partedBack, receivedMore, partedBy, parted, uncut, isEnded, NoneBehind, SameRun, textIn, keptBack, AreSingle, IsUncut, HostReply, repliesBy, repliesMade, RepliesDue}
 use Rattle.chunks.specs.Reached.{IsFront}
@@ -72,7 +72,7 @@ text-append (reply r body out ∷ xs) ys = text-append xs ys
 -- whole stanzas, each in a chunk of its own, and replies
 unfoldable Wholes : List Piece → Type 0
 Wholes [] = Unit
-Wholes (chunk t out ∷ cs) = (out ≡ room) × (IsWhole t × Wholes cs)
+Wholes (chunk t out ∷ cs) = (out ≡ ample) × (IsWhole t × Wholes cs)
 Wholes (reply r body out ∷ cs) = Wholes cs
 
 single-append : (xs ys : List Piece) → Wholes xs → AreSingle ys → AreSingle (xs ++ ys)
@@ -258,7 +258,7 @@ module _ (e : End) (i : Intake) (b : Buffers) where
   -- behind the end each chunk is refused with 13
   run-over : turnOf e (i .session .phase) ≡ 13 → (ts : List (List ℕ)) → Runs e i b (map alone ts) 13 i b []
   run-over h [] = run-none e i b 13
-  run-over h (t ∷ ts) = run-join e (run-refused-13 t room h) (λ k. k) (run-over h ts)
+  run-over h (t ∷ ts) = run-join e (run-refused-13 t ample h) (λ k. k) (run-over h ts)
 
 -- ---- the end of the list
 
@@ -298,15 +298,15 @@ module _ (e : End) (n : ℕ) (s : Session) (w : List ℕ) (b : Buffers) where
 
   -- one call for a rest
   pub last-held : (x : List ℕ) (r : Rest) (q : Taken) → turnAt e (s .phase) ≡ reads → cut start [] x ≡ record { texts = []; rest = r } → takenRest reads s b w r ≡ q → q .written ≡ [] → length (q .intake .kept) ≤ 8192 →
-      outcomeOf e (emptied s w) b (alone x) ≡ held room q
+      outcomeOf e (emptied s w) b (alone x) ≡ held ample q
   unfolding takenAll
   last-held x r q t h k v l =
-      chunk-held e (emptied s w) b x room q (turn-reads e (s .phase) t) (ap (λ c. takenAll e s b w (c .texts) (c .rest)) h ∙ ap (λ u. takenRest u s b w r) t ∙ k)
-      (subst (λ x. length x ≤ length room) (sym v) (room-fits [] (omega arith))) l
+      chunk-held e (emptied s w) b x ample q (turn-reads e (s .phase) t) (ap (λ c. takenAll e s b w (c .texts) (c .rest)) h ∙ ap (λ u. takenRest u s b w r) t ∙ k)
+      (subst (λ x. length x ≤ length ample) (sym v) (room-fits [] (omega arith))) l
 
   run-last : (x : List ℕ) (r : Rest) (q : Taken) → turnAt e (s .phase) ≡ reads → cut start [] x ≡ record { texts = []; rest = r } → takenRest reads s b w r ≡ q → q .written ≡ [] → length (q .intake .kept) ≤ 8192 →
       (q .number ≡ 14 → ⊥) → (q .number ≡ 15 → ⊥) → Runs e (emptied s w) b (alone x ∷ []) (q .number) (q .intake) (q .buffers) (q .written)
-  run-last x r q t h k v l f g = run-held e (emptied s w) b (alone x) room q (last-held x r q t h k v l) (subst (λ x. length x ≤ length room) (sym v) (room-fits [] (omega arith))) f g
+  run-last x r q t h k v l f g = run-held e (emptied s w) b (alone x) ample q (last-held x r q t h k v l) (subst (λ x. length x ≤ length ample) (sym v) (room-fits [] (omega arith))) f g
 
   -- what is left in calls of its own
   end-singles : {m : ℕ} {i′ : Intake} (i : Intake) (left : List ℕ) → isWaiting e (i .session .phase) ≡ false → Runs e (emptied s w) b (singles left) m i′ b [] → i′ .session ≡ i .session → i′ .awaited ≡ i .awaited →
@@ -323,10 +323,10 @@ module _ (e : End) (n : ℕ) (s : Session) (w : List ℕ) (b : Buffers) where
   unfolding numbers AllZero
   zero-none xs h = subst (λ x. AllZero (numbers e (emptied s w) b x)) (sym h) tt
 
-  zero-one : (xs : List Piece) (x : List ℕ) (q : Taken) → xs ≡ alone x ∷ [] → outcomeOf e (emptied s w) b (alone x) ≡ held room q → AllZero (numbers e (emptied s w) b xs) ↔ (q .number ≡ 0)
+  zero-one : (xs : List Piece) (x : List ℕ) (q : Taken) → xs ≡ alone x ∷ [] → outcomeOf e (emptied s w) b (alone x) ≡ held ample q → AllZero (numbers e (emptied s w) b xs) ↔ (q .number ≡ 0)
   unfolding numbers AllZero
   zero-one xs x q h o =
-      let k = tally-one e (emptied s w) b (alone x) (held room q) o .all-zero [] in
+      let k = tally-one e (emptied s w) b (alone x) (held ample q) o .all-zero [] in
       subst (λ y. AllZero (numbers e (emptied s w) b y) ↔ (q .number ≡ 0)) (sym h) (λ z. k .0 z .0, λ z. k .1 (z, tt))
 
   end-in-turn : (q : automaton.State) (f : List ℕ) → turnAt e (s .phase) ≡ reads → IsFront q f → Follows e n s w (keeping s q f w) b f (uncut e (keeping s q f w) b f []) []
@@ -369,9 +369,9 @@ module _ (e : End) (n : ℕ) (s : Session) (w : List ℕ) (b : Buffers) where
       one (y ∷ x) (subst (λ d. AllZero (numbers e (emptied s w) b (pick d [] (alone (y ∷ x) ∷ [])))) (ne-eqb (length (y ∷ x)) 0 (λ z. omega arith)) z)
     where
       one : (x : List ℕ) → AllZero (numbers e (emptied s w) b (alone x ∷ [])) → ⊥
-      one x z = let k = tally-one e (emptied s w) b (alone x) (untaken 13 (emptied s w) b room) (chunk-refused e (emptied s w) b 13 x room t refl) .all-zero [] .0 z .0 in omega arith
+      one x z = let k = tally-one e (emptied s w) b (alone x) (untaken 13 (emptied s w) b ample) (chunk-refused e (emptied s w) b 13 x ample t refl) .all-zero [] .0 z .0 in omega arith
   none-accepted t (y ∷ ts) x h z =
-      let k = tally-one e (emptied s w) b (alone y) (untaken 13 (emptied s w) b room) (chunk-refused e (emptied s w) b 13 y room t refl) .all-zero (map alone ts ++ last x) .0 z .0 in omega arith
+      let k = tally-one e (emptied s w) b (alone y) (untaken 13 (emptied s w) b ample) (chunk-refused e (emptied s w) b 13 y ample t refl) .all-zero (map alone ts ++ last x) .0 z .0 in omega arith
 
   end-over : (left : List ℕ) → turnAt e (s .phase) ≡ drops 13 → Follows e n s w (emptied s w) b left (uncut e (emptied s w) b left []) []
   end-over left t =
@@ -385,7 +385,7 @@ module _ (e : End) (n : ℕ) (s : Session) (w : List ℕ) (b : Buffers) where
     where
       rest : (d : Bool) → Runs e (emptied s w) b (pick d [] (alone (bytesOf (cut start [] left .rest)) ∷ [])) 13 (emptied s w) b []
       rest true = run-none e (emptied s w) b 13
-      rest false = run-refused-13 e (emptied s w) b (bytesOf (cut start [] left .rest)) room (turn-says e (s .phase) .ended t .1)
+      rest false = run-refused-13 e (emptied s w) b (bytesOf (cut start [] left .rest)) ample (turn-says e (s .phase) .ended t .1)
 
   end-waiting : (left : List ℕ) → turnAt e (s .phase) ≡ keeps-back → Follows e n s w (keeping s start left w) b left (uncut e (keeping s start left w) b left []) []
   unfolding uncut AreSingle textIn
@@ -555,7 +555,7 @@ module _ (i : Intake) (b : Buffers) (r : Response) (body out : List ℕ) where
 module _ (e : End) (i : Intake) (b : Buffers) (left : List ℕ) (r : Response) (body out : List ℕ) (cs : List Piece) where
   abbrev afterReply : Outcome → List Piece
   afterReply o =
-      reply r body room ∷ pick (isUnfit o) (uncut e (o .intake) (o .buffers) left cs) (map alone (partedBack i b .received) ++ uncut e (o .intake) (o .buffers) (partedBack i b .left) cs)
+      reply r body ample ∷ pick (isUnfit o) (uncut e (o .intake) (o .buffers) left cs) (map alone (partedBack i b .received) ++ uncut e (o .intake) (o .buffers) (partedBack i b .left) cs)
 
   uncut-undue : (o : Outcome) → outcomeOf e i b (reply r body out) ≡ o → isWaiting e (i .session .phase) ≡ false → uncut e i b left (reply r body out ∷ cs) ≡ uncut e (o .intake) (o .buffers) left cs
   unfolding uncut
@@ -579,11 +579,11 @@ reply-room v r body h = subst (λ x. length x ≤ 8192) (sym (append-nil (stanza
 
 -- a reply with nothing kept back
 pub reply-alone : (s : Session) (w : List ℕ) (b : Buffers) (r : Response) (body : List ℕ) (v : WordTwo) → s .phase ≡ Awaiting v → numberReplied v r body ≡ 0 →
-    replied (emptied s w) b r body room ≡ held room (replyAhead (stanzaText (responseLine r) body) (noMore 0 (emptied (answered s) []) b))
+    replied (emptied s w) b r body ample ≡ held ample (replyAhead (stanzaText (responseLine r) body) (noMore 0 (emptied (answered s) []) b))
 unfolding takenAll cut
 reply-alone s w b r body v phase h =
     let q = replyAhead (stanzaText (responseLine r) body) (noMore 0 (emptied (answered s) []) b) in
-    reply-fit (emptied s w) b r body room v phase h ∙ judged-held (emptied s w) b room q (room-fits (stanzaText (responseLine r) body ++ []) (reply-room v r body h)) (omega arith)
+    reply-fit (emptied s w) b r body ample v phase h ∙ judged-held (emptied s w) b ample q (room-fits (stanzaText (responseLine r) body ++ []) (reply-room v r body h)) (omega arith)
 
 module _ (cs : List Piece) (go : Goes cs) (n : ℕ) (s : Session) (w : List ℕ) (b : Buffers) (r : Response) (body out : List ℕ) where
   abbrev text : List ℕ
@@ -613,11 +613,11 @@ module _ (cs : List Piece) (go : Goes cs) (n : ℕ) (s : Session) (w : List ℕ)
     c = reply r body out
 
     -- the uncut list's call, where the reply is taken
-    run-reply : numberReplied v r body ≡ 0 → Runs client (emptied s w) b (reply r body room ∷ []) 0 (emptied (answered s) []) b text
+    run-reply : numberReplied v r body ≡ 0 → Runs client (emptied s w) b (reply r body ample ∷ []) 0 (emptied (answered s) []) b text
     run-reply h =
         let q = replyAhead text (noMore 0 (emptied (answered s) []) b) in
-        subst (Runs client (emptied s w) b (reply r body room ∷ []) 0 (emptied (answered s) []) b) (append-nil text)
-        (run-held client (emptied s w) b (reply r body room) room q (reply-alone s w b r body v phase h) (room-fits (text ++ []) (reply-room v r body h)) (λ z. omega arith) (λ z. omega arith))
+        subst (Runs client (emptied s w) b (reply r body ample ∷ []) 0 (emptied (answered s) []) b) (append-nil text)
+        (run-held client (emptied s w) b (reply r body ample) ample q (reply-alone s w b r body v phase h) (room-fits (text ++ []) (reply-room v r body h)) (λ z. omega arith) (λ z. omega arith))
 
     abbrev here : isWaiting client (s .phase) ≡ true
     here = ap (isWaiting client) phase
@@ -635,11 +635,11 @@ module _ (cs : List Piece) (go : Goes cs) (n : ℕ) (s : Session) (w : List ℕ)
         let o : outcomeOf client i b c ≡ untaken k i b out = reply-unfit i b r body out v phase k q z in
         let g = none-behind client i b c cs (untaken k i b out) o h in
         subst (λ x. Follows client n s w i b left x (c ∷ cs)) (sym (uncut-due client i b left r body out cs (untaken k i b out) o here))
-        (follow client n s w i b left (reply r body room ∷ []) (uncut client i b left cs) cs c
-        (run-one client (emptied s w) b (reply r body room) (untaken k (emptied s w) b room) (reply-unfit (emptied s w) b r body room v phase k q z) (g .0 .0) (g .0 .1))
+        (follow client n s w i b left (reply r body ample ∷ []) (uncut client i b left cs) cs c
+        (run-one client (emptied s w) b (reply r body ample) (untaken k (emptied s w) b ample) (reply-unfit (emptied s w) b r body ample v phase k q z) (g .0 .0) (g .0 .1))
         (run-one client i b c (untaken k i b out) o (g .0 .0) (g .0 .1)) (waiting left keeps) (ap isClosed phase) (sym (append-nil left)) tt (ap isOver phase)
-        (tally-one client (emptied s w) b (reply r body room) (untaken k (emptied s w) b room) (reply-unfit (emptied s w) b r body room v phase k q z)) (tally-one client i b c (untaken k i b out) o)
-        (both-refused (eqb-false k 0 z) (eqb-false k 0 z)) (none-behind-on client i b c cs (untaken k i b out) o) (made-reply client (emptied s w) b r body room [] here)
+        (tally-one client (emptied s w) b (reply r body ample) (untaken k (emptied s w) b ample) (reply-unfit (emptied s w) b r body ample v phase k q z)) (tally-one client i b c (untaken k i b out) o)
+        (both-refused (eqb-false k 0 z) (eqb-false k 0 z)) (none-behind-on client i b c cs (untaken k i b out) o) (made-reply client (emptied s w) b r body ample [] here)
         (go client k s w i b left (waiting left keeps) (g .1)))
 
     -- one that is
@@ -661,11 +661,11 @@ module _ (cs : List Piece) (go : Goes cs) (n : ℕ) (s : Session) (w : List ℕ)
         let z : eqb (length (text ++ m .written)) 0 ≡ false = ne-eqb (length (text ++ m .written)) 0 (λ z. omega arith) in
         subst (λ x. Follows client n s w i b left x (c ∷ cs))
         (sym (uncut-due client i b left r body out cs (held out d) o here
-        ∙ ap (λ f. reply r body room ∷ pick f (uncut client (m .intake) (m .buffers) left cs) (map alone (p .received) ++ uncut client (m .intake) (m .buffers) (p .left) cs)) z))
-        (follow client n s w i b left (reply r body room ∷ map alone (p .received)) (uncut client (m .intake) (m .buffers) (p .left) cs) cs c
+        ∙ ap (λ f. reply r body ample ∷ pick f (uncut client (m .intake) (m .buffers) left cs) (map alone (p .received) ++ uncut client (m .intake) (m .buffers) (p .left) cs)) z))
+        (follow client n s w i b left (reply r body ample ∷ map alone (p .received)) (uncut client (m .intake) (m .buffers) (p .left) cs) cs c
         (run-join client (run-reply q) (λ z. refl) (k .runs)) (run-held client i b c out d o (y .1) (g .0 .0) (g .0 .1)) (k .at) (ap isClosed phase) bytes wholes (ap isOver phase)
-        (tally-join client (tally-one client (emptied s w) b (reply r body room) (held room (replyAhead text (noMore 0 (emptied (answered s) []) b))) (reply-alone s w b r body v phase q)) (k .accepts))
-        (tally-one client i b c (held out d) o) (k .level) (none-behind-on client i b c cs (held out d) o) (made-reply client (emptied s w) b r body room (p .received) here)
+        (tally-join client (tally-one client (emptied s w) b (reply r body ample) (held ample (replyAhead text (noMore 0 (emptied (answered s) []) b))) (reply-alone s w b r body v phase q)) (k .accepts))
+        (tally-one client i b c (held out d) o) (k .level) (none-behind-on client i b c cs (held out d) o) (made-reply client (emptied s w) b r body ample (p .received) here)
         (go client (m .number) (k .session) (k .awaited) (m .intake) (m .buffers) (p .left) (k .at) (g .1)))
 
     reply-waiting : NoneHeldUp (numbers client i b (c ∷ cs)) → Goal

@@ -21,7 +21,7 @@ use Rattle.chunks.specs.Cutting.{Rest, unfinished, impossible, bytesOf, 
 use Rattle.chunks.specs.Taking.{End, client, plugin, Turn, reads, drops, keeps-back, turnAt, stanzaCall, awaitedBehind, Intake, Taken, noMore, emptied, takenRest, takenAll}
 use Rattle.chunks.specs.Chunks.{Outcome, untaken, chunked, repliedBy, replied}
 use Rattle.chunks.specs.Uncut.{Piece, chunk, reply, outcomeOf, after, numbers, written, isClosed, isReply}
-use Rattle.chunks.specs.Orders.{heard}
+use Rattle.chunks.specs.Orders.{inTime}
 use Rattle.chunks.proofs.Laws.Cases.{stanza-cases, chunk-cases, reply-cases}
 use Rattle.chunks.proofs.Laws.Numbers.{Faulty, cut-faulty}
 use Rattle.chunks.proofs.Laws.Stanzas.{Open, stanza-open}
@@ -98,20 +98,20 @@ heard-left e i b c hs cs u k = record {
   written-is = k .written-is ∙ sym (ap (λ (o : Outcome). take (o .size) (o .output) ++ written e (o .intake) (o .buffers) cs) (u .2));
 }
 
-pub heard-same : (e : End) (i : Intake) (b : Buffers) (cs : List Piece) → SameHeard e i b (heard e i b cs) cs
-unfolding heard
+pub heard-same : (e : End) (i : Intake) (b : Buffers) (cs : List Piece) → SameHeard e i b (inTime e i b cs) cs
+unfolding inTime
 heard-same e i b [] = record { after-is = refl; written-is = refl }
 heard-same e i b (c ∷ cs) =
     let o = outcomeOf e i b c in
     let k = heard-same e (o .intake) (o .buffers) cs in
     cases (isReply c && isClosed (i .session .phase))
     (λ f. let u = reply-closed e i b c f in
-    rw f (heard-left e i b c (heard e (o .intake) (o .buffers) cs) cs u (untaken-rest i b o (u .0) (u .1) (u .2) (λ j d. SameHeard e j d (heard e (o .intake) (o .buffers) cs) cs) k)))
-    (λ f. rw f (heard-kept e i b c (heard e (o .intake) (o .buffers) cs) cs k))
+    rw f (heard-left e i b c (inTime e (o .intake) (o .buffers) cs) cs u (untaken-rest i b o (u .0) (u .1) (u .2) (λ j d. SameHeard e j d (inTime e (o .intake) (o .buffers) cs) cs) k)))
+    (λ f. rw f (heard-kept e i b c (inTime e (o .intake) (o .buffers) cs) cs k))
 
 -- and from an open session both are accepted or both refused
-pub heard-accepted : (e : End) (i : Intake) (b : Buffers) (cs : List Piece) → Open (i .session) → AllZero (numbers e i b (heard e i b cs)) ↔ AllZero (numbers e i b cs)
-unfolding heard numbers AllZero
+pub heard-accepted : (e : End) (i : Intake) (b : Buffers) (cs : List Piece) → Open (i .session) → AllZero (numbers e i b (inTime e i b cs)) ↔ AllZero (numbers e i b cs)
+unfolding inTime numbers AllZero
 heard-accepted e i b [] k = (λ a. a, λ a. a)
 heard-accepted e i b (c ∷ cs) k =
     let o = outcomeOf e i b c in

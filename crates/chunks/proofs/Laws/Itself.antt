@@ -26,10 +26,10 @@ use Rattle.conversation.specs.Phases.{All, Whole, Part, Reply, Block, Phase, bl
 use Rattle.conversation.specs.Replying.{numberReplied}
 use Rattle.conversation.specs.TurnsTwo.{answered, dueIn}
 use Rattle.chunks.specs.Cutting.{bytesOf, Cut, cut}
-use Rattle.chunks.specs.Taking.{End, client, plugin, Turn, reads, drops, keeps-back, turnAt, room, stanzaCall, Intake, noMore, emptied, joined}
+use Rattle.chunks.specs.Taking.{End, client, plugin, Turn, reads, drops, keeps-back, turnAt, ample, stanzaCall, Intake, noMore, emptied, joined}
 use Rattle.chunks.specs.Chunks.{Outcome, untaken, turnOf, replyAhead, repliedBy}
 use Rattle.chunks.specs.Uncut.{Piece, chunk, reply, outcomeOf, numbers, isClosed, Parted, receivedMore, parted, partedChunk, alone, singles, isOver, isWaiting, isUnfit, uncut, textIn, NoneHeldUp, isEnded, NoneBehind, isReply}
-use Rattle.chunks.specs.Orders.{replyAlone, uncutCalls, heard, IsCut, endOf, rooms, OneByOne, stateBehind}
+use Rattle.chunks.specs.Orders.{replyAlone, uncutCalls, inTime, IsCut, endOf, amples, OneByOne, stateBehind}
 use Rattle.chunks.proofs.Laws.Reading.{cut-whole}
 use Rattle.chunks.proofs.Laws.Cases.{drops-not-reads, held}
 use Rattle.chunks.proofs.Laws.Stanzas.{stanza-open, stepped}
@@ -43,8 +43,8 @@ use Rattle.chunks.proofs.Laws.Written.{cut-wholes}
 
 -- a whole stanza in a chunk of its own, or a reply
 abbrev IsAlone : Piece → Type 0
-IsAlone (chunk t out) = (out ≡ room) × Whole t
-IsAlone (reply r body out) = out ≡ room
+IsAlone (chunk t out) = (out ≡ ample) × Whole t
+IsAlone (reply r body out) = out ≡ ample
 
 -- ---- behind a session's closing
 
@@ -86,18 +86,18 @@ texts-joined (chunk t out ∷ cs) = ap (λ x. t ++ x) (texts-joined cs)
 texts-joined (reply r body out ∷ cs) = texts-joined cs
 
 -- the list without its replies has the same
-shut-heard : (cs : List Piece) (e : End) (s : Session) (b : Buffers) → All IsAlone cs → NoneHeldUp (numbers e (shut s) b cs) → heard e (shut s) b cs ≡ map alone (textsIn cs)
-unfolding All heard textsIn
+shut-heard : (cs : List Piece) (e : End) (s : Session) (b : Buffers) → All IsAlone cs → NoneHeldUp (numbers e (shut s) b cs) → inTime e (shut s) b cs ≡ map alone (textsIn cs)
+unfolding All inTime textsIn
 shut-heard [] e s b h n = refl
 shut-heard (chunk t out ∷ cs) e s b h n =
     let q = chunk-refused e (shut s) b 13 t out (closed-turn-of e) refl in
     ap₂ (λ (c : Piece) x. c ∷ x) (ap (chunk t) (h .0 .0))
-    (ap (λ (o : Outcome). heard e (o .intake) (o .buffers) cs) q ∙ shut-heard cs e s b (h .1) (none-behind e (shut s) b (chunk t out) cs (untaken 13 (shut s) b out) q n .1))
+    (ap (λ (o : Outcome). inTime e (o .intake) (o .buffers) cs) q ∙ shut-heard cs e s b (h .1) (none-behind e (shut s) b (chunk t out) cs (untaken 13 (shut s) b out) q n .1))
 shut-heard (reply r body out ∷ cs) e s b h n =
     let q = shut-reply e s b r body out cs n in
-    ap (λ (o : Outcome). heard e (o .intake) (o .buffers) cs) q ∙ shut-heard cs e s b (h .1) (none-behind e (shut s) b (reply r body out) cs (untaken 13 (shut s) b out) q n .1)
+    ap (λ (o : Outcome). inTime e (o .intake) (o .buffers) cs) q ∙ shut-heard cs e s b (h .1) (none-behind e (shut s) b (reply r body out) cs (untaken 13 (shut s) b out) q n .1)
 
-shut-same : (cs : List Piece) (e : End) (s : Session) (b : Buffers) → All IsAlone cs → NoneHeldUp (numbers e (shut s) b cs) → uncut e (shut s) b [] cs ≡ heard e (shut s) b cs
+shut-same : (cs : List Piece) (e : End) (s : Session) (b : Buffers) → All IsAlone cs → NoneHeldUp (numbers e (shut s) b cs) → uncut e (shut s) b [] cs ≡ inTime e (shut s) b cs
 shut-same cs e s b h n =
     let c = ap (cut start []) (texts-joined cs) ∙ cut-wholes (textsIn cs) (texts-whole cs h) in
     shut-uncut cs e s b [] n ∙ ap (λ (c : Cut). map alone (c .texts) ++ pick (eqb (length (bytesOf (c .rest))) 0) [] (alone (bytesOf (c .rest)) ∷ [])) c ∙ append-nil (map alone (textsIn cs)) ∙ sym (shut-heard cs e s b h n)
@@ -116,12 +116,12 @@ parted-single e s b a t w h =
 
 -- such a call stays as it is
 abbrev Same : End → Session → List ℕ → Buffers → List Piece → Type 0
-Same e s a b cs = uncut e (emptied s a) b [] cs ≡ heard e (emptied s a) b cs
+Same e s a b cs = uncut e (emptied s a) b [] cs ≡ inTime e (emptied s a) b cs
 
 module _ (e : End) (s : Session) (a : List ℕ) (b : Buffers) (cs : List Piece) where
-  heard-on : (c : Piece) (o : Outcome) → outcomeOf e (emptied s a) b c ≡ o → isClosed (s .phase) ≡ false → heard e (emptied s a) b (c ∷ cs) ≡ c ∷ heard e (o .intake) (o .buffers) cs
-  unfolding heard
-  heard-on c o q h = rw (ap (λ x. isReply c && x) h ∙ and-false-right (isReply c)) (ap (λ (o : Outcome). c ∷ heard e (o .intake) (o .buffers) cs) q)
+  heard-on : (c : Piece) (o : Outcome) → outcomeOf e (emptied s a) b c ≡ o → isClosed (s .phase) ≡ false → inTime e (emptied s a) b (c ∷ cs) ≡ c ∷ inTime e (o .intake) (o .buffers) cs
+  unfolding inTime
+  heard-on c o q h = rw (ap (λ x. isReply c && x) h ∙ and-false-right (isReply c)) (ap (λ (o : Outcome). c ∷ inTime e (o .intake) (o .buffers) cs) q)
 
   chunk-on : (t : List ℕ) (o : Outcome) → outcomeOf e (emptied s a) b (alone t) ≡ o → isOver (s .phase) ≡ false → Whole t → turnAt e (s .phase) ≡ reads →
       uncut e (emptied s a) b [] (alone t ∷ cs) ≡ alone t ∷ uncut e (o .intake) (o .buffers) [] cs
@@ -130,12 +130,12 @@ module _ (e : End) (s : Session) (a : List ℕ) (b : Buffers) (cs : List Piece) 
       let x = outcomeOf e (emptied s a) b (alone t) in
       rw h (ap (λ (p : Parted). map alone (p .received) ++ uncut e (x .intake) (x .buffers) (p .left) cs) (parted-single e s b a t w u) ∙ ap (λ (o : Outcome). alone t ∷ uncut e (o .intake) (o .buffers) [] cs) q)
 
-  reply-on : (r : Response) (body : List ℕ) (o : Outcome) → outcomeOf e (emptied s a) b (reply r body room) ≡ o → isWaiting e (s .phase) ≡ true →
-      uncut e (emptied s a) b [] (reply r body room ∷ cs) ≡ reply r body room ∷ uncut e (o .intake) (o .buffers) [] cs
+  reply-on : (r : Response) (body : List ℕ) (o : Outcome) → outcomeOf e (emptied s a) b (reply r body ample) ≡ o → isWaiting e (s .phase) ≡ true →
+      uncut e (emptied s a) b [] (reply r body ample ∷ cs) ≡ reply r body ample ∷ uncut e (o .intake) (o .buffers) [] cs
   unfolding uncut cut parted
   reply-on r body o q h =
-      let x = outcomeOf e (emptied s a) b (reply r body room) in
-      rw h (ap (λ x. reply r body room ∷ x) (same (isUnfit x) (uncut e (x .intake) (x .buffers) [] cs)) ∙ ap (λ (o : Outcome). reply r body room ∷ uncut e (o .intake) (o .buffers) [] cs) q)
+      let x = outcomeOf e (emptied s a) b (reply r body ample) in
+      rw h (ap (λ x. reply r body ample ∷ x) (same (isUnfit x) (uncut e (x .intake) (x .buffers) [] cs)) ∙ ap (λ (o : Outcome). reply r body ample ∷ uncut e (o .intake) (o .buffers) [] cs) q)
     where
       same : (f : Bool) (us : List Piece) → pick f us us ≡ us
       same true us = refl
@@ -159,7 +159,7 @@ module _ (cs : List Piece) (go : Goes cs) (alones : All IsAlone cs) (e : End) (s
       u
       ∙ ap (λ x. c ∷ x) (ap (λ i. uncut e i (o .buffers) [] cs) k
       ∙ go e s′ a′ (o .buffers) v (subst (λ i. NoneHeldUp (numbers e i (o .buffers) cs)) k (none-behind e (emptied s a) b c cs o q n .1)) (subst (λ i. NoneBehind e i (o .buffers) cs) k (none-behind-on e (emptied s a) b c cs o q d))
-      ∙ ap (λ i. heard e i (o .buffers) cs) (sym k))
+      ∙ ap (λ i. inTime e i (o .buffers) cs) (sym k))
       ∙ sym (heard-on e s a b cs c o q open-is)
 
   module _ (t : List ℕ) (w : Whole t) (n : NoneHeldUp (numbers e (emptied s a) b (alone t ∷ cs))) (d : NoneBehind e (emptied s a) b (alone t ∷ cs)) where
@@ -169,16 +169,16 @@ module _ (cs : List Piece) (go : Goes cs) (alones : All IsAlone cs) (e : End) (s
     taken-goes : (u : turnAt e (s .phase) ≡ reads) → outcome s b (stanzaCall e (s .phase) t) .number ≡ 0 → isOver (s .phase) ≡ false → Same e s a b (alone t ∷ cs)
     taken-goes u z v =
         let q = alone-accepted e s a b t (whole-is t w) u z in
-        let o = held room (oneAlone e s a b t (whole-is t w) u) in
+        let o = held ample (oneAlone e s a b t (whole-is t w) u) in
         on (alone t) o (outcome s b (stanzaCall e (s .phase) t) .session) (o .intake .awaited) q refl (stanza-open e (s .phase) s b t z) (chunk-on e s a b cs t o q v w u) n d
 
     refused-goes : (u : turnAt e (s .phase) ≡ reads) → (outcome s b (stanzaCall e (s .phase) t) .number ≡ 0 → ⊥) → isOver (s .phase) ≡ false → Same e s a b (alone t ∷ cs)
     refused-goes u z v =
         let q = alone-refused e s a b t (whole-is t w) u z in
-        let o = held room (refusedOne e s a b t (whole-is t w) u) in
+        let o = held ample (refusedOne e s a b t (whole-is t w) u) in
         let k : o .intake ≡ shut s = ap (λ x. emptied x []) (stepped s b t (whole-is t w) e u .closing z .session) in
         chunk-on e s a b cs t o q v w u
-        ∙ ap (λ x. alone t ∷ x) (ap (λ i. uncut e i b [] cs) k ∙ shut-same cs e s b alones (subst (λ i. NoneHeldUp (numbers e i b cs)) k (none-behind e (emptied s a) b (alone t) cs o q n .1)) ∙ ap (λ i. heard e i b cs) (sym k))
+        ∙ ap (λ x. alone t ∷ x) (ap (λ i. uncut e i b [] cs) k ∙ shut-same cs e s b alones (subst (λ i. NoneHeldUp (numbers e i b cs)) k (none-behind e (emptied s a) b (alone t) cs o q n .1)) ∙ ap (λ i. inTime e i b cs) (sym k))
         ∙ sym (heard-on e s a b cs (alone t) o q open-is)
 
     chunk-goes : Same e s a b (alone t ∷ cs)
@@ -193,31 +193,31 @@ module _ (cs : List Piece) (go : Goes cs) (alones : All IsAlone cs) (e : End) (s
             (λ (z : m ≡ 14). absurd (not-14 (drops-number e s a b 14 t (u ∙ ap drops z) (ap (λ x. eqb (length x) 0) (sym (append-nil t)) ∙ some t [] (λ z. empty-apart (whole-is t w) z))))) (turn-drops e (s .phase) m u)
         by keeps-back u =
             let k = turn-says e (s .phase) .host u in
-            absurd (not-14 (ap (λ (o : Outcome). o .number) (chunk-refused e (emptied s a) b 14 t room (ap₂ turnOf (k .0) (k .1 .1)) refl)))
+            absurd (not-14 (ap (λ (o : Outcome). o .number) (chunk-refused e (emptied s a) b 14 t ample (ap₂ turnOf (k .0) (k .1 .1)) refl)))
 
 -- a reply
 module _ (cs : List Piece) (go : Goes cs) (alones : All IsAlone cs) (s : Session) (a : List ℕ) (b : Buffers) (open-is : isClosed (s .phase) ≡ false) (r : Response) (body : List ℕ)
-    (n : NoneHeldUp (numbers client (emptied s a) b (reply r body room ∷ cs))) (d : NoneBehind client (emptied s a) b (reply r body room ∷ cs)) where
+    (n : NoneHeldUp (numbers client (emptied s a) b (reply r body ample ∷ cs))) (d : NoneBehind client (emptied s a) b (reply r body ample ∷ cs)) where
   abbrev call : Piece
-  call = reply r body room
+  call = reply r body ample
 
   due-goes : (v : WordTwo) → s .phase ≡ Awaiting v → Same client s a b (call ∷ cs)
   due-goes v p =
       cases (eqb (numberReplied v r body) 0)
       (λ f.
       let q = reply-alone s a b r body v p (eqb-true (numberReplied v r body) 0 f) in
-      let o = held room (replyAhead (stanzaText (responseLine r) body) (noMore 0 (emptied (answered s) []) b)) in
+      let o = held ample (replyAhead (stanzaText (responseLine r) body) (noMore 0 (emptied (answered s) []) b)) in
       on cs go alones client s a b open-is call o (answered s) [] q refl refl (reply-on client s a b cs r body o q (ap (isWaiting client) p)) n d)
       (λ f.
       let k = numberReplied v r body in
-      let q = reply-unfit (emptied s a) b r body room v p k refl f in
-      on cs go alones client s a b open-is call (untaken k (emptied s a) b room) s a q refl open-is (reply-on client s a b cs r body (untaken k (emptied s a) b room) q (ap (isWaiting client) p)) n d)
+      let q = reply-unfit (emptied s a) b r body ample v p k refl f in
+      on cs go alones client s a b open-is call (untaken k (emptied s a) b ample) s a q refl open-is (reply-on client s a b cs r body (untaken k (emptied s a) b ample) q (ap (isWaiting client) p)) n d)
 
   reply-goes : Same client s a b (call ∷ cs)
   reply-goes = by (s .phase) refl
     where
-      undue : (p : phases.Phase) → s .phase ≡ p → repliedBy (dueIn p) (emptied s a) b r body room .number ≡ 14 → ⊥
-      undue p q k = none-behind client (emptied s a) b call cs (outcomeOf client (emptied s a) b call) refl n .0 .0 (ap (λ p. repliedBy (dueIn p) (emptied s a) b r body room .number) q ∙ k)
+      undue : (p : phases.Phase) → s .phase ≡ p → repliedBy (dueIn p) (emptied s a) b r body ample .number ≡ 14 → ⊥
+      undue p q k = none-behind client (emptied s a) b call cs (outcomeOf client (emptied s a) b call) refl n .0 .0 (ap (λ p. repliedBy (dueIn p) (emptied s a) b r body ample .number) q ∙ k)
 
       by : (p : phases.Phase) → s .phase ≡ p → Same client s a b (call ∷ cs)
       by One q = absurd (undue One q refl)
@@ -228,7 +228,7 @@ module _ (cs : List Piece) (go : Goes cs) (alones : All IsAlone cs) (s : Session
 
 itself : (cs : List Piece) → All IsAlone cs → Goes cs
 unfolding All
-itself [] h e s a b v n d = unfold uncut heard cut in same-either (isWaiting e (s .phase))
+itself [] h e s a b v n d = unfold uncut inTime cut in same-either (isWaiting e (s .phase))
   where
     same-either : (f : Bool) → pick {X = List Piece} f [] [] ≡ []
     same-either true = refl
@@ -254,7 +254,7 @@ blocks-alone [] w = tt
 blocks-alone (x ∷ xs) w = all-append IsAlone (alone (x .text) ∷ map replyAlone (x .replies)) (uncutCalls xs) ((refl, w .0), replies-alone (x .replies)) (blocks-alone xs (w .1))
 
 -- where no call is refused with 14 or 15 and none is made behind the end, the blocks are a cut of themselves
-pub blocks-cut : (part : Part) (s : Session) (b : Buffers) (p : Phase) → Starts part s → IsPhase part p → NoneHeldUp (one-call.numbers s b (callsOf part rooms (blocksOf p))) →
+pub blocks-cut : (part : Part) (s : Session) (b : Buffers) (p : Phase) → Starts part s → IsPhase part p → NoneHeldUp (one-call.numbers s b (callsOf part amples (blocksOf p))) →
     NoneBehind (endOf part) (emptied s []) b (uncutCalls (blocksOf p)) → IsCut (endOf part) s b (uncutCalls (blocksOf p)) (blocksOf p)
 blocks-cut part s b p st ph h d =
     let z = starts-ready part s st in
@@ -292,10 +292,10 @@ zero-behind [] e i b h = tt
 zero-behind (c ∷ cs) e i b h = (ended-refused e i b c (h .0), zero-behind cs e (outcomeOf e i b c .intake) (outcomeOf e i b c .buffers) (h .1))
 
 -- so every accepted phase has a cut
-pub accepted-cut : (part : Part) (s : Session) (b : Buffers) (p : Phase) → Starts part s → IsPhase part p → Accepted s b (callsOf part rooms (blocksOf p)) → IsCut (endOf part) s b (uncutCalls (blocksOf p)) (blocksOf p)
+pub accepted-cut : (part : Part) (s : Session) (b : Buffers) (p : Phase) → Starts part s → IsPhase part p → Accepted s b (callsOf part amples (blocksOf p)) → IsCut (endOf part) s b (uncutCalls (blocksOf p)) (blocksOf p)
 accepted-cut part s b p st ph ok =
     let z = starts-ready part s st in
-    blocks-cut part s b p st ph (zero-none (one-call.numbers s b (callsOf part rooms (blocksOf p))) ok)
+    blocks-cut part s b p st ph (zero-none (one-call.numbers s b (callsOf part amples (blocksOf p))) ok)
     (zero-behind (uncutCalls (blocksOf p)) (endOf part) (emptied s []) b (subst AllZero (sym (blocks-same part s b (blocksOf p) (z .0) (ph .whole) (ph .quiet) .numbers)) ok))
 
 -- ---- demand 3 of calls of one stanza, as the instance of demand 3 with cuts
@@ -303,7 +303,7 @@ accepted-cut part s b p st ph ok =
 -- two rearrangements are both accepted or both refused, and where they are accepted their tables are equal
 pub order-of-stanzas : (part : Part) (x y : State) → Starts part (x .session) → Starts part (y .session) → SameStart part x y → (p q : Phase) → IsPhase part p → IsPhase part q →
     Rearranged part (x .session .machine) (x .session .name) p q → OneByOne part x p → OneByOne part y q →
-    (let cs = callsOf part rooms (blocksOf p) in let ds = callsOf part rooms (blocksOf q) in
+    (let cs = callsOf part amples (blocksOf p) in let ds = callsOf part amples (blocksOf q) in
     (Accepted (x .session) (x .buffers) cs ↔ Accepted (y .session) (y .buffers) ds)
     × (Accepted (x .session) (x .buffers) cs → SameTables (one-call.after (x .session) (x .buffers) cs) (one-call.after (y .session) (y .buffers) ds)))
 order-of-stanzas part x y sx sy st p q hp hq r rx ry =
@@ -313,6 +313,6 @@ order-of-stanzas part x y sx sy st p q hp hq r rx ry =
     let u = cut-calls part x p (uncutCalls (blocksOf p)) sx hp cx in
     let v = cut-calls part y q (uncutCalls (blocksOf q)) sy hq cy in (
       (λ k. v .accepted .0 (o .accepted .0 (u .accepted .1 k)), λ k. u .accepted .0 (o .accepted .1 (v .accepted .1 k))),
-      λ k. subst (λ a. SameTables a (one-call.after (y .session) (y .buffers) (callsOf part rooms (blocksOf q)))) (u .state-is)
+      λ k. subst (λ a. SameTables a (one-call.after (y .session) (y .buffers) (callsOf part amples (blocksOf q)))) (u .state-is)
           (subst (SameTables (stateBehind (endOf part) x (uncutCalls (blocksOf p)))) (v .state-is) (o .tables (u .accepted .1 k))),
     )

@@ -1,4 +1,4 @@
--- The numbers that the stanzas of a chunk give: what holds of 0, 1 and 3 to 12 holds of each, since the output of `room` is long enough for any.
+-- The numbers that the stanzas of a chunk give: what holds of 0, 1 and 3 to 12 holds of each, since the output of `ample` is long enough for any.
 use Prim.Native.Nat.{ℕ, _≤_}
 use mathlib.Core.Path.{_≡_, refl, sym, ap, subst, _∙_}
 use mathlib.Core.Bool.{Bool, true, false}
@@ -44,7 +44,7 @@ use Rattle.conversation.proofs.Laws.Refusals.{either}
 use Rattle.conversation.proofs.Laws.StepsTwo.{long-enough}
 use Rattle.stanza.specs.Automaton.{State, line, next}
 use Rattle.chunks.specs.Cutting.{Rest, unfinished, impossible, bytesOf, Cut, onward, frontOnward, cutAt, cut}
-use Rattle.chunks.specs.Taking.{End, client, plugin, Turn, reads, drops, keeps-back, turnAt, room, stanzaCall, awaitedBehind, Taken, takenRest, takenAll}
+use Rattle.chunks.specs.Taking.{End, client, plugin, Turn, reads, drops, keeps-back, turnAt, ample, stanzaCall, awaitedBehind, Taken, takenRest, takenAll}
 use Rattle.chunks.proofs.Laws.Cutting.{by-place}
 use Rattle.chunks.proofs.Laws.Cases.{drops-not-reads, keeps-not-reads, keeps-not-drops, stanza-cases}
 
@@ -68,8 +68,8 @@ body-short t (stanza e n k) h = omega (arith, body-limit t e n k h)
 body-short t (refused n) h = omega arith
 
 -- the length of the output buffer
-pub room-size : length room ≡ 8192
-unfolding room
+pub room-size : length ample ≡ 8192
+unfolding ample
 room-size = length-replicate {A = ℕ} 8192 0
 
 -- ---- numbers
@@ -194,13 +194,13 @@ module _ (P : ℕ → Type 0) (low : (n : ℕ) → T (closes n) → P n) where
       where
         go : (e : End) (p : Phase) → s .phase ≡ p → turnAt e p ≡ reads → P (outcome s b (stanzaCall e p t) .number)
         go client One q h = absurd (drops-not-reads 14 h)
-        go client Two q h = receive-two-number room (omega (arith, room-size)) (subst (λ p. P (turnTwo p)) (sym q) (low 0 tt))
+        go client Two q h = receive-two-number ample (omega (arith, room-size)) (subst (λ p. P (turnTwo p)) (sym q) (low 0 tt))
         go client (Awaiting w) q h = absurd (keeps-not-reads h)
         go client Ended q h = absurd (drops-not-reads 13 h)
         go client Closed q h = absurd (drops-not-reads 13 h)
         go plugin One q h = receive-number (subst (λ p. P (turnOne p)) (sym q) (low 0 tt))
         go plugin Two q h = absurd (drops-not-reads 14 h)
-        go plugin (Awaiting w) q h = respond-number room (omega (arith, room-size)) (λ n e. absurd (due-undue w n (sym (ap dueIn q) ∙ e)))
+        go plugin (Awaiting w) q h = respond-number ample (omega (arith, room-size)) (λ n e. absurd (due-undue w n (sym (ap dueIn q) ∙ e)))
         go plugin Ended q h = absurd (drops-not-reads 13 h)
         go plugin Closed q h = absurd (drops-not-reads 13 h)
 

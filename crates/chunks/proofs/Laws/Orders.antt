@@ -27,10 +27,10 @@ use Rattle.conversation.proofs.Laws.OrderTwo.{accepted-two-iff}
 use Rattle.conversation.proofs.Laws.Reached.{just-done}
 use Rattle.conversation.proofs.Laws.Refusals.{refusal}
 use Rattle.conversation.proofs.Laws.WrittenRead.{front}
-use Rattle.chunks.specs.Taking.{client, plugin, room, emptied, joined}
+use Rattle.chunks.specs.Taking.{client, plugin, ample, emptied, joined}
 use Rattle.chunks.specs.Uncut as pieces
 use Rattle.chunks.specs.Uncut.{Piece, SameRun}
-use Rattle.chunks.specs.Orders.{uncutCalls, IsCut, endOf, AllTaken, stateBehind, writtenAll, allJoined, SameCuts, rooms}
+use Rattle.chunks.specs.Orders.{uncutCalls, IsCut, endOf, AllTaken, stateBehind, writtenAll, allJoined, SameCuts, amples}
 use Rattle.chunks.proofs.Laws.Cut.{cut-theorem, cut-accepted}
 use Rattle.chunks.proofs.Laws.Stanzas.{Open}
 use Rattle.chunks.proofs.Laws.Heard.{heard-same, heard-accepted}
@@ -59,7 +59,7 @@ blocks-written part s b outs (x ∷ xs) =
     ∙ joined-append (one-call.written s b cs) (one-call.written (t .session) (t .buffers) (callsOf part (behind outs x) xs)) []
     ∙ ap (joined (one-call.written s b cs)) (blocks-written part (t .session) (t .buffers) (behind outs x) xs)
 
--- ---- the output of `room` is long enough
+-- ---- the output of `ample` is long enough
 
 -- whatever buffer a call is lent, it writes no more than its own has room for
 abbrev Roomy : Call → Type 0
@@ -71,14 +71,14 @@ none-written s b c h = rw (refusal s b c h .size) (omega arith)
 receive-roomy : (t : List ℕ) → Roomy (receive t)
 receive-roomy t s b big = omega arith
 
-receive-two-roomy : (t : List ℕ) → Roomy (receive-two t room)
+receive-two-roomy : (t : List ℕ) → Roomy (receive-two t ample)
 receive-two-roomy t s b big =
     cases (eqb (outcome s b (receive-two t big) .number) 0)
     (λ f. rw (front (textOf (atOnce (s .screen) (commandIn (s .machine) t))) big (outcome s b (receive-two t big)) (accepted s b (receive-two t big) (eqb-true (outcome s b (receive-two t big) .number) 0 f) .written))
     (omega (arith, at-once-short (atOnce (s .screen) (commandIn (s .machine) t)), room-size)))
     (λ f. omega (arith, none-written s b (receive-two t big) (eqb-false (outcome s b (receive-two t big) .number) 0 f)))
 
-reply-roomy : (r : Response) (body : List ℕ) → Roomy (reply r body room)
+reply-roomy : (r : Response) (body : List ℕ) → Roomy (reply r body ample)
 reply-roomy r body s b big =
     cases (eqb (outcome s b (reply r body big) .number) 0)
     (λ f. let a = accepted s b (reply r body big) (eqb-true (outcome s b (reply r body big) .number) 0 f) in
@@ -91,16 +91,16 @@ unfolding All
 all-append P [] ys p q = q
 all-append P (x ∷ xs) ys p q = (p .0, all-append P xs ys (p .1) q)
 
-replies-roomy : (rs : List Reply) → All Roomy (replyCalls rooms rs)
+replies-roomy : (rs : List Reply) → All Roomy (replyCalls amples rs)
 unfolding All replyCalls
 replies-roomy [] = tt
 replies-roomy (r ∷ rs) = (reply-roomy (r .response) (r .body), replies-roomy rs)
 
-blocks-roomy : (part : Part) (xs : List Block) → All Roomy (callsOf part rooms xs)
+blocks-roomy : (part : Part) (xs : List Block) → All Roomy (callsOf part amples xs)
 unfolding All callsOf
 blocks-roomy part [] = tt
-blocks-roomy one-part (x ∷ xs) = all-append Roomy (blockCalls one-part rooms x) (callsOf one-part rooms xs) (receive-roomy (x .text), replies-roomy (x .replies)) (blocks-roomy one-part xs)
-blocks-roomy two-part (x ∷ xs) = all-append Roomy (blockCalls two-part rooms x) (callsOf two-part rooms xs) (receive-two-roomy (x .text), replies-roomy (x .replies)) (blocks-roomy two-part xs)
+blocks-roomy one-part (x ∷ xs) = all-append Roomy (blockCalls one-part amples x) (callsOf one-part amples xs) (receive-roomy (x .text), replies-roomy (x .replies)) (blocks-roomy one-part xs)
+blocks-roomy two-part (x ∷ xs) = all-append Roomy (blockCalls two-part amples x) (callsOf two-part amples xs) (receive-two-roomy (x .text), replies-roomy (x .replies)) (blocks-roomy two-part xs)
 
 roomy-enough : (s : Session) (b : Buffers) (cs : List Call) → All Roomy cs → LongEnough s b cs
 unfolding All LongEnough
@@ -116,9 +116,9 @@ starts-ready two-part s h = (tt, ap pieces.isClosed (just-done s h .turn))
 
 -- it is accepted where the calls of one stanza are, leaves their session and buffers, and writes what they write
 pub record CutCalls (part : Part) (x : State) (p : Phase) (cs : List Piece) : Type 0 where
-  pub accepted : AllTaken (endOf part) x cs ↔ Accepted (x .session) (x .buffers) (callsOf part rooms (blocksOf p))
-  pub state-is : stateBehind (endOf part) x cs ≡ one-call.after (x .session) (x .buffers) (callsOf part rooms (blocksOf p))
-  pub written-is : writtenAll (endOf part) x cs ≡ allJoined (writtenIn part (x .session) (x .buffers) rooms (blocksOf p))
+  pub accepted : AllTaken (endOf part) x cs ↔ Accepted (x .session) (x .buffers) (callsOf part amples (blocksOf p))
+  pub state-is : stateBehind (endOf part) x cs ≡ one-call.after (x .session) (x .buffers) (callsOf part amples (blocksOf p))
+  pub written-is : writtenAll (endOf part) x cs ≡ allJoined (writtenIn part (x .session) (x .buffers) amples (blocksOf p))
 
 pub cut-calls : (part : Part) (x : State) (p : Phase) (cs : List Piece) → Starts part (x .session) → IsPhase part p → IsCut (endOf part) (x .session) (x .buffers) cs (blocksOf p) → CutCalls part x p cs
 cut-calls part x p cs st ph c =
@@ -134,7 +134,7 @@ cut-calls part x p cs st ph c =
     record {
       accepted = (λ k. subst AllZero (m .numbers) (g .0 (f .1 k)), λ k. f .0 (g .1 (subst AllZero (sym (m .numbers)) k)));
       state-is = sym (ap₂ one-call.stateOf (d .same-session) (d .same-buffers)) ∙ ap (λ w. one-call.stateOf (w .intake .session) (w .buffers)) (h .after-is) ∙ ap₂ (λ v w. one-call.stateOf (v .session) w) (m .intake) (m .buffers);
-      written-is = sym (d .same-output) ∙ h .written-is ∙ m .written ∙ blocks-written part (x .session) (x .buffers) rooms (blocksOf p);
+      written-is = sym (d .same-output) ∙ h .written-is ∙ m .written ∙ blocks-written part (x .session) (x .buffers) amples (blocksOf p);
     }
 
 -- ---- exact acceptance
@@ -144,15 +144,15 @@ pub cut-allowed-one : (x : State) (p : Phase) (cs : List Piece) → Starts one-p
     AllTaken plugin x cs ↔ Allowed (x .session .machine) (x .session .name) (x .buffers .first) (textsOf p)
 cut-allowed-one x p cs st ph c =
     let u = cut-calls one-part x p cs st ph c .accepted in
-    let i = accepted-iff (x .session .machine) (x .session .name) false (x .buffers) rooms p ph in
-    (λ k. i .0 (subst (λ s. Accepted s (x .buffers) (callsOf one-part rooms (blocksOf p))) st (u .0 k)), λ k. u .1 (subst (λ s. Accepted s (x .buffers) (callsOf one-part rooms (blocksOf p))) (sym st) (i .1 k)))
+    let i = accepted-iff (x .session .machine) (x .session .name) false (x .buffers) amples p ph in
+    (λ k. i .0 (subst (λ s. Accepted s (x .buffers) (callsOf one-part amples (blocksOf p))) st (u .0 k)), λ k. u .1 (subst (λ s. Accepted s (x .buffers) (callsOf one-part amples (blocksOf p))) (sym st) (i .1 k)))
 
 -- .. of phase two
 pub cut-allowed-two : (x : State) (p : Phase) (cs : List Piece) → Starts two-part (x .session) → IsPhase two-part p → IsCut client (x .session) (x .buffers) cs (blocksOf p) →
     AllTaken client x cs ↔ AllowedTwo (x .session .machine) (x .session .screen) (leftOf x) (capacityOf (x .buffers)) (blocksOf p)
 cut-allowed-two x p cs st ph c =
     let u = cut-calls two-part x p cs st ph c .accepted in
-    let i = accepted-two-iff (x .session) (x .buffers) (just-done (x .session) st) p ph rooms (roomy-enough (x .session) (x .buffers) (callsOf two-part rooms (blocksOf p)) (blocks-roomy two-part (blocksOf p))) in
+    let i = accepted-two-iff (x .session) (x .buffers) (just-done (x .session) st) p ph amples (roomy-enough (x .session) (x .buffers) (callsOf two-part amples (blocksOf p)) (blocks-roomy two-part (blocksOf p))) in
     (λ k. i .0 (u .0 k), λ k. u .1 (i .1 k))
 
 -- ---- two cuts
@@ -164,14 +164,14 @@ pub order-of-cuts : (part : Part) (x y : State) → Starts part (x .session) →
     IsCut (endOf part) (x .session) (x .buffers) cs (blocksOf p) → IsCut (endOf part) (y .session) (y .buffers) ds (blocksOf q) →
     SameCuts part x y p q cs ds
 order-of-cuts part x y sx sy st p q hp hq r cs ds cx cy =
-    let o = order part x y sx sy st p q hp hq r rooms rooms
-    (roomy-enough (x .session) (x .buffers) (callsOf part rooms (blocksOf p)) (blocks-roomy part (blocksOf p)))
-    (roomy-enough (y .session) (y .buffers) (callsOf part rooms (blocksOf q)) (blocks-roomy part (blocksOf q))) in
+    let o = order part x y sx sy st p q hp hq r amples amples
+    (roomy-enough (x .session) (x .buffers) (callsOf part amples (blocksOf p)) (blocks-roomy part (blocksOf p)))
+    (roomy-enough (y .session) (y .buffers) (callsOf part amples (blocksOf q)) (blocks-roomy part (blocksOf q))) in
     let u = cut-calls part x p cs sx hp cx in
     let v = cut-calls part y q ds sy hq cy in
     record {
       accepted = (λ k. v .accepted .1 (o .accepted .0 (u .accepted .0 k)), λ k. u .accepted .1 (o .accepted .1 (v .accepted .0 k)));
       tables = λ k. subst (λ a. SameTables a (stateBehind (endOf part) y ds)) (sym (u .state-is))
-          (subst (SameTables (one-call.after (x .session) (x .buffers) (callsOf part rooms (blocksOf p)))) (sym (v .state-is)) (o .tables (u .accepted .0 k)));
+          (subst (SameTables (one-call.after (x .session) (x .buffers) (callsOf part amples (blocksOf p)))) (sym (v .state-is)) (o .tables (u .accepted .0 k)));
       responses = λ k. let w = o .responses (u .accepted .0 k) in (u .written-is ∙ ap allJoined (w .0), v .written-is ∙ ap allJoined (w .1));
     }

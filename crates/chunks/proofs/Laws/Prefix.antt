@@ -26,7 +26,7 @@ use Rattle.conversation.specs.Replying.{numberReplied}
 use Rattle.conversation.specs.TurnsTwo.{answered}
 use Rattle.conversation.proofs.Laws.StepsTwo.{all-written}
 use Rattle.chunks.specs.Cutting.{Rest, unfinished, impossible, bytesOf, cut}
-use Rattle.chunks.specs.Taking.{End, client, Turn, reads, drops, keeps-back, turnAt, room, stanzaCall, awaitedBehind, Intake, Taken, noMore, emptied, oneMore, takenRest, joined, takenBy, takenAll, lastIn}
+use Rattle.chunks.specs.Taking.{End, client, Turn, reads, drops, keeps-back, turnAt, ample, stanzaCall, awaitedBehind, Intake, Taken, noMore, emptied, oneMore, takenRest, joined, takenBy, takenAll, lastIn}
 use Rattle.chunks.specs.Chunks.{Outcome, untaken, taken, turnOf, chunked, replyAhead, takenBack, replied}
 use Rattle.chunks.specs.Uncut.{Piece, reply, outcomeOf, State, after, numbers, written, Parted, receivedMore, partedBy, parted, alone, partedChunk, partedBack, textIn, Prefix}
 use Rattle.chunks.specs.Reached.{Bounded}
@@ -86,12 +86,12 @@ module _ (e : End) (s : Session) (w : List ℕ) (b : Buffers) where
   pub drops-number : (n : ℕ) (x : List ℕ) → turnAt e (s .phase) ≡ drops n → eqb (length x) 0 ≡ false → Refuses e s w b x n
   drops-number n x h v =
       let by = ⊎-elim (λ (z : n ≡ 13). inr (turn-says e (s .phase) .ended (h ∙ ap drops z) .1 ∙ sym z)) (λ (z : n ≡ 14). ⊎-elim (λ y. inl y) (λ y. inr (y ∙ sym z)) (turn-says e (s .phase) .still (h ∙ ap drops z))) (turn-drops e (s .phase) n h) in
-      ⊎-elim (λ (z : turnOf e (s .phase) ≡ 0). ap (λ (o : Outcome). o .number) (chunk-held e (emptied s w) b x room (noMore n (emptied s w) b) z (all (cut start [] x .texts) (cut start [] x .rest) (cut-joined x start [])) (omega arith) (omega arith)))
+      ⊎-elim (λ (z : turnOf e (s .phase) ≡ 0). ap (λ (o : Outcome). o .number) (chunk-held e (emptied s w) b x ample (noMore n (emptied s w) b) z (all (cut start [] x .texts) (cut start [] x .rest) (cut-joined x start [])) (omega arith) (omega arith)))
       (λ (z : turnOf e (s .phase) ≡ n). named z (eqb n 0) refl) by
     where
       named : turnOf e (s .phase) ≡ n → (f : Bool) → eqb n 0 ≡ f → Refuses e s w b x n
       named z true f = ⊎-elim (λ (y : n ≡ 13). let k = eqb-true n 0 f in omega arith) (λ (y : n ≡ 14). let k = eqb-true n 0 f in omega arith) (turn-drops e (s .phase) n h)
-      named z false f = ap (λ (o : Outcome). o .number) (chunk-refused e (emptied s w) b n x room z f)
+      named z false f = ap (λ (o : Outcome). o .number) (chunk-refused e (emptied s w) b n x ample z f)
 
       all : (ts : List (List ℕ)) (r : Rest) → joined ts (bytesOf r) ≡ x → takenAll e s b w ts r ≡ noMore n (emptied s w) b
       all [] r k = unfold takenAll joined in (ap (λ u. takenRest u s b w r) h ∙ ap (λ f. pick f (noMore 0 (emptied s w) b) (noMore n (emptied s w) b)) (ap (λ y. eqb (length y) 0) k ∙ v))
@@ -135,7 +135,7 @@ module _ (e : End) (s : Session) (w : List ℕ) (b : Buffers) where
       awaited = k .awaited;
       accepts =
           subst (λ v. Accepts e (emptied s w) b (alone t ∷ map alone zs) (emptied (k .session) (k .awaited)) (r .buffers) (v ++ r .written)) (append-nil (writtenBy s b (stanzaCall e (s .phase) t)))
-          (accepts-more e (emptied s w) b (alone t) (map alone zs) room (oneAlone e s w b t whole turn) (alone-accepted e s w b t whole turn h) (alone-fits e s w b t whole turn h) refl (k .accepts));
+          (accepts-more e (emptied s w) b (alone t) (map alone zs) ample (oneAlone e s w b t whole turn) (alone-accepted e s w b t whole turn h) (alone-fits e s w b t whole turn h) refl (k .accepts));
       intake = k .intake;
       number = k .number;
       fault = k .fault;
@@ -276,7 +276,7 @@ module _ (e : End) (i : Intake) (b : Buffers) where
 -- a reply that is taken: before the fault stand the reply and the stanzas that were taken of what was kept back
 pub prefix-reply : (i : Intake) (b : Buffers) (r : Response) (body out : List ℕ) (v : WordTwo) → i .session .phase ≡ Awaiting v → numberReplied v r body ≡ 0 →
     (replied i b r body out .number ≡ 0 → ⊥) → (replied i b r body out .number ≡ 15 → ⊥) →
-    Prefix client i b (i .kept) (replied i b r body out) (reply r body room ∷ map alone (take (replied i b r body out .count) (partedBack i b .received)))
+    Prefix client i b (i .kept) (replied i b r body out) (reply r body ample ∷ map alone (take (replied i b r body out .count) (partedBack i b .received)))
 unfolding textIn
 prefix-reply i b r body out v t h f g =
     let s = i .session in
@@ -289,10 +289,10 @@ prefix-reply i b r body out v t h f g =
     let parts = cut-parts (i .kept) start [] none-front in
     let k = before-all (cut start [] (i .kept) .texts) client (answered s) [] b (cut start [] (i .kept) .rest) (parts .texts) (parts .rest) (λ z. f (ap (λ (o : Outcome). o .number) q ∙ z)) in
     let a = replyAhead text (noMore 0 (emptied (answered s) []) b) in
-    subst (λ n. Prefix client i b (i .kept) (replied i b r body out) (reply r body room ∷ map alone (take n (partedBack i b .received)))) (sym (ap (λ (o : Outcome). o .count) q))
-    (prefix-of client i b (i .kept) (replied i b r body out) out d (reply r body room ∷ map alone (take (m .count) (partedBack i b .received))) (k .session) (k .awaited) q (y .1)
-    (subst (λ u. Accepts client (emptied s (i .awaited)) b (reply r body room ∷ map alone (take (m .count) (partedBack i b .received))) (emptied (k .session) (k .awaited)) (m .buffers) (u ++ m .written)) (append-nil text)
-    (accepts-more client (emptied s (i .awaited)) b (reply r body room) (map alone (take (m .count) (partedBack i b .received))) room a (reply-alone s (i .awaited) b r body v t h) (room-fits (text ++ []) (reply-room v r body h)) refl (k .accepts)))
+    subst (λ n. Prefix client i b (i .kept) (replied i b r body out) (reply r body ample ∷ map alone (take n (partedBack i b .received)))) (sym (ap (λ (o : Outcome). o .count) q))
+    (prefix-of client i b (i .kept) (replied i b r body out) out d (reply r body ample ∷ map alone (take (m .count) (partedBack i b .received))) (k .session) (k .awaited) q (y .1)
+    (subst (λ u. Accepts client (emptied s (i .awaited)) b (reply r body ample ∷ map alone (take (m .count) (partedBack i b .received))) (emptied (k .session) (k .awaited)) (m .buffers) (u ++ m .written)) (append-nil text)
+    (accepts-more client (emptied s (i .awaited)) b (reply r body ample) (map alone (take (m .count) (partedBack i b .received))) ample a (reply-alone s (i .awaited) b r body v t h) (room-fits (text ++ []) (reply-room v r body h)) refl (k .accepts)))
     (k .intake) (k .number) (k .fault) (k .later) (text-alone (take (m .count) (partedBack i b .received)) (k .fault ++ k .later) ∙ k .place ∙ cut-joined (i .kept) start []) (k .refused))
 
 -- a reply that does not fit or cannot be written: everything stays

@@ -1,4 +1,4 @@
--- The output buffer that is lent, beside `room`: a stanza whose answer fits it does there what it does with `room`, and one whose answer does not gives 15.
+-- The output buffer that is lent, beside `ample`: a stanza whose answer fits it does there what it does with `ample`, and one whose answer does not gives 15.
 use Prim.Native.Nat.{ℕ, _≤_, _<_}
 use mathlib.Core.Path.{_≡_, refl, sym, ap, ap₂, subst, _∙_}
 use mathlib.Core.Bool.{Bool, true, false}
@@ -31,7 +31,7 @@ use Rattle.conversation.specs.TurnsTwo.{turnTwo, dueIn, answered}
 use Rattle.conversation.proofs.Laws.Accepted.{text-number}
 use Rattle.conversation.proofs.Laws.NumberParts.{atOnceText}
 use Rattle.conversation.proofs.Laws.StepsTwo.{long-enough, all-written}
-use Rattle.chunks.specs.Taking.{room}
+use Rattle.chunks.specs.Taking.{ample}
 use Rattle.chunks.proofs.Laws.Numbers.{at-once-short, body-short, room-size}
 
 -- ---- what is written, whatever buffer is lent
@@ -102,40 +102,40 @@ module _ (s : Session) (b : Buffers) where
             (λ out. is out ∙ ap (λ d. let n = pick d (shortness (a .text) out) (a .number) in pick (eqb n 0) (accepting a out) (refusedOutcome n out)) h
             ∙ ap (λ d. pick d (accepting a out) (refusedOutcome (a .number) out)) h)
 
-    room-long : length (a .text) ≤ length room
+    room-long : length (a .text) ≤ length ample
     room-long = omega (arith, a .short, room-size)
 
     -- it is accepted, and the buffer is long enough
-    fits : (out : List ℕ) → f room .number ≡ 0 → f room .size ≤ length out → f out ≡ withOutput (f room) (filled (take (f room .size) (f room .output)) out)
+    fits : (out : List ℕ) → f ample .number ≡ 0 → f ample .size ≤ length out → f out ≡ withOutput (f ample) (filled (take (f ample .size) (f ample .output)) out)
     fits out = go case
       where
-        go : Case → f room .number ≡ 0 → f room .size ≤ length out → f out ≡ withOutput (f room) (filled (take (f room .size) (f room .output)) out)
+        go : Case → f ample .number ≡ 0 → f ample .size ≤ length out → f out ≡ withOutput (f ample) (filled (take (f ample .size) (f ample .output)) out)
         go (accepts z w) n l =
-            let e = w room room-long in
+            let e = w ample room-long in
             w out (subst (λ (o : Outcome). o .size ≤ length out) e l)
-            ∙ ap (λ y. withOutput (accepting a room) (filled y out)) (sym (all-written (a .text) room room-long))
+            ∙ ap (λ y. withOutput (accepting a ample) (filled y out)) (sym (all-written (a .text) ample room-long))
             ∙ sym (ap (λ o. withOutput o (filled (take (o .size) (o .output)) out)) e)
-        go (declines z w) n l = absurd (z (sym (ap (λ (o : Outcome). o .number) (w room)) ∙ n))
+        go (declines z w) n l = absurd (z (sym (ap (λ (o : Outcome). o .number) (w ample)) ∙ n))
 
     -- .. or it is not
-    overflowing : (out : List ℕ) → f room .number ≡ 0 → length out < f room .size → f out ≡ unfitting out
+    overflowing : (out : List ℕ) → f ample .number ≡ 0 → length out < f ample .size → f out ≡ unfitting out
     overflowing out = go case
       where
-        go : Case → f room .number ≡ 0 → length out < f room .size → f out ≡ unfitting out
+        go : Case → f ample .number ≡ 0 → length out < f ample .size → f out ≡ unfitting out
         go (accepts z w) n l =
             let e : firstOf (a .number) (shortness (a .text) out) ≡ 15 =
             ap₂ firstOf z
-            (ap (λ d. pick d 15 0) (lt-ltb (length out) (length (a .text)) (subst (λ (o : Outcome). length out < o .size) (w room room-long) l))) in
+            (ap (λ d. pick d 15 0) (lt-ltb (length out) (length (a .text)) (subst (λ (o : Outcome). length out < o .size) (w ample room-long) l))) in
             is out ∙ ap (λ n. pick (eqb n 0) (accepting a out) (refusedOutcome n out)) e
-        go (declines z w) n l = absurd (z (sym (ap (λ (o : Outcome). o .number) (w room)) ∙ n))
+        go (declines z w) n l = absurd (z (sym (ap (λ (o : Outcome). o .number) (w ample)) ∙ n))
 
     -- it is refused, whatever the buffer
-    declined : (out : List ℕ) → (f room .number ≡ 0 → ⊥) → f out ≡ withOutput (f room) out
+    declined : (out : List ℕ) → (f ample .number ≡ 0 → ⊥) → f out ≡ withOutput (f ample) out
     declined out = go case
       where
-        go : Case → (f room .number ≡ 0 → ⊥) → f out ≡ withOutput (f room) out
-        go (accepts z w) n = absurd (n (ap (λ (o : Outcome). o .number) (w room room-long)))
-        go (declines z w) n = w out ∙ sym (ap (λ o. withOutput o out) (w room))
+        go : Case → (f ample .number ≡ 0 → ⊥) → f out ≡ withOutput (f ample) out
+        go (accepts z w) n = absurd (n (ap (λ (o : Outcome). o .number) (w ample room-long)))
+        go (declines z w) n = w out ∙ sym (ap (λ o. withOutput o out) (w ample))
 
 -- ---- a command that the client receives, and a response that the plugin does
 
@@ -214,27 +214,27 @@ module _ (s : Session) (b : Buffers) (x : List ℕ) where
       go Closed = refused-lent 13 (λ z. omega arith)
 
   -- a command that is answered at once: the answer fits the buffer, or it does not, or the command is refused
-  pub command-fits : (out : List ℕ) → outcome s b (receive-two x room) .number ≡ 0 → outcome s b (receive-two x room) .size ≤ length out →
-      outcome s b (receive-two x out) ≡ withOutput (outcome s b (receive-two x room)) (filled (writtenBy s b (receive-two x room)) out)
+  pub command-fits : (out : List ℕ) → outcome s b (receive-two x ample) .number ≡ 0 → outcome s b (receive-two x ample) .size ≤ length out →
+      outcome s b (receive-two x out) ≡ withOutput (outcome s b (receive-two x ample)) (filled (writtenBy s b (receive-two x ample)) out)
   command-fits = fits s b (λ out. outcome s b (receive-two x out)) (command-lent .0) (command-lent .1)
 
-  pub command-overflows : (out : List ℕ) → outcome s b (receive-two x room) .number ≡ 0 → length out < outcome s b (receive-two x room) .size →
+  pub command-overflows : (out : List ℕ) → outcome s b (receive-two x ample) .number ≡ 0 → length out < outcome s b (receive-two x ample) .size →
       outcome s b (receive-two x out) ≡ unfitting s b out
   command-overflows = overflowing s b (λ out. outcome s b (receive-two x out)) (command-lent .0) (command-lent .1)
 
-  pub command-declined : (out : List ℕ) → (outcome s b (receive-two x room) .number ≡ 0 → ⊥) →
-      outcome s b (receive-two x out) ≡ withOutput (outcome s b (receive-two x room)) out
+  pub command-declined : (out : List ℕ) → (outcome s b (receive-two x ample) .number ≡ 0 → ⊥) →
+      outcome s b (receive-two x out) ≡ withOutput (outcome s b (receive-two x ample)) out
   command-declined = declined s b (λ out. outcome s b (receive-two x out)) (command-lent .0) (command-lent .1)
 
   -- a response, of which the body is written
-  pub response-fits : (out : List ℕ) → outcome s b (respond x room) .number ≡ 0 → outcome s b (respond x room) .size ≤ length out →
-      outcome s b (respond x out) ≡ withOutput (outcome s b (respond x room)) (filled (writtenBy s b (respond x room)) out)
+  pub response-fits : (out : List ℕ) → outcome s b (respond x ample) .number ≡ 0 → outcome s b (respond x ample) .size ≤ length out →
+      outcome s b (respond x out) ≡ withOutput (outcome s b (respond x ample)) (filled (writtenBy s b (respond x ample)) out)
   response-fits = fits s b (λ out. outcome s b (respond x out)) (response-lent .0) (response-lent .1)
 
-  pub response-overflows : (out : List ℕ) → outcome s b (respond x room) .number ≡ 0 → length out < outcome s b (respond x room) .size →
+  pub response-overflows : (out : List ℕ) → outcome s b (respond x ample) .number ≡ 0 → length out < outcome s b (respond x ample) .size →
       outcome s b (respond x out) ≡ unfitting s b out
   response-overflows = overflowing s b (λ out. outcome s b (respond x out)) (response-lent .0) (response-lent .1)
 
-  pub response-declined : (out : List ℕ) → (outcome s b (respond x room) .number ≡ 0 → ⊥) →
-      outcome s b (respond x out) ≡ withOutput (outcome s b (respond x room)) out
+  pub response-declined : (out : List ℕ) → (outcome s b (respond x ample) .number ≡ 0 → ⊥) →
+      outcome s b (respond x out) ≡ withOutput (outcome s b (respond x ample)) out
   response-declined = declined s b (λ out. outcome s b (respond x out)) (response-lent .0) (response-lent .1)

@@ -23,7 +23,7 @@ use Rattle.conversation.specs.WrittenRead.{ReadsBack}
 use Rattle.conversation.proofs.Laws.Refusals.{refusal}
 use Rattle.conversation.proofs.Laws.WrittenRead.{phase-one-written, command-written, at-once-text, at-once-written, response-written}
 use Rattle.chunks.specs.Cutting.{cut}
-use Rattle.chunks.specs.Taking.{End, client, plugin, room, stanzaCall, Intake, emptied, joined}
+use Rattle.chunks.specs.Taking.{End, client, plugin, ample, stanzaCall, Intake, emptied, joined}
 use Rattle.chunks.specs.Uncut.{Piece, chunk, reply, outcomeOf, after, numbers, NoneHeldUp, isWaiting, isUnfit, uncut, textIn, stanzasIn}
 use Rattle.chunks.specs.Reached.{AnyCall, piece, sends-one, sends-two, finishes, Has, intakeAfter}
 use Rattle.chunks.specs.AnyCalls.{buffersAfter, stanzaCalls, callsIn, callsAll}
@@ -148,7 +148,7 @@ client-calls i b (piece (chunk bytes out)) h y =
     pick-all Sends client client-sends (eqb (outcomeOf client i b (chunk bytes out) .number) 15) [] (stanzaCalls client (i .session) b (c .texts) (c .rest)) tt (stanzas-all Sends client client-sends (c .texts) (i .session) b (c .rest))
 client-calls i b (piece (reply r body out)) h y =
     let c = cut start [] (i .kept) in
-    pick-all Sends client client-sends (isUnfit (outcomeOf client i b (reply r body out))) [] (one-call.reply r body room ∷ stanzaCalls client (answered (i .session)) b (c .texts) (c .rest)) tt
+    pick-all Sends client client-sends (isUnfit (outcomeOf client i b (reply r body out))) [] (one-call.reply r body ample ∷ stanzaCalls client (answered (i .session)) b (c .texts) (c .rest)) tt
     (y, stanzas-all Sends client client-sends (c .texts) (answered (i .session)) b (c .rest))
 client-calls i b (sends-one word arguments body out) h y = (y, tt)
 client-calls i b (sends-two word arguments body out) h y = absurd h

@@ -35,7 +35,7 @@ use Rattle.conversation.proofs.Laws.Receiving.{received-out-of-turn}
 use Rattle.conversation.proofs.Laws.ReceivingTwo.{turn-second, received-out-of-turn as received-two-out-of-turn}
 use Rattle.phase_one.specs.Turns.{turnOne}
 use Rattle.chunks.specs.Cutting.{cut}
-use Rattle.chunks.specs.Taking.{End, client, plugin, reads, turnAt, room, stanzaCall, Taken, noMore, emptied, joined, takenAll, no-stanza}
+use Rattle.chunks.specs.Taking.{End, client, plugin, reads, turnAt, ample, stanzaCall, Taken, noMore, emptied, joined, takenAll, no-stanza}
 use Rattle.chunks.specs.Chunks.{Outcome, untaken, isHeld, judged, turnOf, chunked, replyAhead, takenBack, repliedTo, repliedBy, replied}
 use Rattle.chunks.specs.Uncut.{outcomeOf, alone, isWaiting}
 use Rattle.chunks.proofs.Laws.Cases.{held}
@@ -58,52 +58,52 @@ whole-is t w =
 
 module _ (s : Session) (a : List ℕ) (b : Buffers) (t : List ℕ) (w : Whole t) where
   -- where bytes are read it is the call that takes the stanza: the client's in phase two; the plugin's in phase one, and where a response is due
-  pub chunk-single : (e : End) → turnAt e (s .phase) ≡ reads → Alike (outcome s b (stanzaCall e (s .phase) t)) (chunked e (emptied s a) b t room)
+  pub chunk-single : (e : End) → turnAt e (s .phase) ≡ reads → Alike (outcome s b (stanzaCall e (s .phase) t)) (chunked e (emptied s a) b t ample)
   chunk-single e h =
       let c = stanzaCall e (s .phase) t in
       let v = whole-is t w in
       cases (eqb (outcome s b c .number) 0)
       (λ f. let z = eqb-true (outcome s b c .number) 0 f in
       subst (Alike (outcome s b c)) (sym (alone-accepted e s a b t v h z))
-      (record { number = sym z; intake = refl; buffers = refl; written = all-written (oneAlone e s a b t v h .written) room (alone-fits e s a b t v h z) ∙ append-nil (writtenBy s b c) }))
+      (record { number = sym z; intake = refl; buffers = refl; written = all-written (oneAlone e s a b t v h .written) ample (alone-fits e s a b t v h z) ∙ append-nil (writtenBy s b c) }))
       (λ f. let z = eqb-false (outcome s b c .number) 0 f in
       let r = refusal s b c z in
       subst (Alike (outcome s b c)) (sym (alone-refused e s a b t v h z))
       (record { number = refl; intake = refl; buffers = sym (r .buffers); written = sym (ap (λ n. take n (outcome s b c .output)) (r .size)) }))
 
   -- where it is not its turn nothing is taken either way
-  out-of-turn-alike : (e : End) (c : Call) (n : ℕ) → turnOf e (s .phase) ≡ n → eqb n 0 ≡ false → outcome s b c .number ≡ n → outcome s b c .session ≡ s → Alike (outcome s b c) (chunked e (emptied s a) b t room)
+  out-of-turn-alike : (e : End) (c : Call) (n : ℕ) → turnOf e (s .phase) ≡ n → eqb n 0 ≡ false → outcome s b c .number ≡ n → outcome s b c .session ≡ s → Alike (outcome s b c) (chunked e (emptied s a) b t ample)
   unfolding chunked
   out-of-turn-alike e c n h f q z =
       let r = refusal s b c (λ y. eqb-false n 0 f (sym q ∙ y)) in
       rw (h, f) (record { number = sym q; intake = ap (λ s. emptied s a) (sym z); buffers = sym (r .buffers); written = sym (ap (λ n. take n (outcome s b c .output)) (r .size)) })
 
   -- the client's, in every phase
-  pub chunk-client : Alike (outcome s b (receive-two t room)) (chunked client (emptied s a) b t room)
+  pub chunk-client : Alike (outcome s b (receive-two t ample)) (chunked client (emptied s a) b t ample)
   chunk-client =
       cases (eqb (turnTwo (s .phase)) 0)
       (λ f. chunk-single client (ap (turnAt client) (turn-second (s .phase) (eqb-true (turnTwo (s .phase)) 0 f))))
-      (λ f. let e = received-two-out-of-turn s t (b .second) room (turnTwo (s .phase)) refl f in
-      out-of-turn-alike client (receive-two t room) (turnTwo (s .phase)) refl f (sym (ap (λ r. takingTwoNumber (r .answer)) e)) (sym (ap (λ r. r .session) e)))
+      (λ f. let e = received-two-out-of-turn s t (b .second) ample (turnTwo (s .phase)) refl f in
+      out-of-turn-alike client (receive-two t ample) (turnTwo (s .phase)) refl f (sym (ap (λ r. takingTwoNumber (r .answer)) e)) (sym (ap (λ r. r .session) e)))
 
   -- bytes that no response is due for are dropped
-  chunk-dropped : s .phase ≡ Two → outcomeOf plugin (emptied s a) b (alone t) ≡ held room (noMore 14 (emptied s a) b)
+  chunk-dropped : s .phase ≡ Two → outcomeOf plugin (emptied s a) b (alone t) ≡ held ample (noMore 14 (emptied s a) b)
   unfolding takenAll joined
   chunk-dropped q =
-      chunk-held plugin (emptied s a) b t room (noMore 14 (emptied s a) b) (ap (turnOf plugin) q)
+      chunk-held plugin (emptied s a) b t ample (noMore 14 (emptied s a) b) (ap (turnOf plugin) q)
       (ap (λ c. takenAll plugin s b a (c .texts) (c .rest)) (cut-whole t w) ∙ rw (ap (turnAt plugin) q) refl) (omega arith) (omega arith)
 
   -- the plugin's where no response is due
-  pub chunk-plugin : isWaiting client (s .phase) ≡ false → Alike (outcome s b (receive t)) (chunked plugin (emptied s a) b t room)
+  pub chunk-plugin : isWaiting client (s .phase) ≡ false → Alike (outcome s b (receive t)) (chunked plugin (emptied s a) b t ample)
   chunk-plugin h = go (s .phase) refl h
     where
-      out : eqb (turnOne (s .phase)) 0 ≡ false → turnOf plugin (s .phase) ≡ turnOne (s .phase) → Alike (outcome s b (receive t)) (chunked plugin (emptied s a) b t room)
+      out : eqb (turnOne (s .phase)) 0 ≡ false → turnOf plugin (s .phase) ≡ turnOne (s .phase) → Alike (outcome s b (receive t)) (chunked plugin (emptied s a) b t ample)
       out f q =
           let e = received-out-of-turn s t (b .first) (turnOne (s .phase)) refl f in
           out-of-turn-alike plugin (receive t) (turnOne (s .phase)) q f (sym (ap (λ r. takingNumber (r .answer)) e)) (sym (ap (λ r. r .session) e))
 
-      go : (p : Phase) → s .phase ≡ p → isWaiting client p ≡ false → Alike (outcome s b (receive t)) (chunked plugin (emptied s a) b t room)
-      go One q h = subst (λ p. Alike (outcome s b (stanzaCall plugin p t)) (chunked plugin (emptied s a) b t room)) q (chunk-single plugin (ap (turnAt plugin) q))
+      go : (p : Phase) → s .phase ≡ p → isWaiting client p ≡ false → Alike (outcome s b (receive t)) (chunked plugin (emptied s a) b t ample)
+      go One q h = subst (λ p. Alike (outcome s b (stanzaCall plugin p t)) (chunked plugin (emptied s a) b t ample)) q (chunk-single plugin (ap (turnAt plugin) q))
       go Two q h =
           let e = received-out-of-turn s t (b .first) (turnOne (s .phase)) refl (ap (λ p. eqb (turnOne p) 0) q) in
           let n : outcome s b (receive t) .number ≡ 14 = sym (ap (λ r. takingNumber (r .answer)) e) ∙ ap turnOne q in

@@ -29,7 +29,7 @@ use Rattle.conversation.specs.ReceivingTwo.{phaseReceived}
 use Rattle.conversation.proofs.Laws.Accepted.{Written, accepted}
 use Rattle.conversation.proofs.Laws.Refusals.{refusal}
 use Rattle.conversation.proofs.Laws.WrittenRead.{front}
-use Rattle.chunks.specs.Taking.{End, client, plugin, reads, turnAt, room, stanzaCall}
+use Rattle.chunks.specs.Taking.{End, client, plugin, reads, turnAt, ample, stanzaCall}
 use Rattle.chunks.specs.Uncut.{isClosed, isWaiting}
 use Rattle.chunks.proofs.Laws.Cutting.{IsWhole}
 use Rattle.chunks.proofs.Laws.Numbers.{room-size, stanza-number}
@@ -59,12 +59,12 @@ two-open screen two-command.other = refl
 two-open screen (two-command.bad n) = refl
 
 pub stanza-open : (e : End) (p : Phase) (s : Session) (b : Buffers) (t : List ℕ) → outcome s b (stanzaCall e p t) .number ≡ 0 → Open (outcome s b (stanzaCall e p t) .session)
-stanza-open client p s b t h = ap (λ (s : Session). isClosed (s .phase)) (accepted s b (receive-two t room) h .session) ∙ two-open (s .screen) (commandIn (s .machine) t)
+stanza-open client p s b t h = ap (λ (s : Session). isClosed (s .phase)) (accepted s b (receive-two t ample) h .session) ∙ two-open (s .screen) (commandIn (s .machine) t)
 stanza-open plugin One s b t h = ap (λ (s : Session). isClosed (s .phase)) (accepted s b (receive t) h .applied .session) ∙ one-open (one.commandIn (s .machine) (s .name) (lineIn t) (bodyIn t))
-stanza-open plugin Two s b t h = ap (λ (s : Session). isClosed (s .phase)) (accepted s b (respond t room) h .1 .session)
-stanza-open plugin (Awaiting w) s b t h = ap (λ (s : Session). isClosed (s .phase)) (accepted s b (respond t room) h .1 .session)
-stanza-open plugin Ended s b t h = ap (λ (s : Session). isClosed (s .phase)) (accepted s b (respond t room) h .1 .session)
-stanza-open plugin Closed s b t h = ap (λ (s : Session). isClosed (s .phase)) (accepted s b (respond t room) h .1 .session)
+stanza-open plugin Two s b t h = ap (λ (s : Session). isClosed (s .phase)) (accepted s b (respond t ample) h .1 .session)
+stanza-open plugin (Awaiting w) s b t h = ap (λ (s : Session). isClosed (s .phase)) (accepted s b (respond t ample) h .1 .session)
+stanza-open plugin Ended s b t h = ap (λ (s : Session). isClosed (s .phase)) (accepted s b (respond t ample) h .1 .session)
+stanza-open plugin Closed s b t h = ap (λ (s : Session). isClosed (s .phase)) (accepted s b (respond t ample) h .1 .session)
 
 -- ---- behind a command of phase one no reply is due
 
@@ -95,7 +95,7 @@ call-fits s b c =
     go (send-two word arguments body out) h = written-fits _ out _ (accepted s b (send-two word arguments body out) h .written)
     go (respond text out) h = written-fits _ out _ (accepted s b (respond text out) h .1 .written)
 
-stanza-room : (e : End) (p : Phase) (t : List ℕ) → length (outputIn (stanzaCall e p t)) ≤ length room
+stanza-room : (e : End) (p : Phase) (t : List ℕ) → length (outputIn (stanzaCall e p t)) ≤ length ample
 stanza-room client p t = omega arith
 stanza-room plugin One t = omega arith
 stanza-room plugin Two t = omega arith

@@ -19,7 +19,7 @@ use Rattle.conversation.specs.Calls.{Call, Outcome, outcome, writtenBy}
 use Rattle.conversation.specs.Kinds.{Buffers}
 use Rattle.conversation.specs.Phases.{All}
 use Rattle.chunks.specs.Cutting.{Rest, unfinished, impossible, bytesOf, cut}
-use Rattle.chunks.specs.Taking.{End, client, plugin, Turn, reads, drops, keeps-back, turnAt, room, stanzaCall, awaitedBehind, Intake, Taken, noMore, emptied, keeping, oneMore, takenRest, joined, takenBy, takenAll, lastIn}
+use Rattle.chunks.specs.Taking.{End, client, plugin, Turn, reads, drops, keeps-back, turnAt, ample, stanzaCall, awaitedBehind, Intake, Taken, noMore, emptied, keeping, oneMore, takenRest, joined, takenBy, takenAll, lastIn}
 use Rattle.chunks.specs.Chunks.{judged, taken, turnOf, chunked}
 use Rattle.chunks.specs.Uncut.{chunk, outcomeOf, isClosed, Parted, receivedMore, partedBy, parted, alone, isOver, isWaiting, isEnded}
 use Rattle.chunks.specs.Reached.{IsFront}
@@ -145,7 +145,7 @@ module _ (e : End) (i : Intake) (b : Buffers) (bytes out : List ℕ) where
   pub chunk-held : (r : Taken) → turnOf e (i .session .phase) ≡ 0 → taken e i b bytes ≡ r → length (r .written) ≤ length out → length (r .intake .kept) ≤ 8192 → outcomeOf e i b (chunk bytes out) ≡ held out r
   chunk-held r h q l k = chunked-read h ∙ ap (judged i b out) q ∙ judged-held i b out r l k
 
-pub room-fits : (x : List ℕ) → length x ≤ 8192 → length x ≤ length room
+pub room-fits : (x : List ℕ) → length x ≤ 8192 → length x ≤ length ample
 room-fits x h = subst (λ k. length x ≤ k) (sym room-size) h
 
 -- nothing is left
@@ -177,32 +177,32 @@ module _ (e : End) (s : Session) (w : List ℕ) (b : Buffers) (t : List ℕ) (wh
       ∙ ap (λ r. pick (eqb (outcome s b call .number) 0) (oneMore (lastIn (outcome s b call .given)) (writtenBy s b call) r) refusedOne) (rest-none (turnAt e (outcome s b call .session .phase)) (outcome s b call .session) (outcome s b call .buffers) behind)
 
   -- its call
-  alone-is : (r : Taken) → pick (eqb (outcome s b call .number) 0) oneAlone refusedOne ≡ r → length (r .written) ≤ 8192 → r .intake .kept ≡ [] → outcomeOf e (emptied s w) b (alone t) ≡ held room r
+  alone-is : (r : Taken) → pick (eqb (outcome s b call .number) 0) oneAlone refusedOne ≡ r → length (r .written) ≤ 8192 → r .intake .kept ≡ [] → outcomeOf e (emptied s w) b (alone t) ≡ held ample r
   alone-is r q l k =
-      chunked-read e (emptied s w) b t room (turn-reads e (s .phase) turn) ∙ ap (judged (emptied s w) b room) (taken-alone ∙ q)
-      ∙ judged-held (emptied s w) b room r (room-fits (r .written) l) (subst (λ x. length x ≤ 8192) (sym k) (omega arith))
+      chunked-read e (emptied s w) b t ample (turn-reads e (s .phase) turn) ∙ ap (judged (emptied s w) b ample) (taken-alone ∙ q)
+      ∙ judged-held (emptied s w) b ample r (room-fits (r .written) l) (subst (λ x. length x ≤ 8192) (sym k) (omega arith))
 
   one-short : outcome s b call .number ≡ 0 → length (oneAlone .written) ≤ 8192
   one-short h = subst (λ x. length x ≤ 8192) (sym (append-nil (writtenBy s b call))) (stepped s b t whole e turn .stands h .short)
 
-  pub alone-fits : outcome s b call .number ≡ 0 → length (oneAlone .written) ≤ length room
+  pub alone-fits : outcome s b call .number ≡ 0 → length (oneAlone .written) ≤ length ample
   alone-fits h = room-fits (oneAlone .written) (one-short h)
 
-  pub alone-accepted : outcome s b call .number ≡ 0 → outcomeOf e (emptied s w) b (alone t) ≡ held room oneAlone
+  pub alone-accepted : outcome s b call .number ≡ 0 → outcomeOf e (emptied s w) b (alone t) ≡ held ample oneAlone
   alone-accepted h = alone-is oneAlone (ap (λ k. pick (eqb k 0) oneAlone refusedOne) h) (one-short h) refl
 
   pub run-accepted : outcome s b call .number ≡ 0 → Runs e (emptied s w) b (alone t ∷ []) 0 (emptied (outcome s b call .session) behind) (outcome s b call .buffers) (writtenBy s b call)
   run-accepted h =
       subst (Runs e (emptied s w) b (alone t ∷ []) 0 (emptied (outcome s b call .session) behind) (outcome s b call .buffers)) (append-nil (writtenBy s b call))
-      (run-held e (emptied s w) b (alone t) room oneAlone (alone-accepted h) (alone-fits h) (λ z. omega arith) (λ z. omega arith))
+      (run-held e (emptied s w) b (alone t) ample oneAlone (alone-accepted h) (alone-fits h) (λ z. omega arith) (λ z. omega arith))
 
-  pub alone-refused : (outcome s b call .number ≡ 0 → ⊥) → outcomeOf e (emptied s w) b (alone t) ≡ held room refusedOne
+  pub alone-refused : (outcome s b call .number ≡ 0 → ⊥) → outcomeOf e (emptied s w) b (alone t) ≡ held ample refusedOne
   alone-refused h = alone-is refusedOne (ap (λ f. pick f oneAlone refusedOne) (ne-eqb (outcome s b call .number) 0 h)) (omega arith) refl
 
   pub run-refused : (outcome s b call .number ≡ 0 → ⊥) → Runs e (emptied s w) b (alone t ∷ []) (outcome s b call .number) (emptied (outcome s b call .session) []) b []
   run-refused h =
       let n = stepped s b t whole e turn .number in
-      run-held e (emptied s w) b (alone t) room refusedOne (alone-refused h) (room-fits [] (omega arith))
+      run-held e (emptied s w) b (alone t) ample refusedOne (alone-refused h) (room-fits [] (omega arith))
       (closes-not (outcome s b call .number) 14 refl n) (closes-not (outcome s b call .number) 15 refl n)
 
 -- ---- where the two stand
@@ -312,7 +312,7 @@ module _ (e : End) (s : Session) (w : List ℕ) (b : Buffers) (t : List ℕ) (wh
     runs = run-join e (run-accepted e s w b t whole turn h) (λ k. stepped s b t whole e turn .stands h .going) (k .runs);
     at = k .at;
     fault = k .fault;
-    accepts = tally-join e (tally-one e (emptied s w) b (alone t) (held room (oneAlone e s w b t whole turn)) (alone-accepted e s w b t whole turn h)) (k .accepts);
+    accepts = tally-join e (tally-one e (emptied s w) b (alone t) (held ample (oneAlone e s w b t whole turn)) (alone-accepted e s w b t whole turn h)) (k .accepts);
     level = k .level;
   }
 
@@ -324,7 +324,7 @@ module _ (e : End) (s : Session) (w : List ℕ) (b : Buffers) (t : List ℕ) (wh
     runs = run-refused e s w b t whole turn h;
     at = over left (ap (λ x. turnAt e (x .phase)) (stepped s b t whole e turn .closing h .session) ∙ closed-turn e);
     fault = outcome s b (stanzaCall e (s .phase) t) .number;
-    accepts = tally-one e (emptied s w) b (alone t) (held room (refusedOne e s w b t whole turn)) (alone-refused e s w b t whole turn h);
+    accepts = tally-one e (emptied s w) b (alone t) (held ample (refusedOne e s w b t whole turn)) (alone-refused e s w b t whole turn h);
     level = both-refused h h;
   }
 

@@ -37,7 +37,7 @@ use Rattle.conversation.specs.Responding as responding
 use Rattle.conversation.specs.TurnsTwo.{turnTwo, Due, due, undue, dueIn}
 use Rattle.conversation.proofs.Laws.Refusals.{either}
 use Rattle.chunks.specs.Cutting.{Rest, unfinished, impossible, bytesOf, Cut, cut}
-use Rattle.chunks.specs.Taking.{End, client, plugin, Turn, reads, drops, keeps-back, turnAt, room, stanzaCall, awaitedBehind, no-stanza, Last, lastIn, Taken, noMore, emptied, keeping, lastOf, behind, oneMore, takenRest, joined, takenBy, takenAll, takenText}
+use Rattle.chunks.specs.Taking.{End, client, plugin, Turn, reads, drops, keeps-back, turnAt, ample, stanzaCall, awaitedBehind, no-stanza, Last, lastIn, Taken, noMore, emptied, keeping, lastOf, behind, oneMore, takenRest, joined, takenBy, takenAll, takenText}
 use Rattle.chunks.proofs.Laws.Cases.{stanza-cases}
 use Rattle.chunks.proofs.Laws.Cutting.{cut-joined}
 use Rattle.chunks.proofs.Laws.Fronts.{front-whole, front-unfinished, front-refused}
@@ -109,12 +109,12 @@ module _ (x : List ℕ) (l m k : ℕ) (h : readFirst x ≡ stanza l m k) where
           go (undue n) = refl
 
     pub call-alone : (e : End) (p : Phase) → outcome s b (stanzaCall e p (take k x)) ≡ outcome s b (stanzaCall e p x)
-    call-alone client p = received-two-alone room
+    call-alone client p = received-two-alone ample
     call-alone plugin One = received-alone
-    call-alone plugin Two = responded-alone room
-    call-alone plugin (Awaiting w) = responded-alone room
-    call-alone plugin Ended = responded-alone room
-    call-alone plugin Closed = responded-alone room
+    call-alone plugin Two = responded-alone ample
+    call-alone plugin (Awaiting w) = responded-alone ample
+    call-alone plugin Ended = responded-alone ample
+    call-alone plugin Closed = responded-alone ample
 
 -- ---- what a text comes to, by whose turn it is
 

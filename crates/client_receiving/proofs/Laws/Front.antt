@@ -27,7 +27,7 @@ use Rattle.conversation.specs.PhaseTwo as two
 use Rattle.conversation.specs.CommandsTwo.{textOfWord}
 use Rattle.conversation.specs.ReceivingTwo.{took, declined, refusedReceipt, receivedStanza}
 use Rattle.conversation.proofs.Laws.ReceivingTwo.{refusal-is}
-use Rattle.chunks.specs.Taking.{client, keeps-back, turnAt, room, awaitedBehind, command, Taken, behind, takenText, no-stanza, noMore, emptied}
+use Rattle.chunks.specs.Taking.{client, keeps-back, turnAt, ample, awaitedBehind, command, Taken, behind, takenText, no-stanza, noMore, emptied}
 use Rattle.chunks.specs.Chunks.{isHeld}
 use Rattle.chunks.specs.Uncut.{isWaiting}
 use Rattle.chunks.proofs.Laws.Cases.{keeps-not-reads}
@@ -92,7 +92,7 @@ module _ (given : CodeSession) (xs hs : List (List ℕ)) (e s d front text out :
 
   -- no stanza begins it
   pub front-fault : (b : BuffersOne) (n : Refusal) (v : CodeSession) (x : CodeReceived) (input : List ℕ) → readFirst front ≡ refused (numberOf n) →
-      sessionOf v xs hs ≡ refusedReceipt (numberOf n) now (two.buffersOf e s d) room .session → x ≡ stopped n v →
+      sessionOf v xs hs ≡ refusedReceipt (numberOf n) now (two.buffersOf e s d) ample .session → x ≡ stopped n v →
       Answers x xs hs input input (lent b e s d) out out (stanzaAhead now (lent b e s d) front text)
   front-fault b n v x input h sv xz =
       subst (λ x. Answers x xs hs input input (lent b e s d) out out (stanzaAhead now (lent b e s d) front text)) (sym xz)

@@ -1,4 +1,4 @@
--- One stanza with the output buffer that is lent, beside what the definitions say of it with `room`.
+-- One stanza with the output buffer that is lent, beside what the definitions say of it with `ample`.
 use Prim.Native.Nat.{ℕ, _≤_, _<_}
 use mathlib.Core.Path.{_≡_, refl, sym, ap, ap₂, _∙_, subst}
 use mathlib.Core.Bool.{Bool, true, false}
@@ -22,7 +22,7 @@ use Rattle.conversation.specs.Sending.{shortness}
 use Rattle.conversation.specs.Kinds.{Buffers, buffersOf}
 use Rattle.conversation.specs.Calls.{receive-two, nothing, outcome, receivedTwoOutcome}
 use Rattle.conversation.proofs.Laws.StepsTwo.{all-written}
-use Rattle.chunks.specs.Taking.{client, room, awaitedBehind, command, Taken, lastIn, noMore, emptied, oneMore, takenText}
+use Rattle.chunks.specs.Taking.{client, ample, awaitedBehind, command, Taken, lastIn, noMore, emptied, oneMore, takenText}
 use Rattle.chunks.proofs.Laws.Numbers.{at-once-short, room-size}
 use Rattle.chunks.proofs.Laws.Short.{read-number}
 use Rattle.chunks.proofs.Laws.Texts.{stanzaTaken}
@@ -53,11 +53,11 @@ module _ (s : Session) (b : BuffersTwo) (line body : List ℕ) (k : ℕ) where
 
   -- by the buffer that is lent
   data Judged (out : List ℕ) : Type 0 where
-    accepts : length answer ≤ length out → receivedStanza s b out line body k ≡ accepted out → receivedStanza s b room line body k ≡ accepted room → Judged out
+    accepts : length answer ≤ length out → receivedStanza s b out line body k ≡ accepted out → receivedStanza s b ample line body k ≡ accepted ample → Judged out
     refuses : (n : ℕ) → (n ≡ 0 → ⊥) → receivedStanza s b out line body k ≡ refusedReceipt n s b out →
-        receivedStanza s b room line body k ≡ refusedReceipt n s b room → Judged out
+        receivedStanza s b ample line body k ≡ refusedReceipt n s b ample → Judged out
     overflows : length out < length answer → receivedStanza s b out line body k ≡ refusedReceipt 15 s b out →
-        receivedStanza s b room line body k ≡ accepted room → Judged out
+        receivedStanza s b ample line body k ≡ accepted ample → Judged out
 
   abbrev by : ℕ → List ℕ → Received
   by n out = pick (eqb n 0) (accepted out) (refusedReceipt n s b out)
@@ -66,7 +66,7 @@ module _ (s : Session) (b : BuffersTwo) (line body : List ℕ) (k : ℕ) where
   unfolding receivedStanza
   by-is out = refl
 
-  answer-room : length answer ≤ length room
+  answer-room : length answer ≤ length ample
   answer-room = omega (arith, at-once-short (atOnce (s .screen) cmd), room-size)
 
   by-long : (out : List ℕ) → length answer ≤ length out → number ≡ 0 → receivedStanza s b out line body k ≡ accepted out
@@ -86,11 +86,11 @@ module _ (s : Session) (b : BuffersTwo) (line body : List ℕ) (k : ℕ) where
       go : (d : Bool) → eqb number 0 ≡ d → (f : Bool) → ltb (length out) (length answer) ≡ f → Judged out
       go true h true g =
           let l = ltb-true (length out) (length answer) g in
-          overflows l (by-short out l (eqb-true number 0 h)) (by-long room answer-room (eqb-true number 0 h))
+          overflows l (by-short out l (eqb-true number 0 h)) (by-long ample answer-room (eqb-true number 0 h))
       go true h false g =
           let l = ltb-false (length out) (length answer) g in
-          accepts l (by-long out l (eqb-true number 0 h)) (by-long room answer-room (eqb-true number 0 h))
-      go false h f g = refuses number (eqb-false number 0 h) (by-refused out (eqb-false number 0 h)) (by-refused room (eqb-false number 0 h))
+          accepts l (by-long out l (eqb-true number 0 h)) (by-long ample answer-room (eqb-true number 0 h))
+      go false h f g = refuses number (eqb-false number 0 h) (by-refused out (eqb-false number 0 h)) (by-refused ample (eqb-false number 0 h))
 
 -- ---- what a stanza and the text behind it come to
 
@@ -110,7 +110,7 @@ pub record Declined (u : Taken) (n : ℕ) (r : Received) (b : Buffers) (out : Li
 module _ (s : Session) (b : Buffers) (t : List ℕ) (l m k : ℕ) (out : List ℕ) (two : s .phase ≡ Two) (h : readFirst t ≡ stanza l m k)
     (r : Received) (e : r ≡ receivedStanza s (b .second) out (lineOf t l) (bodyBehind t l k) k) (t′ x : List ℕ) where
   abbrev taken : Taken
-  taken = stanzaTaken client b (outcome s b (receive-two t room)) t′ x
+  taken = stanzaTaken client b (outcome s b (receive-two t ample)) t′ x
 
   abbrev ans : List ℕ
   ans = answer s (b .second) (lineOf t l) (bodyBehind t l k) k
@@ -128,22 +128,22 @@ module _ (s : Session) (b : Buffers) (t : List ℕ) (l m k : ℕ) (out : List �
   onward r w = oneMore (command (textOfWord wrd)) w
       (takenText client (r .session) (buffersOf (b .first) (r .buffers)) (awaitedBehind client (r .session .phase) t′) x)
 
-  taken-accepted : stanzaIn room ≡ acc room → taken ≡ onward (acc room) ans
+  taken-accepted : stanzaIn ample ≡ acc ample → taken ≡ onward (acc ample) ans
   taken-accepted q =
-      ap (λ o. stanzaTaken client b o t′ x) (stanza-call s b t room l m k two h ∙ ap (receivedTwoOutcome (b .first)) q)
-      ∙ ap (onward (acc room)) (all-written ans room (answer-room s (b .second) (lineOf t l) (bodyBehind t l k) k))
+      ap (λ o. stanzaTaken client b o t′ x) (stanza-call s b t ample l m k two h ∙ ap (receivedTwoOutcome (b .first)) q)
+      ∙ ap (onward (acc ample)) (all-written ans ample (answer-room s (b .second) (lineOf t l) (bodyBehind t l k) k))
 
-  taken-refused : (n : ℕ) → (n ≡ 0 → ⊥) → stanzaIn room ≡ refusedReceipt n s (b .second) room →
-      taken ≡ noMore n (emptied (refusedReceipt n s (b .second) room .session) []) b
+  taken-refused : (n : ℕ) → (n ≡ 0 → ⊥) → stanzaIn ample ≡ refusedReceipt n s (b .second) ample →
+      taken ≡ noMore n (emptied (refusedReceipt n s (b .second) ample .session) []) b
   taken-refused n z q =
-      let v = refusedReceipt n s (b .second) room in
+      let v = refusedReceipt n s (b .second) ample in
       let u = takenText client (v .session) (buffersOf (b .first) (v .buffers)) (awaitedBehind client (v .session .phase) t′) x in
-      ap (λ o. stanzaTaken client b o t′ x) (stanza-call s b t room l m k two h ∙ ap (receivedTwoOutcome (b .first)) q)
-      ∙ ap (λ f. pick f (oneMore (lastIn nothing) (take 0 room) u) (noMore n (emptied (v .session) []) b)) (ne-eqb n 0 z)
+      ap (λ o. stanzaTaken client b o t′ x) (stanza-call s b t ample l m k two h ∙ ap (receivedTwoOutcome (b .first)) q)
+      ∙ ap (λ f. pick f (oneMore (lastIn nothing) (take 0 ample) u) (noMore n (emptied (v .session) []) b)) (ne-eqb n 0 z)
 
-  at-accepted : length ans ≤ length out → stanzaIn room ≡ acc room → TookOn taken wrd (length ans) (acc out) b out t′ x
+  at-accepted : length ans ≤ length out → stanzaIn ample ≡ acc ample → TookOn taken wrd (length ans) (acc out) b out t′ x
   at-accepted f q = record {
-    same = taken-accepted q ∙ ap (onward (acc room)) (sym (all-written ans out f));
+    same = taken-accepted q ∙ ap (onward (acc ample)) (sym (all-written ans out f));
     fits = f;
     rest = ap (drop (length ans)) (filled-front ans out f) ∙ drop-at ans (drop (length ans) out) (length ans) refl;
     size = omega (arith, ap length (filled-front ans out f), length-append ans (drop (length ans) out), length-drop (length ans) out);
@@ -182,15 +182,15 @@ module _ (s : Session) (b : Buffers) (t : List ℕ) (l m k : ℕ) (out : List �
           subst (λ r. Declined taken n r b out) (sym (e ∙ eo))
           (subst (λ n. Declined taken n (refusedReceipt i s (b .second) out) b out) nz (record { same = taken-refused i z er; output = refl }))
       go (overflows f eo er) =
-          let more = takenText client (acc room .session) (buffersOf (b .first) (acc room .buffers)) (awaitedBehind client (acc room .session .phase) t′) x in
+          let more = takenText client (acc ample .session) (buffersOf (b .first) (acc ample .buffers)) (awaitedBehind client (acc ample .session .phase) t′) x in
           absurd (omega (arith, ap (λ u. length (u .written)) (taken-accepted er), length-append ans (more .written)))
 
 -- a text that no stanza begins
 pub fault-is : (s : Session) (b : Buffers) (t x : List ℕ) (m : ℕ) → s .phase ≡ Two → readFirst t ≡ refused m →
-    stanzaTaken client b (outcome s b (receive-two t room)) t x ≡ noMore m (emptied (refusedReceipt m s (b .second) room .session) []) b
+    stanzaTaken client b (outcome s b (receive-two t ample)) t x ≡ noMore m (emptied (refusedReceipt m s (b .second) ample .session) []) b
 fault-is s b t x m two h =
-    let v = refusedReceipt m s (b .second) room in
+    let v = refusedReceipt m s (b .second) ample in
     let u = takenText client (v .session) (buffersOf (b .first) (v .buffers)) (awaitedBehind client (v .session .phase) t) x in
-    ap (λ o. stanzaTaken client b o t x) (fault-call s b t room m two h)
-    ∙ ap (λ f. pick f (oneMore (lastIn nothing) (take 0 room) u) (noMore m (emptied (v .session) []) b))
+    ap (λ o. stanzaTaken client b o t x) (fault-call s b t ample m two h)
+    ∙ ap (λ f. pick f (oneMore (lastIn nothing) (take 0 ample) u) (noMore m (emptied (v .session) []) b))
     (ne-eqb m 0 (read-number (λ m. m ≡ 0 → ⊥) (λ z. omega arith) (λ z. omega arith) (λ z. omega arith) t m h))

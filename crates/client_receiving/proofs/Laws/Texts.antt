@@ -30,7 +30,7 @@ use Rattle.conversation.specs.CommandsTwo.{textOfWord}
 use Rattle.conversation.specs.ReceivingTwo.{took, declined, Received, receivedStanza}
 use Rattle.conversation.specs.Kinds.{Buffers, buffersOf}
 use Rattle.conversation.specs.Calls.{receive-two, outcome}
-use Rattle.chunks.specs.Taking.{client, Turn, reads, drops, keeps-back, turnAt, room, awaitedBehind, Last, command, Taken, noMore, emptied, keeping, oneMore, behind, takenText}
+use Rattle.chunks.specs.Taking.{client, Turn, reads, drops, keeps-back, turnAt, ample, awaitedBehind, Last, command, Taken, noMore, emptied, keeping, oneMore, behind, takenText}
 use Rattle.chunks.specs.Chunks.{isHeld}
 use Rattle.chunks.specs.Uncut.{isWaiting}
 use Rattle.chunks.proofs.Laws.Cases.{drops-not-reads, keeps-not-reads, keeps-not-drops}
@@ -201,7 +201,7 @@ pub record Going (r₀ r : CodeReceived) (xs₀ xs hs : List (List ℕ)) (e₀ s
   pub within : at ≤ length text
   pub short : at ≤ begun + 8192
   pub few : r .count ≤ at + 1
-  pub room : r .written ≤ length out
+  pub ample : r .written ≤ length out
   pub size : length out ≡ length out₀
   pub rest : drop (r .written) out ≡ drop (r .written) out₀
   pub name : r .session .name ≡ r₀ .session .name
@@ -213,12 +213,12 @@ pub record Going (r₀ r : CodeReceived) (xs₀ xs hs : List (List ℕ)) (e₀ s
 
 module _ (r₀ : CodeReceived) (xs₀ hs : List (List ℕ)) (e₀ s₀ d₀ text out₀ : List ℕ) where
   pub going-first : r₀ .count ≤ 1 → r₀ .written ≤ length out₀ → Going r₀ r₀ xs₀ xs₀ hs e₀ s₀ d₀ e₀ s₀ d₀ text out₀ out₀ 0 0
-  going-first few room = record {
+  going-first few ample = record {
     ordered = omega arith;
     within = omega arith;
     short = omega arith;
     few = few;
-    room = room;
+    ample = ample;
     size = refl;
     rest = refl;
     name = refl;
@@ -273,7 +273,7 @@ module _ (r₀ : CodeReceived) (xs₀ hs : List (List ℕ)) (e₀ s₀ d₀ text
 
       -- the rest of the text is this stanza and what stands behind it
       abbrev ahead : BuffersOne → Taken
-      ahead b = stanzaTaken client (lent b e s d) (outcome now (lent b e s d) (receive-two rest room)) (take k rest) (drop k rest)
+      ahead b = stanzaTaken client (lent b e s d) (outcome now (lent b e s d) (receive-two rest ample)) (take k rest) (drop k rest)
 
       ahead-is : (b : BuffersOne) → takenText client now (lent b e s d) awaited (drop at text) ≡ ahead b
       ahead-is b =
@@ -310,7 +310,7 @@ module _ (r₀ : CodeReceived) (xs₀ hs : List (List ℕ)) (e₀ s₀ d₀ text
             within = v .2;
             short = omega (arith, v .1);
             few = omega (arith, g .few, v .0);
-            room = omega (arith, on-within (r .count) (lastSaid (r .last)) (r .written) out (g .room) j (t .fits), on-size (r .count) (lastSaid (r .last)) (r .written) out (g .room) o′ (t .size));
+            ample = omega (arith, on-within (r .count) (lastSaid (r .last)) (r .written) out (g .room) j (t .fits), on-size (r .count) (lastSaid (r .last)) (r .written) out (g .room) o′ (t .size));
             size = on-size (r .count) (lastSaid (r .last)) (r .written) out (g .room) o′ (t .size) ∙ g .size;
             rest = on-rest (r .count) (lastSaid (r .last)) (r .written) out (g .room) o′ j (t .rest) ∙ further;
             name = ap (λ c. c .name) c ∙ g .name;

@@ -28,7 +28,7 @@ use Rattle.conversation.specs.Kinds.{Buffers, buffersOf}
 use Rattle.conversation.specs.Calls.{receive-two, command-two, nothing, Outcome, outcome, receivedTwoOutcome}
 use Rattle.conversation.proofs.Laws.StepsTwo.{all-written}
 use Rattle.conversation.proofs.Laws.Refusals.{either}
-use Rattle.chunks.specs.Taking.{client, Turn, reads, drops, keeps-back, turnAt, room, awaitedBehind, Intake, Last, Taken, lastIn, noMore, emptied, keeping, oneMore, takenText}
+use Rattle.chunks.specs.Taking.{client, Turn, reads, drops, keeps-back, turnAt, ample, awaitedBehind, Intake, Last, Taken, lastIn, noMore, emptied, keeping, oneMore, takenText}
 use Rattle.chunks.specs.Chunks.{taken}
 use Rattle.chunks.specs.Uncut.{isWaiting}
 use Rattle.intake.specs.Intake.{intakeOf}
@@ -89,19 +89,19 @@ rest-room s b a x n m h = go (turnAt client (s .phase)) refl h
 
 -- ---- a refusal
 
-pub refused-room : (s : Session) (b : Buffers) (t x : List ℕ) (n m : ℕ) (o : Outcome) → o ≡ receivedTwoOutcome (b .first) (refusedReceipt m s (b .second) room) → (m ≡ 0 → ⊥) →
+pub refused-room : (s : Session) (b : Buffers) (t x : List ℕ) (n m : ℕ) (o : Outcome) → o ≡ receivedTwoOutcome (b .first) (refusedReceipt m s (b .second) ample) → (m ≡ 0 → ⊥) →
     hasRoom (stanzaTaken client b o t x) n ≡ true
 refused-room s b t x n m o e z =
-    let r = refusedReceipt m s (b .second) room in
+    let r = refusedReceipt m s (b .second) ample in
     let u = takenText client (r .session) (buffersOf (b .first) (r .buffers)) (awaitedBehind client (r .session .phase) t) x in
     ap (λ o. hasRoom (stanzaTaken client b o t x) n) e
-    ∙ ap (λ f. hasRoom (pick f (oneMore (lastIn nothing) (take 0 room) u) (noMore m (emptied (r .session) []) b)) n) (ne-eqb m 0 z)
+    ∙ ap (λ f. hasRoom (pick f (oneMore (lastIn nothing) (take 0 ample) u) (noMore m (emptied (r .session) []) b)) n) (ne-eqb m 0 z)
     ∙ none-room n m (r .session) b []
 
 -- ---- a whole stanza, by what it was tried for
 
 module _ (s : Session) (b : Buffers) (t x : List ℕ) (line body : List ℕ) (k : ℕ) (a : Taking) (after : Session) (n : ℕ)
-    (o : Outcome) (call : o ≡ receivedTwoOutcome (b .first) (receivedStanza s (b .second) room line body k))
+    (o : Outcome) (call : o ≡ receivedTwoOutcome (b .first) (receivedStanza s (b .second) ample line body k))
     (h : Tried s (b .second) line body k a after) where
   -- the buffers behind it
   abbrev pub behindIt : Buffers
@@ -114,12 +114,12 @@ module _ (s : Session) (b : Buffers) (t x : List ℕ) (line body : List ℕ) (k 
   abbrev last : Last
   last = lastIn (command-two (wordOf (command s (b .second) line body k)) k (length (answer s (b .second) line body k)))
 
-  ahead-accepted : receivedStanza s (b .second) room line body k ≡ accepted s (b .second) line body k →
+  ahead-accepted : receivedStanza s (b .second) ample line body k ≡ accepted s (b .second) line body k →
       stanzaTaken client b o t x ≡ oneMore last (answer s (b .second) line body k) onward
   ahead-accepted e =
       ap (λ o. stanzaTaken client b o t x) (call ∙ ap (receivedTwoOutcome (b .first)) e)
       ∙ ap₂ (λ w s′. oneMore last w (takenText client s′ behindIt (awaitedBehind client (s′ .phase) t) x))
-      (all-written (answer s (b .second) line body k) room (omega (arith, answer-length s (b .second) line body k, room-size)))
+      (all-written (answer s (b .second) line body k) ample (omega (arith, answer-length s (b .second) line body k, room-size)))
       (sym (h .session-is ∙ ap (λ r. r .session) e))
 
   pub room-refused : (m : ℕ) → a ≡ declined m → hasRoom (stanzaTaken client b o t x) n ≡ true
@@ -133,11 +133,11 @@ module _ (s : Session) (b : Buffers) (t x : List ℕ) (line body : List ℕ) (k 
       go (refuses i z q) = refused-room s b t x n i o (call ∙ ap (receivedTwoOutcome (b .first)) q) z
 
   -- the answer of an accepted command
-  took-is : (w : WordTwo) (i j : ℕ) → a ≡ took w i j → (receivedStanza s (b .second) room line body k ≡ accepted s (b .second) line body k) × (j ≡ length (answer s (b .second) line body k))
+  took-is : (w : WordTwo) (i j : ℕ) → a ≡ took w i j → (receivedStanza s (b .second) ample line body k ≡ accepted s (b .second) line body k) × (j ≡ length (answer s (b .second) line body k))
   took-is w i j e = go (judged s (b .second) line body k)
     where
       go : Judged s (b .second) line body k →
-          (receivedStanza s (b .second) room line body k ≡ accepted s (b .second) line body k) × (j ≡ length (answer s (b .second) line body k))
+          (receivedStanza s (b .second) ample line body k ≡ accepted s (b .second) line body k) × (j ≡ length (answer s (b .second) line body k))
       go (accepts q) =
           let y : took w i j ≡ took (wordOf (command s (b .second) line body k)) k (length (answer s (b .second) line body k)) = sym e ∙ h .answer-is ∙ ap (λ r. r .answer) q in
           (q, cc)
@@ -202,10 +202,10 @@ module _ (s : Session) (b : Buffers) (a text : List ℕ) (at l m k : ℕ) (y : T
 
   -- what its call comes to
   abbrev called : Outcome
-  called = outcome s b (receive-two part room)
+  called = outcome s b (receive-two part ample)
 
-  call : called ≡ receivedTwoOutcome (b .first) (receivedStanza s (b .second) room (lineOf part l) (bodyBehind part l k) k)
-  call = stanza-call s b part room l m k (reads-two (s .phase) turn) first-is
+  call : called ≡ receivedTwoOutcome (b .first) (receivedStanza s (b .second) ample (lineOf part l) (bodyBehind part l k) k)
+  call = stanza-call s b part ample l m k (reads-two (s .phase) turn) first-is
 
   -- the text is this stanza and the rest
   ahead : hasRoom (takenText client s b a (drop at text)) n ≡ hasRoom (stanzaTaken client b called (take k part) (drop k part)) n
@@ -266,13 +266,13 @@ text-ample s b a x n l h =
 -- where no stanza begins it
 pub ahead-fault-room : (s : Session) (b : Buffers) (t x : List ℕ) (m n : ℕ) → turnAt client (s .phase) ≡ reads → refused m ≡ readFirst t → true ≡ hasRoom (stanzaAhead s b t x) n
 ahead-fault-room s b t x m n turn h =
-    sym (refused-room s b t x n m (outcome s b (receive-two t room)) (fault-call s b t room m (reads-two (s .phase) turn) (sym h))
+    sym (refused-room s b t x n m (outcome s b (receive-two t ample)) (fault-call s b t ample m (reads-two (s .phase) turn) (sym h))
     (read-number (λ m. m ≡ 0 → ⊥) (λ z. omega arith) (λ z. omega arith) (λ z. omega arith) t m (sym h)))
 
 module _ (s : Session) (b : Buffers) (t x : List ℕ) (l m k : ℕ) (y : Taking) (after : Session) (n : ℕ) (turn : turnAt client (s .phase) ≡ reads)
     (h : readFirst t ≡ stanza l m k) (tried : Tried s (b .second) (lineOf t l) (bodyBehind t l k) k y after) where
-  whole-call : outcome s b (receive-two t room) ≡ receivedTwoOutcome (b .first) (receivedStanza s (b .second) room (lineOf t l) (bodyBehind t l k) k)
-  whole-call = stanza-call s b t room l m k (reads-two (s .phase) turn) h
+  whole-call : outcome s b (receive-two t ample) ≡ receivedTwoOutcome (b .first) (receivedStanza s (b .second) ample (lineOf t l) (bodyBehind t l k) k)
+  whole-call = stanza-call s b t ample l m k (reads-two (s .phase) turn) h
 
   pub ahead-refused-room : (i : ℕ) → y ≡ declined i → true ≡ hasRoom (stanzaAhead s b t x) n
   ahead-refused-room i e = sym (room-refused s b t x (lineOf t l) (bodyBehind t l k) k y after n _ whole-call tried i e)

@@ -30,7 +30,7 @@ use Rattle.conversation.specs.Calls.{receive-two, outcome, receivedTwoOutcome}
 use Rattle.conversation.specs.TurnsTwo.{turnTwo}
 use Rattle.conversation.proofs.Laws.AllowedTwo.{filled-length}
 use Rattle.conversation.proofs.Laws.ReceivingTwo.{received-from, received-in-turn}
-use Rattle.chunks.specs.Taking.{client, room, turnAt, reads}
+use Rattle.chunks.specs.Taking.{client, ample, turnAt, reads}
 use Rattle.chunks.proofs.Laws.Cases.{drops-not-reads, keeps-not-reads}
 use Rattle.chunks.proofs.Laws.Numbers.{at-once-short, room-size}
 use Rattle.stanza.specs.Arguments.{argumentOf}
@@ -38,8 +38,8 @@ use Rattle.phase_two.specs.Entering.{AreLong, Entered}
 use Rattle.client_room.specs.Stanzas.{answerOf, Tried}
 
 -- every answer at once has room
-late-none : (a : AtOnce) → _≡_ {A = ℕ} (pick (ltb (length room) (length (textOf a))) 15 0) 0
-late-none a = rw (le-ltb (length room) (length (textOf a)) (omega (arith, at-once-short a, room-size)))
+late-none : (a : AtOnce) → _≡_ {A = ℕ} (pick (ltb (length ample) (length (textOf a))) 15 0) 0
+late-none a = rw (le-ltb (length ample) (length (textOf a)) (omega (arith, at-once-short a, room-size)))
 
 abbrev sessionIn : Machine → List ℕ → Bool → Phase → Tables → Session
 sessionIn m g x p t = record { machine = m; name = g; screen = x; phase = p; tables = t }
@@ -51,8 +51,8 @@ pub tried : (m : Machine) (g : List ℕ) (x : Bool) (q : Phase) (t : Tables) (b 
     Entered r t b c (payloadOf c l y) 0 n t′ → a ≡ answerOf n c k j → p ≡ pick (eqb n 0) (phaseReceived x c) (pick (closes n) Closed q) →
     Tried (sessionIn m g x q t) b l y k a (sessionIn m g x p t′)
 tried m g x q t b l y k c r w j n a p t′ ec er ew ej e ea ep =
-    let z = received-from m g x q t b room l y k c r w j 0 n a p t′ (pick (eqb n 0) (filledBy t b c (payloadOf c l y)) b)
-    (pick (eqb n 0) (filled (textOf w) room) room) ec er ew ej (sym (ap (λ i. pick (ltb (length room) i) 15 0) ej ∙ late-none w)) (e .number) ea ep
+    let z = received-from m g x q t b ample l y k c r w j 0 n a p t′ (pick (eqb n 0) (filledBy t b c (payloadOf c l y)) b)
+    (pick (eqb n 0) (filled (textOf w) ample) ample) ec er ew ej (sym (ap (λ i. pick (ltb (length ample) i) 15 0) ej ∙ late-none w)) (e .number) ea ep
     (rw (e .number) (e .tables)) refl refl in
     record { answer-is = ap (λ z. z .answer) z; session-is = ap (λ z. z .session) z }
 
@@ -74,23 +74,23 @@ module _ (s : Session) (b : BuffersTwo) (line body : List ℕ) (k : ℕ) where
     answer = took (wordOf command) k (length answer);
     session = moved s (phaseReceived (s .screen) command) (applied (s .tables) b command payload);
     buffers = filledBy (s .tables) b command payload;
-    output = filled answer room;
+    output = filled answer ample;
   }
 
   pub data Judged : Type 0 where
-    accepts : receivedStanza s b room line body k ≡ accepted → Judged
-    refuses : (n : ℕ) → (n ≡ 0 → ⊥) → receivedStanza s b room line body k ≡ refusedReceipt n s b room → Judged
+    accepts : receivedStanza s b ample line body k ≡ accepted → Judged
+    refuses : (n : ℕ) → (n ≡ 0 → ⊥) → receivedStanza s b ample line body k ≡ refusedReceipt n s b ample → Judged
 
   pub judged : Judged
   unfolding receivedStanza
   judged = go (eqb n 0) refl
     where
       n : ℕ
-      n = firstOf (numberReceived s b line body) (shortness answer room)
+      n = firstOf (numberReceived s b line body) (shortness answer ample)
 
       go : (d : Bool) → eqb n 0 ≡ d → Judged
-      go true h = accepts (ap (λ d. pick d accepted (refusedReceipt n s b room)) h)
-      go false h = refuses n (eqb-false n 0 h) (ap (λ d. pick d accepted (refusedReceipt n s b room)) h)
+      go true h = accepts (ap (λ d. pick d accepted (refusedReceipt n s b ample)) h)
+      go false h = refuses n (eqb-false n 0 h) (ap (λ d. pick d accepted (refusedReceipt n s b ample)) h)
 
   -- the answer is short
   pub answer-length : length answer ≤ 16

@@ -28,7 +28,7 @@ use Rattle.conversation.specs.Responding.{responded, respondedBy, respondedText
 use Rattle.conversation.specs.TurnsTwo.{dueIn}
 use Rattle.conversation.proofs.Laws.Accepted.{accepted}
 use Rattle.conversation.proofs.Laws.StepsTwo.{all-written}
-use Rattle.chunks.specs.Taking.{plugin, reads, room, turnAt, stanzaCall, no-stanza, lastIn, Taken, Intake, noMore, emptied, oneMore, takenText}
+use Rattle.chunks.specs.Taking.{plugin, reads, ample, turnAt, stanzaCall, no-stanza, lastIn, Taken, Intake, noMore, emptied, oneMore, takenText}
 use Rattle.chunks.specs.Chunks.{Outcome, judged, untaken, taken}
 use Rattle.chunks.proofs.Laws.Cases.{keeps-not-reads}
 use Rattle.chunks.proofs.Laws.Rooms.{response-fits, response-overflows, response-declined}
@@ -138,9 +138,9 @@ module _ (b : Buffers) (i : Intake) (left : ℕ) (s : Session) (after : List ℕ
       ∙ ap₂ (λ n y. untaken n i b y) h (ap (λ (o : one-call.Outcome). o .output) e)
 
 module _ (s : Session) (b : Buffers) (i : Intake) (bytes t rest out : List ℕ)
-    (is : taken plugin i b bytes ≡ stanzaTaken plugin b (outcome s b (respond t room)) t rest) where
+    (is : taken plugin i b bytes ≡ stanzaTaken plugin b (outcome s b (respond t ample)) t rest) where
   abbrev inRoom : one-call.Outcome
-  inRoom = outcome s b (respond t room)
+  inRoom = outcome s b (respond t ample)
 
   -- by whether it is accepted
   abbrev by-number : Bool → Taken
@@ -158,13 +158,13 @@ module _ (s : Session) (b : Buffers) (i : Intake) (bytes t rest out : List ℕ)
 
     written-size : length w ≡ inRoom .size
     written-size =
-        let a = accepted s b (respond t room) z .1 .written in
+        let a = accepted s b (respond t ample) z .1 .written in
         let body = bodyRead (readFirst t) t in
-        ap length (ap₂ take (a .size) (a .output) ∙ all-written body room (ltb-false (length room) (length body) (a .fits))) ∙ sym (a .size)
+        ap length (ap₂ take (a .size) (a .output) ∙ all-written body ample (ltb-false (length ample) (length body) (a .fits))) ∙ sym (a .size)
 
     behind-is : takenText plugin (inRoom .session) b [] rest ≡ dropping
     behind-is =
-        text-dropped plugin (inRoom .session) b [] 14 (ap (λ (s : Session). turnAt plugin (s .phase)) (accepted s b (respond t room) z .1 .session)) rest
+        text-dropped plugin (inRoom .session) b [] 14 (ap (λ (s : Session). turnAt plugin (s .phase)) (accepted s b (respond t ample) z .1 .session)) rest
         ∙ go (eqb (length rest) 0)
       where
         go : (f : Bool) →

@@ -8,7 +8,7 @@ use Rattle.session.specs.Opening.{nameOf}
 use Rattle.session.specs.Tables.{tablesIn}
 use Rattle.conversation.specs.PhaseTwo as two
 use Rattle.conversation.proofs.Laws.ReceivingTwo.{refusal-is}
-use Rattle.chunks.specs.Taking.{client, room}
+use Rattle.chunks.specs.Taking.{client, ample}
 use Rattle.chunks.specs.Uncut.{isWaiting}
 use Rattle.client_room.specs.Stanzas.{takingSaid}
 use Rattle.client_receiving.specs.Texts.{lent}
@@ -161,7 +161,7 @@ returns-2 c =
     let s = a .session in (
       (λ b. front-fault (a .session) (now (a .slots)) (now (a .header-slots)) (now (a .errors)) (now (a .stanzas)) (now (a .returned)) (now (a .front)) (now (a .text)) (now (a .out)) (c .before .before .before .before .before .before .before .before .before .before .before .before .before .before .before .pre .0 .0) b (n .0 .0) (c .before .moved .result) (c .stop .result) (now (a .input))
           (sym (c .before .before .before .before .before .before .read .ensures) ∙ ap readSaid (n .1))
-          (rw (c .before .moved .ensures, c .before .before .phase-refused .ensures) (ap (λ r. r .session) (refusal-is (s .machine) (nameOf (s .name)) (s .screen) (s .phase) (tablesIn (s .tables) (now (a .slots)) (now (a .header-slots))) (two.buffersOf (now (a .errors)) (now (a .stanzas)) (now (a .returned))) room (numberOf (n .0 .0)))))
+          (rw (c .before .moved .ensures, c .before .before .phase-refused .ensures) (ap (λ r. r .session) (refusal-is (s .machine) (nameOf (s .name)) (s .screen) (s .phase) (tablesIn (s .tables) (now (a .slots)) (now (a .header-slots))) (two.buffersOf (now (a .errors)) (now (a .stanzas)) (now (a .returned))) ample (numberOf (n .0 .0)))))
           (c .stop .ensures ∙ ap (stoppedAt (n .0 .0) (c .before .moved .result)) (c .before .before .before .before .before .before .before .begin .ensures))),
       ap (λ r. r .session .name) (c .stop .ensures) ∙ ap (λ s. s .name) (c .before .moved .ensures),
     )
