@@ -106,7 +106,7 @@ returns-3 c =
     let f = c .before .before .before .before .before .before .before .before .receive-held in (
       (λ b. let l = lent b (now (a .errors)) (now (a .stanzas)) (now (a .returned)) in
           with-room i l (now (a .chunk)) (now (a .out)) n
-          (sym (c .before .before .before .before .before .before .before .before .before .before .before .before .before .before .before .before .has-room .ensures l (search needs) (record { errors = refl; stanzas = refl; returned = refl }) (sym n)) ∙ not-false (c .before .before .before .before .before .before .before .before .before .before .before .before .before .before .before .before .has-room .result) (c .before .before .before .before .before .before .before .before .before .before .before .before .before .before .before .if1 .left))
+          (sym (c .before .before .before .before .before .before .before .before .before .before .before .before .before .before .before .before .has-room .ensures l (let g = c .before .before .before .before .before .before .before .before .before .before .before .before .before .before .before .before .before .before .has-room-arg2 .given in search needs) (record { errors = refl; stanzas = refl; returned = refl }) (sym n)) ∙ not-false (c .before .before .before .before .before .before .before .before .before .before .before .before .before .before .before .before .has-room .result) (c .before .before .before .before .before .before .before .before .before .before .before .before .before .before .before .if1 .left))
           (f .result) (f .last .1 .1 .1 .0) (now (a .header-slots)) (now (a .input)) (f .last .1 .1 .0) _ (f .last .1 .1 .1 .1 .1 .1 .1 .1 .0) (f .ensures .0 b)),
       (f .ensures .0 none-lent .says .input, f .ensures .1),
     )
