@@ -235,8 +235,7 @@ pub fn has_room(
     stanzas: usize,
     returned: usize,
 ) -> bool
-    requires { ⌜ 8191 ≤ length (now input) ⌝ }
-    ensures { λ r. ⌜ ((b : Buffers) → AreLong (b .second) errors stanzas returned → turnTwo (session .phase) ≡ 0 →
+    ensures { λ r. ⌜ ((b : Buffers) → 8191 ≤ length (now (input .entry)) → AreLong (b .second) errors stanzas returned → turnTwo (session .phase) ≡ 0 →
         r ≡ hasRoom (taken client (intakeOf client session (now (slots .entry)) (now («header_slots» .entry)) (now (input .entry))) b (now (chunk .entry)))
         room) ⌝ }
 {
@@ -250,18 +249,23 @@ pub fn has_room(
     match continued {
         Continued::Unfinished(_) => true,
         Continued::Refused(_) => true,
-        Continued::Whole(k) => joined_fits(
-            session,
-            input,
-            kept,
-            chunk,
-            k,
-            room,
-            slots,
-            header_slots,
-            errors,
-            stanzas,
-            returned,
-        ),
+        Continued::Whole(k) => {
+            if input.len() < kept {
+                return false;
+            }
+            joined_fits(
+                session,
+                input,
+                kept,
+                chunk,
+                k,
+                room,
+                slots,
+                header_slots,
+                errors,
+                stanzas,
+                returned,
+            )
+        }
     }
 }

@@ -58,12 +58,17 @@ pub fn next_stanza(phase: Phase, text: &[u8]) -> First
     }
 }
 
-// The front of a stanza, so many bytes of the input, and its rest, one behind the other in a store.
+// The front of a stanza, so many bytes of the input, and its rest, one behind the other in a store that has room.
 pub fn put_together(input: &[u8], kept: usize, rest: &[u8], store: &mut [u8])
-    requires { ⌜ (kept ≤ length (now input)) × (kept + length (now rest) ≤ length (now store)) ⌝ }
-    ensures { λ _. ⌜ now (store .exit) ≡
-        (take kept (now (input .entry)) ++ now (rest .entry)) ++ drop (kept + length (now (rest .entry))) (now (store .entry)) ⌝ }
+    ensures { λ _. ⌜ (kept ≤ length (now (input .entry)) → kept + length (now (rest .entry)) ≤ length (now (store .entry)) → now (store .exit) ≡
+        (take kept (now (input .entry)) ++ now (rest .entry)) ++ drop (kept + length (now (rest .entry))) (now (store .entry))) ⌝ }
 {
+    if input.len() < kept {
+        return;
+    }
+    if store.len() < kept {
+        return;
+    }
     stanza::copy(&input[..kept], store);
     stanza::copy(rest, &mut store[kept..]);
 }

@@ -66,7 +66,7 @@ returns-2 c =
     let f = c .leave2 .ensures .0 client (now (a .slots)) (now (a .header-slots)) (now (a .input)) in (
       (λ b. let l = lent b (now (a .errors)) (now (a .stanzas)) (now (a .returned)) in
           f l (now (a .out)) ∙ no-room i l (now (a .chunk)) (now (a .out)) n
-          (sym (c .before .before .has-room .ensures l (record { errors = refl; stanzas = refl; returned = refl }) (sym n)) ∙ not-true (c .before .before .has-room .result) (c .before .if1 .taken))),
+          (sym (c .before .before .has-room .ensures l (search needs) (record { errors = refl; stanzas = refl; returned = refl }) (sym n)) ∙ not-true (c .before .before .has-room .result) (c .before .if1 .taken))),
       (untaken-input (a .session) (now (a .slots)) (now (a .header-slots)) (now (a .input)) 15 _ (now (a .out)) (c .leave2 .result) (f (lent none-lent [] [] []) (now (a .out))),
       c .leave2 .ensures .1),
     )
@@ -78,7 +78,7 @@ receive-held-requires c κs =
     let n = sym (ap verdictSaid (c .before .before .before .before .before .before .before .before .before .before .before .enum-told .given .1)) ∙ c .before .before .before .before .before .before .before .before .before .before .before .before .before .turn-two .ensures in (
       (turn-second (a .session .phase) (sym n), search needs),
       λ b. let l = lent b (now (a .errors)) (now (a .stanzas)) (now (a .returned)) in
-          sym (c .before .before .before .before .before .before .before .has-room .ensures l (record { errors = refl; stanzas = refl; returned = refl }) (sym n)) ∙ not-false (c .before .before .before .before .before .before .before .has-room .result) (c .before .before .before .before .before .before .if1 .left),
+          sym (c .before .before .before .before .before .before .before .has-room .ensures l (search needs) (record { errors = refl; stanzas = refl; returned = refl }) (sym n)) ∙ not-false (c .before .before .before .before .before .before .before .has-room .result) (c .before .before .before .before .before .before .if1 .left),
     )
 
 -- src/receiving.rt:143:1
@@ -106,7 +106,7 @@ returns-3 c =
     let f = c .before .before .before .before .before .before .before .before .receive-held in (
       (λ b. let l = lent b (now (a .errors)) (now (a .stanzas)) (now (a .returned)) in
           with-room i l (now (a .chunk)) (now (a .out)) n
-          (sym (c .before .before .before .before .before .before .before .before .before .before .before .before .before .before .before .before .has-room .ensures l (record { errors = refl; stanzas = refl; returned = refl }) (sym n)) ∙ not-false (c .before .before .before .before .before .before .before .before .before .before .before .before .before .before .before .before .has-room .result) (c .before .before .before .before .before .before .before .before .before .before .before .before .before .before .before .if1 .left))
+          (sym (c .before .before .before .before .before .before .before .before .before .before .before .before .before .before .before .before .has-room .ensures l (let g = c .before .before .before .before .before .before .before .before .before .before .before .before .before .before .before .before .before .before .has-room-arg2 .given in search needs) (record { errors = refl; stanzas = refl; returned = refl }) (sym n)) ∙ not-false (c .before .before .before .before .before .before .before .before .before .before .before .before .before .before .before .before .has-room .result) (c .before .before .before .before .before .before .before .before .before .before .before .before .before .before .before .if1 .left))
           (f .result) (f .last .1 .1 .1 .0) (now (a .header-slots)) (now (a .input)) (f .last .1 .1 .0) _ (f .last .1 .1 .1 .1 .1 .1 .1 .1 .0) (f .ensures .0 b)),
       (f .ensures .0 none-lent .says .input, f .ensures .1),
     )

@@ -28,7 +28,7 @@ slice-aggregate-put-together-2 c = search needs
 
 -- src/receiving.rt:64:5
 put-together-requires : tie.Need-put-together-requires
-put-together-requires c κs = let a = c .before .before .before .before .before .before .before .before .before .args in let p = c .before .before .before .before .before .before .before .before .before .pre in (omega (arith, p .0 .2, p .0 .3), omega (arith, p .0 .2, length-take-le (a .k) (now (a .chunk)) (p .0 .1)))
+put-together-requires c κs = search needs
 
 -- src/receiving.rt:65:17
 add-whole : tie.Need-add-whole
@@ -46,7 +46,7 @@ slice-aggregate-take-front c =
     let r = take (a .k) (now (a .chunk)) in
     let k = length-take-le (a .k) (now (a .chunk)) (p .0 .1) in
     let i : a .kept ≤ length (now (a .input)) = omega (arith, p .0 .2, p .0 .3) in
-    let e = joined-front (now (a .input)) r _ _ (a .kept) (a .k) i k (c .before .before .put-together .ensures) in
+    let e = joined-front (now (a .input)) r _ _ (a .kept) (a .k) i k (c .before .before .put-together .ensures i (omega (arith, p .0 .2, k))) in
     sym (ap length e ∙ length-append (take (a .kept) (now (a .input))) r ∙ ap₂ _+_ (length-take-le (a .kept) (now (a .input)) i) k)
 
 -- src/receiving.rt:69:9
@@ -69,7 +69,7 @@ take-front-requires c κs =
     let r = take (a .k) (now (a .chunk)) in
     let k = length-take-le (a .k) (now (a .chunk)) (p .0 .1) in
     let i : a .kept ≤ length (now (a .input)) = omega (arith, p .0 .2, p .0 .3) in
-    let e = joined-front (now (a .input)) r _ _ (a .kept) (a .k) i k (c .before .before .before .before .before .before .before .before .before .put-together .ensures) in (
+    let e = joined-front (now (a .input)) r _ _ (a .kept) (a .k) i k (c .before .before .before .before .before .before .before .before .before .put-together .ensures i (omega (arith, p .0 .2, k))) in (
       (p .0 .0, omega (arith, ap length e ∙ length-append (take (a .kept) (now (a .input))) r ∙ ap₂ _+_ (length-take-le (a .kept) (now (a .input)) i) k, p .0 .2), p .0 .3),
       λ b.
           ap₂ (λ t x. isHeld (stanzaAhead (sessionOf (a .session) (now (a .slots)) (now (a .header-slots))) (lent b (now (a .errors)) (now (a .stanzas)) (now (a .returned))) t x) (now (a .out))) e (part-rest (a .k) (now (a .chunk)))
@@ -104,7 +104,7 @@ returns c =
     let r = take (a .k) (now (a .chunk)) in
     let k = length-take-le (a .k) (now (a .chunk)) (p .0 .1) in
     let i : a .kept ≤ length (now (a .input)) = omega (arith, p .0 .2, p .0 .3) in
-    let e = joined-front (now (a .input)) r _ _ (a .kept) (a .k) i k (c .before .before .before .before .before .before .before .before .before .before .before .before .before .before .before .before .before .before .before .before .put-together .ensures) in
+    let e = joined-front (now (a .input)) r _ _ (a .kept) (a .k) i k (c .before .before .before .before .before .before .before .before .before .before .before .before .before .before .before .before .before .before .before .before .put-together .ensures i (omega (arith, p .0 .2, k))) in
     let f = c .before .before .before .before .before .before .before .before .before .before .take-front in (
       (λ b. subst (λ t. Answers (f .result) (f .last .1 .1 .1 .1 .0) (now (a .header-slots)) (now (a .input)) (f .last .1 .1 .1 .0) (lent b (f .last .1 .1 .1 .1 .1 .1 .0) (f .last .1 .1 .1 .1 .1 .1 .1 .0) (f .last .1 .1 .1 .1 .1 .1 .1 .1 .0)) (now (a .out)) (f .last .1 .1 .1 .1 .1 .1 .1 .1 .1 .0) t)
           (ap₂ (λ t x. stanzaAhead (sessionOf (a .session) (now (a .slots)) (now (a .header-slots))) (lent b (now (a .errors)) (now (a .stanzas)) (now (a .returned))) t x) e (part-rest (a .k) (now (a .chunk)))) (f .ensures .0 b)),

@@ -27,7 +27,7 @@ slice-aggregate-put-together-2 c = search needs
 
 -- src/fitting.rt:211:5
 put-together-requires : tie.Need-put-together-requires
-put-together-requires c κs = let a = c .before .before .before .before .args in (c .before .before .before .before .pre .0, omega (arith, c .before .before .before .before .pre .2, length-take-le (a .k) (now (a .chunk)) (c .before .before .before .before .pre .1)))
+put-together-requires c κs = search needs
 
 -- src/fitting.rt:212:17
 add-whole : tie.Need-add-whole
@@ -44,7 +44,7 @@ slice-aggregate-front-fits c =
     let p = c .before .before .before .before .before .before .before .before .pre in
     let r = take (a .k) (now (a .chunk)) in
     let k = length-take-le (a .k) (now (a .chunk)) (p .1) in
-    let e = joined-front (now (a .input)) r _ _ (a .kept) (a .k) (p .0) k (c .before .before .before .put-together .ensures) in
+    let e = joined-front (now (a .input)) r _ _ (a .kept) (a .k) (p .0) k (c .before .before .before .put-together .ensures (p .0) (omega (arith, p .2, length-take-le (a .k) (now (a .chunk)) (p .1)))) in
     sym (ap length e ∙ length-append (take (a .kept) (now (a .input))) r ∙ ap₂ _+_ (length-take-le (a .kept) (now (a .input)) (p .0)) k)
 
 -- src/fitting.rt:217:9
@@ -68,7 +68,7 @@ returns : tie.Need-returns
 returns c = λ b long two.
     let a = c .before .before .before .before .before .before .before .before .before .before .before .args in
     let p = c .before .before .before .before .before .before .before .before .before .before .before .pre in
-    let e = joined-front (now (a .input)) (take (a .k) (now (a .chunk))) _ _ (a .kept) (a .k) (p .0) (length-take-le (a .k) (now (a .chunk)) (p .1)) (c .before .before .before .before .before .before .put-together .ensures) in
+    let e = joined-front (now (a .input)) (take (a .k) (now (a .chunk))) _ _ (a .kept) (a .k) (p .0) (length-take-le (a .k) (now (a .chunk)) (p .1)) (c .before .before .before .before .before .before .put-together .ensures (p .0) (omega (arith, p .2, length-take-le (a .k) (now (a .chunk)) (p .1)))) in
     c .front-fits .ensures b long two
     ∙ ap₂ (λ t x. hasRoom (stanzaAhead (sessionOf (a .session) (now (a .slots)) (now (a .header-slots))) b t x) (a .room)) e (part-rest (a .k) (now (a .chunk)))
 

@@ -1,5 +1,6 @@
 use mathlib.Core.Path.{sym}
 use lib.Seq.{length-take-le}
+use native.Mathlib.Omega.{arith}
 use denote.Ref.{now}
 use Rattle.client_room.proofs.Laws.Stanzas.{put-together-is}
 use borrow.Author.Needs.{needs}
@@ -9,9 +10,17 @@ use Rattle.client_room.proofs.stanzas.put_together.Reads as reads
 use Rattle.client_room.proofs.stanzas.put_together.Lts as lts
 use Rattle.stanza.proofs.copy.Reads as copy-reads
 
+-- src/stanzas.rt:62:1
+returns : tie.Need-returns
+returns c = λ l h. absurd (omega arith)
+
+-- src/stanzas.rt:70:9
+returns-2 : tie.Need-returns-2
+returns-2 c = λ l h. absurd (omega arith)
+
 -- src/stanzas.rt:67:18
 slice-aggregate-copy : tie.Need-slice-aggregate-copy
-slice-aggregate-copy c = let a = c .before .before .before .before .args in sym (length-take-le (a .kept) (now (a .input)) (c .before .before .before .before .pre .0))
+slice-aggregate-copy c = let a = c .before .before .before .before .before .before .args in sym (length-take-le (a .kept) (now (a .input)) (omega arith))
 
 -- src/stanzas.rt:67:5
 copy-requires : tie.Need-copy-requires
@@ -38,15 +47,15 @@ same-length : tie.Need-same-length
 same-length c = search needs
 
 -- src/stanzas.rt:62:1
-returns : tie.Need-returns
-returns c =
-    let a = c .before .before .before .before .before .before .before .before .before .before .before .before .args in
-    put-together-is (now (a .input)) (now (a .rest)) (now (a .store)) _ _ (a .kept) (c .before .before .before .before .before .before .before .before .before .before .before .before .pre .0) (c .before .before .before .before .before .before .before .before .before .before .before .before .pre .1) (c .before .before .before .before .before .before .copy .ensures) (c .before .before .copy2 .ensures)
+returns-3 : tie.Need-returns-3
+returns-3 c = λ l h. let a = c .before .before .before .before .before .before .before .before .before .before .before .before .before .before .args in put-together-is (now (a .input)) (now (a .rest)) (now (a .store)) _ _ (a .kept) l h (c .before .before .before .before .before .before .copy .ensures) (c .before .before .copy2 .ensures)
 
 pub put-together-spec : {M : Type 1} → statement M
 put-together-spec =
     tie.close
     (tie.spec
+    returns
+    returns-2
     slice-aggregate-copy
     copy-requires
     sub-copy
@@ -54,4 +63,4 @@ put-together-spec =
     part-copy-end
     copy-requires-2
     same-length
-    returns)
+    returns-3)
