@@ -42,8 +42,10 @@ returns c =
     let i = intakeOf client (a .session) (now (a .slots)) (now (a .header-slots)) (now (a .input)) in
     let f = c .leave .ensures .0 client (now (a .slots)) (now (a .header-slots)) (now (a .input)) in (
       (λ b. let l = lent b (now (a .errors)) (now (a .stanzas)) (now (a .returned)) in f l (now (a .out)) ∙ out-of-turn i l (now (a .chunk)) (now (a .out)) (numberOf (q .0 .0)) n (number-not-zero (q .0 .0))),
-      (untaken-input (a .session) (now (a .slots)) (now (a .header-slots)) (now (a .input)) (numberOf (q .0 .0)) _ (now (a .out)) (c .leave .result)  (f (lent none-lent [] [] []) (now (a .out))),
-      c .leave .ensures .1),
+      (
+        untaken-input (a .session) (now (a .slots)) (now (a .header-slots)) (now (a .input)) (numberOf (q .0 .0)) _ (now (a .out)) (c .leave .result) (f (lent none-lent [] [] []) (now (a .out))),
+        c .leave .ensures .1,
+      ),
     )
 
 enum-told : tie.Need-enum-told
@@ -67,8 +69,10 @@ returns-2 c =
       (λ b. let l = lent b (now (a .errors)) (now (a .stanzas)) (now (a .returned)) in
           f l (now (a .out)) ∙ no-room i l (now (a .chunk)) (now (a .out)) n
           (sym (c .before .before .has-room .ensures l (search needs) (record { errors = refl; stanzas = refl; returned = refl }) (sym n)) ∙ not-true (c .before .before .has-room .result) (c .before .if1 .taken))),
-      (untaken-input (a .session) (now (a .slots)) (now (a .header-slots)) (now (a .input)) 15 _ (now (a .out)) (c .leave2 .result) (f (lent none-lent [] [] []) (now (a .out))),
-      c .leave2 .ensures .1),
+      (
+        untaken-input (a .session) (now (a .slots)) (now (a .header-slots)) (now (a .input)) 15 _ (now (a .out)) (c .leave2 .result) (f (lent none-lent [] [] []) (now (a .out))),
+        c .leave2 .ensures .1,
+      ),
     )
 
 -- src/receiving.rt:181:5

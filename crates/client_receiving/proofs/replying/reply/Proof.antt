@@ -49,7 +49,7 @@ reply-ahead-requires c κs =
     let a = c .before .before .before .before .before .before .before .before .before .before .before .before .before .before .before .before .before .before .args in
     let n = c .before .before .before .before .before .before .before .before .before .before .sized2 .given .0 .0 in
     let z = reply-fits (intakeOf client (a .session) (now (a .slots)) (now (a .header-slots)) (now (a .input))) (lent none-lent [] [] []) (a .response) (now (a .body)) (now (a .out)) n
-        (sym (ap said (c .before .before .before .before .before .before .before .before .before .before .sized2 .given .1)) ∙ c .before .before .before .before .before .before .before .before .before .before .before .before .reply-size .ensures) in
+    (sym (ap said (c .before .before .before .before .before .before .before .before .before .before .sized2 .given .1)) ∙ c .before .before .before .before .before .before .before .before .before .before .before .before .reply-size .ensures) in
     (z .writable, z .size, search needs)
 
 -- src/replying.rt:224:17
@@ -92,7 +92,7 @@ reply-back-requires c κs =
     let a = c .before .before .before .before .before .before .before .before .before .before .before .before .before .before .before .before .before .args in
     let n = c .before .before .before .before .before .before .before .before .before .sized2 .given .0 .0 in
     let z = reply-fits (intakeOf client (a .session) (now (a .slots)) (now (a .header-slots)) (now (a .input))) (lent none-lent [] [] []) (a .response) (now (a .body)) (now (a .out)) n
-        (sym (ap said (c .before .before .before .before .before .before .before .before .before .sized2 .given .1)) ∙ c .before .before .before .before .before .before .before .before .before .before .before .reply-size .ensures) in
+    (sym (ap said (c .before .before .before .before .before .before .before .before .before .sized2 .given .1)) ∙ c .before .before .before .before .before .before .before .before .before .before .before .reply-size .ensures) in
     (z .writable, z .size, search needs, z .waits)
 
 -- src/replying.rt:198:1

@@ -73,9 +73,9 @@ take-text-requires c κs =
     let xs = now (a .slots) in
     let hs = now (a .header-slots) in
     let held : (b : BuffersOne) → isHeld (answeredWith (sessionOf (a .session) xs hs) (lent b (now (a .errors)) (now (a .stanzas)) (now (a .returned))) (a .response) (now (a .body)) (now (a .back))) (now (a .out)) ≡ true = λ b.
-        let l = lent b (now (a .errors)) (now (a .stanzas)) (now (a .returned)) in
-        given-room (a .session) (c .before .before .before .before .before .before .before .before .before .before .before .before .before .before .moved .result) xs hs l (a .response) (now (a .body)) (now (a .back)) (now (a .out)) (y .result) true (c .before .before .before .before .before .before .before .before .before .before .before .before .before .before .moved .ensures)
-        (y .ensures (stanzaText (responseLine (a .response)) (now (a .body))) [] l (sym (p .1)) (record { errors = refl; stanzas = refl; returned = refl })) (not-false (y .result) (c .before .before .before .before .before .before .before .before .before .before .before .if1 .left)) in
+    let l = lent b (now (a .errors)) (now (a .stanzas)) (now (a .returned)) in
+    given-room (a .session) (c .before .before .before .before .before .before .before .before .before .before .before .before .before .before .moved .result) xs hs l (a .response) (now (a .body)) (now (a .back)) (now (a .out)) (y .result) true (c .before .before .before .before .before .before .before .before .before .before .before .before .before .before .moved .ensures)
+    (y .ensures (stanzaText (responseLine (a .response)) (now (a .body))) [] l (sym (p .1)) (record { errors = refl; stanzas = refl; returned = refl })) (not-false (y .result) (c .before .before .before .before .before .before .before .before .before .before .before .if1 .left)) in
     reply-takes (a .session) xs hs (a .response) (now (a .body)) (now (a .back)) (now (a .out)) _ (a .size) (p .0) (p .1) (c .before .before .before .before .before .before .begin .result)
     (c .before .before .before .before .before .before .begin .ensures ∙ ap (begunWith (a .size)) (c .before .before .before .before .before .before .before .before .before .before .before .before .before .before .moved .ensures)) (c .before .before .before .before .before .before .before .before .before .write .ensures .1) (now (a .errors)) (now (a .stanzas)) (now (a .returned)) held (now (a .input)) (p .2)
 
@@ -108,9 +108,9 @@ returns-2 c =
     let xs = now (a .slots) in
     let hs = now (a .header-slots) in
     let held : (b : BuffersOne) → isHeld (answeredWith (sessionOf (a .session) xs hs) (lent b (now (a .errors)) (now (a .stanzas)) (now (a .returned))) (a .response) (now (a .body)) (now (a .back))) (now (a .out)) ≡ true = λ b.
-        let l = lent b (now (a .errors)) (now (a .stanzas)) (now (a .returned)) in
-        given-room (a .session) (c .before .before .before .before .before .before .before .before .before .before .before .before .before .before .before .before .before .before .before .before .before .before .before .before .before .moved .result) xs hs l (a .response) (now (a .body)) (now (a .back)) (now (a .out)) (y .result) true (c .before .before .before .before .before .before .before .before .before .before .before .before .before .before .before .before .before .before .before .before .before .before .before .before .before .moved .ensures)
-        (y .ensures (stanzaText (responseLine (a .response)) (now (a .body))) [] l (sym (p .1)) (record { errors = refl; stanzas = refl; returned = refl })) (not-false (y .result) (c .before .before .before .before .before .before .before .before .before .before .before .before .before .before .before .before .before .before .before .before .before .before .if1 .left)) in
+    let l = lent b (now (a .errors)) (now (a .stanzas)) (now (a .returned)) in
+    given-room (a .session) (c .before .before .before .before .before .before .before .before .before .before .before .before .before .before .before .before .before .before .before .before .before .before .before .before .before .moved .result) xs hs l (a .response) (now (a .body)) (now (a .back)) (now (a .out)) (y .result) true (c .before .before .before .before .before .before .before .before .before .before .before .before .before .before .before .before .before .before .before .before .before .before .before .before .before .moved .ensures)
+    (y .ensures (stanzaText (responseLine (a .response)) (now (a .body))) [] l (sym (p .1)) (record { errors = refl; stanzas = refl; returned = refl })) (not-false (y .result) (c .before .before .before .before .before .before .before .before .before .before .before .before .before .before .before .before .before .before .before .before .before .before .if1 .left)) in
     let begun = c .before .before .before .before .before .before .before .before .before .before .before .before .before .before .before .before .before .begin .ensures ∙ ap (begunWith (a .size)) (c .before .before .before .before .before .before .before .before .before .before .before .before .before .before .before .before .before .before .before .before .before .before .before .before .before .moved .ensures) in
     let f = c .before .before .before .before .before .before .before .before .before .before .take-text in (
       (λ b. let l = lent b (now (a .errors)) (now (a .stanzas)) (now (a .returned)) in

@@ -98,9 +98,9 @@ returns c =
     let kept = c .before .before .before .before .before .before .before .before .before .before .before .before .before .before .before .before .before .before .before .before .before .before .before .at-most-longest2 in
     let f = c .before .before .before .before .before .before .before .before .before .before .reply-ahead in
     let back =
-        back-copied (now (a .input)) (replicate 8192 0) (c .before .before .before .before .before .before .before .before .before .before .before .before .before .before .before .before .before .before .before .copy .last .1 .0) (at .result) (kept .result) (at .result + kept .result - at .result) (omega arith) (omega (arith, at .ensures, kept .ensures, p .2))
-        (c .before .before .before .before .before .before .before .before .before .before .before .before .before .before .before .before .before .before .before .copy .ensures) (omega (arith, kept .ensures, length-replicate {A = ℕ} 8192 0))
-        ∙ ap₂ (λ k i. take k (drop i (now (a .input)))) (kept .ensures) (at .ensures) ∙ sym (back-is (a .session) xs hs (now (a .input)) (p .3)) in (
+    back-copied (now (a .input)) (replicate 8192 0) (c .before .before .before .before .before .before .before .before .before .before .before .before .before .before .before .before .before .before .before .copy .last .1 .0) (at .result) (kept .result) (at .result + kept .result - at .result) (omega arith) (omega (arith, at .ensures, kept .ensures, p .2))
+    (c .before .before .before .before .before .before .before .before .before .before .before .before .before .before .before .before .before .before .before .copy .ensures) (omega (arith, kept .ensures, length-replicate {A = ℕ} 8192 0))
+    ∙ ap₂ (λ k i. take k (drop i (now (a .input)))) (kept .ensures) (at .ensures) ∙ sym (back-is (a .session) xs hs (now (a .input)) (p .3)) in (
       (λ b. let l = lent b (now (a .errors)) (now (a .stanzas)) (now (a .returned)) in
           f .ensures .0 b
           ∙ ap (λ x. judged (intakeOf client (a .session) xs hs (now (a .input))) l (now (a .out)) (answeredWith (sessionOf (a .session) xs hs) l (a .response) (now (a .body)) x)) back),
