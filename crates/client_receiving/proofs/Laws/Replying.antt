@@ -20,7 +20,7 @@ use Rattle.responses.specs.declared.Response.{Response}
 use Rattle.session.specs.declared.phases.Phase.{Phase}
 use Rattle.session.specs.declared.phases.Phase.the-variants.{One, Two, Awaiting, Ended, Closed}
 use Rattle.session.specs.declared.sessions.Session.{Session as CodeSession}
-use Rattle.session.specs.Session.{Session, sessionOf}
+use Rattle.session.specs.Session.{sessionOf}
 use Rattle.phase_one.specs.PhaseOne.{BuffersOne}
 use Rattle.conversation.specs.Kinds.{Buffers}
 use Rattle.conversation.specs.TurnsTwo.{Due, due, undue, dueIn, answered}
@@ -179,7 +179,7 @@ module _ (s : CodeSession) (xs hs : List (List ℕ)) (r : Response) (body back o
         let w = ahead (lent b e t d) .written in
         let l : length w ≡ length text + length v = length-append text v in
         let rest : drop (length w) out′ ≡ drop (length w) out =
-            ap₂ drop l put-front ∙ drop-append-add text (drop (length text) out) (length v) ∙ drop-drop (length v) (length text) out ∙ ap (λ n. drop n out) (sym l) in
+        ap₂ drop l put-front ∙ drop-append-add text (drop (length text) out) (length v) ∙ drop-drop (length v) (length text) out ∙ ap (λ n. drop n out) (sym l) in
         record {
           says = a .says;
           size = a .size;

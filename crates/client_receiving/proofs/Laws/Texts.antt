@@ -1,9 +1,9 @@
 -- A text received: behind each of its stanzas what is left comes to what the whole came to.
 use Prim.Native.Nat.{ℕ, _+_, _-_, _≤_, min}
 use mathlib.Core.Path.{_≡_, refl, sym, ap, ap₂, _∙_, subst}
-use mathlib.Core.Bool.{Bool, true, false, _&&_}
+use mathlib.Core.Bool.{Bool, true, false}
 use mathlib.Core.List.{List, [], _++_, append-nil}
-use lib.Dec.{eqb, leb}
+use lib.Dec.{leb}
 use lib.ListN.{length, take, drop, length-append, length-drop, length-take, take-append-drop}
 use lib.Seq.{length-take-le, take-append-add, drop-append-add, drop-drop}
 use native.Mathlib.Omega.{arith}
@@ -27,13 +27,12 @@ use Rattle.phase_one.specs.PhaseOne as one
 use Rattle.phase_one.specs.PhaseOne.{BuffersOne}
 use Rattle.conversation.specs.PhaseTwo as two
 use Rattle.conversation.specs.CommandsTwo.{textOfWord}
-use Rattle.conversation.specs.ReceivingTwo.{took, declined, Received, receivedStanza}
-use Rattle.conversation.specs.Kinds.{Buffers, buffersOf}
+use Rattle.conversation.specs.ReceivingTwo.{took, declined, receivedStanza}
+use Rattle.conversation.specs.Kinds.{Buffers}
 use Rattle.conversation.specs.Calls.{receive-two, outcome}
-use Rattle.chunks.specs.Taking.{client, Turn, reads, drops, keeps-back, turnAt, room, awaitedBehind, Last, command, Taken, noMore, emptied, keeping, oneMore, behind, takenText}
+use Rattle.chunks.specs.Taking.{client, Turn, reads, keeps-back, turnAt, room, awaitedBehind, Last, command, Taken, noMore, emptied, keeping, oneMore, behind, takenText}
 use Rattle.chunks.specs.Chunks.{isHeld}
 use Rattle.chunks.specs.Uncut.{isWaiting}
-use Rattle.chunks.proofs.Laws.Cases.{drops-not-reads, keeps-not-reads, keeps-not-drops}
 use Rattle.chunks.proofs.Laws.Bounds.{stanza-long}
 use Rattle.chunks.proofs.Laws.Texts.{stanzaTaken, text-kept-back, text-stanza, behind-more}
 use Rattle.intake.specs.Intake.{intakeOf, lastSaid, takenSaid, storedIn}
@@ -47,7 +46,7 @@ use Rattle.client_room.proofs.Laws.Stanzas.{lineOf, bodyBehind, reads-two}
 use Rattle.client_room.proofs.Laws.Room.{next-turn, next-first, next-within}
 use Rattle.client_receiving.specs.Stanzas.{stepSaid}
 use Rattle.client_receiving.specs.Texts.{lent, behindAnswer, Answers}
-use Rattle.client_receiving.proofs.Laws.Stanzas.{TookOn, Declined, took-on, declined-is}
+use Rattle.client_receiving.proofs.Laws.Stanzas.{TookOn, took-on, declined-is}
 
 -- ---- what waits
 
