@@ -1,12 +1,12 @@
 // One stanza of phase two: where it stands, what it is answered, and what it comes to by lengths alone.
 ghost use mathlib.Core.Path.{_≡_};
-ghost use mathlib.Core.List.{List, _++_};
+ghost use mathlib.Core.List.{_++_};
 ghost use Prim.Native.Nat.{_+_, _≤_};
 ghost use lib.ListN.{length, take, drop};
 ghost use Rattle.refusal.specs.Verdict.{verdictSaid};
 ghost use Rattle.stanza.specs.Parts.{argumentsIn, bodyIn};
 ghost use Rattle.stanza.specs.Reading.{readSaid};
-ghost use Rattle.session.specs.Session.{sessionOf, carriedBy};
+ghost use Rattle.session.specs.Session.{sessionOf};
 ghost use Rattle.conversation.specs.PhaseTwo.{BuffersTwo};
 ghost use Rattle.chunks.specs.Taking.{client, turnAt};
 ghost use Rattle.phase_two.specs.Entering.{AreLong};

@@ -1,7 +1,7 @@
 -- A text that is taken as one stanza, and the text behind it.
-use Prim.Native.Nat.{ℕ, _+_, _-_, _≤_}
+use Prim.Native.Nat.{ℕ, _+_, _≤_}
 use mathlib.Core.Path.{_≡_, refl, sym, ap, ap₂, _∙_, subst}
-use mathlib.Core.Bool.{true, false, true≢false, false≢true, _&&_}
+use mathlib.Core.Bool.{true, false, false≢true}
 use mathlib.Core.List.{List, [], _++_}
 use lib.Dec.{leb}
 use lib.ListN.{length, take, drop, length-append}
@@ -10,13 +10,10 @@ use native.Mathlib.Omega.{arith}
 use borrow.Author.Tests.{leb-true}
 use Rattle.refusal.specs.Number.{numberOf}
 use Rattle.refusal.specs.declared.Refusal.{Refusal}
-use Rattle.refusal.specs.declared.Verdict.the-variants.{Accepted, Refused}
+use Rattle.refusal.specs.declared.Verdict.the-variants.{Refused}
 use Rattle.refusal.proofs.Laws.Booleans.{and-true}
 use Rattle.stanza.specs.declared.places.Place.the-variants as place
 use Rattle.stanza.specs.Reading.{stanza, refused, readFirst}
-use Rattle.session.specs.Phases.{phaseRefused}
-use Rattle.session.specs.Tables.{tablesIn}
-use Rattle.session.specs.Opening.{nameOf}
 use Rattle.session.specs.declared.words.WordTwo.{WordTwo}
 use Rattle.session.specs.declared.phases.Phase.{Phase}
 use Rattle.session.specs.declared.phases.Phase.the-variants.{One, Two, Awaiting, Ended, Closed}
@@ -26,8 +23,7 @@ use Rattle.phase_one.specs.PhaseOne.{BuffersOne}
 use Rattle.conversation.specs.PhaseTwo as two
 use Rattle.conversation.specs.CommandsTwo.{textOfWord}
 use Rattle.conversation.specs.ReceivingTwo.{took, declined, refusedReceipt, receivedStanza}
-use Rattle.conversation.proofs.Laws.ReceivingTwo.{refusal-is}
-use Rattle.chunks.specs.Taking.{client, keeps-back, turnAt, ample, awaitedBehind, command, Taken, behind, takenText, no-stanza, noMore, emptied}
+use Rattle.chunks.specs.Taking.{client, keeps-back, turnAt, ample, awaitedBehind, command, behind, takenText, no-stanza, noMore, emptied}
 use Rattle.chunks.specs.Chunks.{isHeld}
 use Rattle.chunks.specs.Uncut.{isWaiting}
 use Rattle.chunks.proofs.Laws.Cases.{keeps-not-reads}
@@ -42,7 +38,7 @@ use Rattle.client_room.proofs.Laws.Stanzas.{lineOf, bodyBehind}
 use Rattle.client_receiving.specs.Stanzas.{stepSaid}
 use Rattle.client_receiving.specs.Texts.{lent, behindAnswer, MayTake, Answers}
 use Rattle.client_receiving.proofs.Laws.Stanzas.{filled-front, TookOn, took-on, declined-is, fault-is}
-use Rattle.client_receiving.proofs.Laws.Texts.{none-lent, answers-says, stop-says, back-short, awaited-none}
+use Rattle.client_receiving.proofs.Laws.Texts.{none-lent, answers-says, stop-says, back-short}
 
 -- the host's reply is due where bytes are kept back
 pub waits-back : (p : Phase) → isWaiting client p ≡ true → keeps-back ≡ turnAt client p

@@ -20,7 +20,7 @@ use Rattle.responses.specs.declared.Response.{Response}
 use Rattle.session.specs.declared.phases.Phase.{Phase}
 use Rattle.session.specs.declared.phases.Phase.the-variants.{One, Two, Awaiting, Ended, Closed}
 use Rattle.session.specs.declared.sessions.Session.{Session as CodeSession}
-use Rattle.session.specs.Session.{Session, sessionOf}
+use Rattle.session.specs.Session.{sessionOf}
 use Rattle.phase_one.specs.PhaseOne.{BuffersOne}
 use Rattle.conversation.specs.Kinds.{Buffers}
 use Rattle.conversation.specs.TurnsTwo.{Due, due, undue, dueIn, answered}
@@ -190,7 +190,7 @@ module _ (s : CodeSession) (xs hs : List (List ℕ)) (r : Response) (body back o
 
 -- bytes of the input at the front of a store
 module _ (input store store′ : List ℕ) (at k m : ℕ) (same : m ≡ k) (within : at + k ≤ length input)
-    (copied : store′ ≡ filled (take m (drop at input)) store) (room : k ≤ length store) where
+    (copied : store′ ≡ filled (take m (drop at input)) store) (ample : k ≤ length store) where
   abbrev part : List ℕ
   part = take m (drop at input)
 

@@ -1,12 +1,12 @@
 -- What a text needs of room, stanza by stanza.
 use Prim.Native.Nat.{ℕ, _+_, _-_, _*_, _≤_, _<_, min}
-use mathlib.Core.Path.{_≡_, refl, sym, ap, ap₂, _∙_, subst}
+use mathlib.Core.Path.{_≡_, refl, sym, ap, ap₂, _∙_}
 use mathlib.Core.Bool.{Bool, true, false, _&&_}
 use mathlib.Core.List.{List, [], _++_}
 use lib.Dec.{eqb, leb}
 use lib.ListN.{length, take, drop, length-append, length-drop}
 use native.Mathlib.Omega.{arith}
-use borrow.Author.Tests.{eqb-true, eqb-false, ne-eqb, le-leb, lt-leb, leb-true, leb-false}
+use borrow.Author.Tests.{ne-eqb, le-leb, lt-leb, leb-true, leb-false}
 use Rattle.refusal.specs.Pick.{pick}
 use lib.Seq.{drop-drop}
 use Rattle.refusal.proofs.Laws.Booleans.{cases, true-and}
@@ -19,7 +19,7 @@ use Rattle.stanza.proofs.Laws.Exact.{refused-2}
 use Rattle.stanza.proofs.Laws.Resuming.{unfinished-is, whole-iff, whole-within}
 use Rattle.session.specs.declared.words.WordTwo.{WordTwo}
 use Rattle.session.specs.declared.phases.Phase.{Phase}
-use Rattle.session.specs.declared.phases.Phase.the-variants.{One, Two, Awaiting, Ended, Closed}
+use Rattle.session.specs.declared.phases.Phase.the-variants.{Two}
 use Rattle.session.specs.declared.sessions.Session.{Session as CodeSession}
 use Rattle.session.specs.Session.{Session, sessionOf, closed}
 use Rattle.conversation.specs.CommandsTwo.{wordOf}
@@ -34,7 +34,7 @@ use Rattle.chunks.specs.Uncut.{isWaiting}
 use Rattle.intake.specs.Intake.{intakeOf}
 use Rattle.chunks.proofs.Laws.Numbers.{room-size}
 use Rattle.chunks.proofs.Laws.Short.{read-number}
-use Rattle.chunks.proofs.Laws.Texts.{stanzaTaken, takenCut, front-left, front-fault, front-stanza, text-dropped, text-kept-back, text-left, text-fault, text-stanza}
+use Rattle.chunks.proofs.Laws.Texts.{stanzaTaken, front-left, front-fault, front-stanza, text-dropped, text-kept-back, text-left, text-fault, text-stanza}
 use Rattle.chunks.proofs.Laws.Bounds.{front-written, text-written, text-kept, read-kept}
 use Rattle.phase_two.specs.Entering.{AreLong}
 use Rattle.client_room.specs.Stanzas.{nextIn, Tried}

@@ -7,7 +7,7 @@ use lib.Dec.{eqb, ltb}
 use lib.ListN.{length, take, drop, length-drop, length-append}
 use lib.Seq.{length-take-le, take-at, drop-at, drop-drop}
 use native.Mathlib.Omega.{arith}
-use borrow.Author.Tests.{eqb-true, eqb-false, le-ltb}
+use borrow.Author.Tests.{eqb-false, le-ltb}
 use Rattle.refusal.specs.Output.{filled}
 use Rattle.refusal.specs.Pick.{pick}
 use Rattle.refusal.specs.Verdict.{firstOf}
@@ -20,10 +20,9 @@ use Rattle.session.specs.declared.phases.Phase.{Phase}
 use Rattle.session.specs.declared.phases.Phase.the-variants.{One, Two, Awaiting, Ended, Closed}
 use Rattle.session.specs.Tables.{Tables}
 use Rattle.session.specs.Session.{Session, moved}
-use Rattle.phase_one.specs.PhaseOne.{BuffersOne}
 use Rattle.conversation.specs.CommandsTwo.{CommandTwo, commandTwo, rowTwo, wordTwo, wordOf, payloadOf}
-use Rattle.conversation.specs.PhaseTwo.{BuffersTwo, KindTwo, errors, stanzas, returned, applied, filledBy, ruled}
-use Rattle.conversation.specs.ReceivingTwo.{AtOnce, atOnce, textOf, phaseReceived, Taking, took, Received, refusedReceipt, numberReceived, receivedStanza, receivedAs, received}
+use Rattle.conversation.specs.PhaseTwo.{BuffersTwo, errors, stanzas, returned, applied, filledBy, ruled}
+use Rattle.conversation.specs.ReceivingTwo.{AtOnce, atOnce, textOf, phaseReceived, Taking, took, Received, refusedReceipt, numberReceived, receivedStanza, receivedAs}
 use Rattle.conversation.specs.Sending.{shortness}
 use Rattle.conversation.specs.Kinds.{Buffers}
 use Rattle.conversation.specs.Calls.{receive-two, outcome, receivedTwoOutcome}

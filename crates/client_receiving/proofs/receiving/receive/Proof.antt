@@ -1,3 +1,4 @@
+-- Out of turn and without room everything stays; else what was received is what the chunk came to.
 use mathlib.Core.Path.{refl, sym, ap, _∙_}
 use mathlib.Core.List.{[]}
 use borrow.Author.Tests.{not-true, not-false}
@@ -14,26 +15,16 @@ use Rattle.client_receiving.proofs.Laws.Receiving.{out-of-turn, no-room
 use borrow.Author.Needs.{needs}
 use Rattle.client_receiving.proofs.receiving.receive.Statement.{statement}
 use Rattle.client_receiving.proofs.receiving.receive.Tie as tie
-use Rattle.client_receiving.proofs.receiving.receive.Reads as reads
-use Rattle.client_receiving.proofs.receiving.receive.Lts as lts
-use Rattle.client_receiving.proofs.receiving.receive_held.Reads as receive-held-reads
-use Rattle.client_room.proofs.has_room.Reads as has-room-reads
-use Rattle.intake.proofs.leave.Reads as leave-reads
-use Rattle.phase_two.proofs.turn_two.Reads as turn-two-reads
 
--- src/receiving.rt:163:9
 turn-two-requires : tie.Need-turn-two-requires
 turn-two-requires c κs = search needs
 
--- src/receiving.rt:164:29
 enum-known-turn : tie.Need-enum-known-turn
 enum-known-turn c = search needs
 
--- src/receiving.rt:165:9
 leave-requires : tie.Need-leave-requires
 leave-requires c κs = search needs
 
--- src/receiving.rt:165:9
 returns : tie.Need-returns
 returns c =
     let a = c .before .before .before .before .before .before .before .before .before .before .args in
@@ -51,15 +42,12 @@ returns c =
 enum-told : tie.Need-enum-told
 enum-told c = search needs
 
--- src/receiving.rt:168:9
 has-room-requires : tie.Need-has-room-requires
 has-room-requires c κs = search needs
 
--- src/receiving.rt:179:9
 leave-requires-2 : tie.Need-leave-requires-2
 leave-requires-2 c κs = search needs
 
--- src/receiving.rt:179:9
 returns-2 : tie.Need-returns-2
 returns-2 c =
     let a = c .before .before .before .before .before .before .before .before .before .before .before .before .before .before .args in
@@ -75,7 +63,6 @@ returns-2 c =
       ),
     )
 
--- src/receiving.rt:181:5
 receive-held-requires : tie.Need-receive-held-requires
 receive-held-requires c κs =
     let a = c .before .before .before .before .before .before .before .before .before .before .before .before .before .before .before .before .before .before .before .args in
@@ -85,23 +72,18 @@ receive-held-requires c κs =
           sym (c .before .before .before .before .before .before .before .has-room .ensures l (search needs) (record { errors = refl; stanzas = refl; returned = refl }) (sym n)) ∙ not-false (c .before .before .before .before .before .before .before .has-room .result) (c .before .before .before .before .before .before .if1 .left),
     )
 
--- src/receiving.rt:143:1
 same-length : tie.Need-same-length
 same-length c = search needs
 
--- src/receiving.rt:143:1
 same-length-2 : tie.Need-same-length-2
 same-length-2 c = search needs
 
--- src/receiving.rt:143:1
 same-length-3 : tie.Need-same-length-3
 same-length-3 c = search needs
 
--- src/receiving.rt:143:1
 same-length-4 : tie.Need-same-length-4
 same-length-4 c = search needs
 
--- src/receiving.rt:143:1
 returns-3 : tie.Need-returns-3
 returns-3 c =
     let a = c .before .before .before .before .before .before .before .before .before .before .before .before .before .before .before .before .before .before .before .before .before .before .before .before .before .before .before .before .args in

@@ -1,5 +1,6 @@
+-- By how reading goes on: from the start, unfinished, refused, or one whole stanza and the text behind it.
 use Prim.Native.Nat.{min}
-use mathlib.Core.Path.{_≡_, sym, ap, _∙_, subst}
+use mathlib.Core.Path.{sym, ap, _∙_, subst}
 use mathlib.Core.List.{_++_}
 use lib.ListN.{take, drop}
 use native.Mathlib.Omega.{arith}
@@ -17,31 +18,16 @@ use Rattle.client_receiving.proofs.Laws.Receiving.{start-is, whole-is, 
 use borrow.Author.Needs.{needs}
 use Rattle.client_receiving.proofs.receiving.receive_held.Statement.{statement}
 use Rattle.client_receiving.proofs.receiving.receive_held.Tie as tie
-use Rattle.client_receiving.proofs.receiving.receive_held.Reads as reads
-use Rattle.client_receiving.proofs.receiving.receive_held.Lts as lts
-use Rattle.client_receiving.proofs.receiving.is_start.Reads as is-start-reads
-use Rattle.client_receiving.proofs.receiving.take_joined.Reads as take-joined-reads
-use Rattle.client_receiving.proofs.texts.begin.Reads as begin-reads
-use Rattle.client_receiving.proofs.texts.stop.Reads as stop-reads
-use Rattle.client_receiving.proofs.texts.take_text.Reads as take-text-reads
-use Rattle.intake.proofs.keep_on.Reads as keep-on-reads
-use Rattle.intake.proofs.kept_of.Reads as kept-of-reads
-use Rattle.session.proofs.sessions.Session.moved.Reads as moved-reads
-use Rattle.stanza.proofs.read_on.Reads as read-on-reads
 
--- src/receiving.rt:101:9
 kept-of-requires : tie.Need-kept-of-requires
 kept-of-requires c κs = search needs
 
--- src/receiving.rt:103:9
 begin-requires : tie.Need-begin-requires
 begin-requires c κs = search needs
 
--- src/receiving.rt:104:21
 is-start-requires : tie.Need-is-start-requires
 is-start-requires c κs = search needs
 
--- src/receiving.rt:105:9
 take-text-requires : tie.Need-take-text-requires
 take-text-requires c κs =
     let a = c .before .before .before .before .before .before .before .before .before .before .before .before .before .before .before .before .before .args in
@@ -55,27 +41,21 @@ take-text-requires c κs =
       held = λ b. ap (λ t. isHeld t (now (a .out))) (start-is (a .session) (now (a .slots)) (now (a .header-slots)) (now (a .input)) (now (a .chunk)) (lent b (now (a .errors)) (now (a .stanzas)) (now (a .returned))) (p .0 .0) (omega (arith, p .0 .1)) (g .result) (now (a .out)) (c .before .before .before .before .before .before .before .before .before .before .kept-of .result) k (omega arith) (c .before .before .before .before .before .before .before .is-start .ensures (c .before .before .before .before .before .before .if2 .taken)) (ap (λ r. r .count) (g .ensures)) (ap (λ r. r .last) (g .ensures)) (ap (λ r. r .written) (g .ensures)) (ap (λ r. r .session) (g .ensures))) ∙ p .1 b;
     }
 
--- src/receiving.rt:105:9
 same-length : tie.Need-same-length
 same-length c = search needs
 
--- src/receiving.rt:105:9
 same-length-2 : tie.Need-same-length-2
 same-length-2 c = search needs
 
--- src/receiving.rt:105:9
 same-length-3 : tie.Need-same-length-3
 same-length-3 c = search needs
 
--- src/receiving.rt:105:9
 same-length-4 : tie.Need-same-length-4
 same-length-4 c = search needs
 
--- src/receiving.rt:105:9
 same-length-5 : tie.Need-same-length-5
 same-length-5 c = search needs
 
--- src/receiving.rt:105:9
 returns : tie.Need-returns
 returns c =
     let a = c .before .before .before .before .before .before .before .before .before .before .before .before .before .before .before .before .before .before .before .before .before .before .before .before .before .before .before .before .args in
@@ -87,35 +67,27 @@ returns c =
       f .ensures .1 ∙ ap (λ r. r .session .name) (g .ensures),
     )
 
--- src/receiving.rt:117:9
 read-on-requires : tie.Need-read-on-requires
 read-on-requires c κs = search needs
 
--- src/receiving.rt:119:31
 enum-known-continued : tie.Need-enum-known-continued
 enum-known-continued c = search needs
 
--- src/receiving.rt:119:41
 keep-on-requires : tie.Need-keep-on-requires
 keep-on-requires c κs = search needs
 
--- src/receiving.rt:120:28
 enum-known-continued-2 : tie.Need-enum-known-continued-2
 enum-known-continued-2 c = search needs
 
--- src/receiving.rt:121:17
 moved-requires : tie.Need-moved-requires
 moved-requires c κs = search needs
 
--- src/receiving.rt:122:13
 stop-requires : tie.Need-stop-requires
 stop-requires c κs = search needs
 
--- src/receiving.rt:124:26
 enum-known-continued-3 : tie.Need-enum-known-continued-3
 enum-known-continued-3 c = search needs
 
--- src/receiving.rt:124:32
 take-joined-requires : tie.Need-take-joined-requires
 take-joined-requires c κs =
     let a = c .before .before .before .before .before .before .before .before .before .before .before .before .before .before .before .before .before .before .before .args in
@@ -126,11 +98,9 @@ take-joined-requires c κs =
     let w = whole-within (now (a .chunk)) (placeSaid (a .session .reading)) (min (a .session .kept) 8191) j h in
     ((p .0 .0, w .1, omega (arith, w .2, k), p .0 .1), λ b. ap (λ t. isHeld t (now (a .out))) (ap (λ n. stanzaAhead (sessionOf (a .session) (now (a .slots)) (now (a .header-slots))) (lent b (now (a .errors)) (now (a .stanzas)) (now (a .returned))) (take n (now (a .input)) ++ take j (now (a .chunk))) (drop j (now (a .chunk)))) k ∙ sym (whole-is (a .session) (now (a .slots)) (now (a .header-slots)) (now (a .input)) (now (a .chunk)) (lent b (now (a .errors)) (now (a .stanzas)) (now (a .returned))) (p .0 .0) (omega (arith, p .0 .1)) j h)) ∙ p .1 b)
 
--- src/receiving.rt:81:1
 same-length-6 : tie.Need-same-length-6
 same-length-6 c = search needs
 
--- src/receiving.rt:81:1
 returns-2 : tie.Need-returns-2
 returns-2 c =
     let a = c .before .before .before .before .before .before .before .before .before .before .before .before .before .before .before .before .before .args in
@@ -145,7 +115,6 @@ returns-2 c =
       f .ensures .1 .1,
     )
 
--- src/receiving.rt:81:1
 returns-3 : tie.Need-returns-3
 returns-3 c =
     let a = c .before .before .before .before .before .before .before .before .before .before .before .before .before .before .before .args in
@@ -158,27 +127,21 @@ returns-3 c =
       ap (λ r. r .session .name) (c .stop .ensures) ∙ ap (λ s. s .name) (c .before .moved .ensures),
     )
 
--- src/receiving.rt:81:1
 same-length-7 : tie.Need-same-length-7
 same-length-7 c = search needs
 
--- src/receiving.rt:81:1
 same-length-8 : tie.Need-same-length-8
 same-length-8 c = search needs
 
--- src/receiving.rt:81:1
 same-length-9 : tie.Need-same-length-9
 same-length-9 c = search needs
 
--- src/receiving.rt:81:1
 same-length-10 : tie.Need-same-length-10
 same-length-10 c = search needs
 
--- src/receiving.rt:81:1
 same-length-11 : tie.Need-same-length-11
 same-length-11 c = search needs
 
--- src/receiving.rt:81:1
 returns-4 : tie.Need-returns-4
 returns-4 c =
     let a = c .before .before .before .before .before .before .before .before .before .before .before .before .before .before .before .before .before .before .before .before .before .before .before .before .before .before .before .before .before .before .args in

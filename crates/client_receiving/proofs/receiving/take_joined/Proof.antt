@@ -1,5 +1,6 @@
+-- The store has the front that was kept and its rest: one text (`joined-front`).
 use Prim.Native.Nat.{_+_, _≤_}
-use mathlib.Core.Path.{_≡_, sym, ap, ap₂, _∙_, subst}
+use mathlib.Core.Path.{sym, ap, ap₂, _∙_, subst}
 use lib.ListN.{length, take, length-append}
 use lib.Seq.{length-take-le}
 use native.Mathlib.Omega.{arith}
@@ -13,32 +14,22 @@ use Rattle.client_receiving.specs.Texts.{lent, Answers}
 use borrow.Author.Needs.{needs}
 use Rattle.client_receiving.proofs.receiving.take_joined.Statement.{statement}
 use Rattle.client_receiving.proofs.receiving.take_joined.Tie as tie
-use Rattle.client_receiving.proofs.receiving.take_joined.Reads as reads
-use Rattle.client_receiving.proofs.receiving.take_joined.Lts as lts
-use Rattle.client_receiving.proofs.texts.take_front.Reads as take-front-reads
-use Rattle.client_room.proofs.put_together.Reads as put-together-reads
 
--- src/receiving.rt:64:44
 slice-aggregate-put-together : tie.Need-slice-aggregate-put-together
 slice-aggregate-put-together c = let a = c .before .before .before .before .before .before .before .before .args in sym (length-take-le (a .k) (now (a .chunk)) (c .before .before .before .before .before .before .before .before .pre .0 .1))
 
--- src/receiving.rt:64:57
 slice-aggregate-put-together-2 : tie.Need-slice-aggregate-put-together-2
 slice-aggregate-put-together-2 c = search needs
 
--- src/receiving.rt:64:5
 put-together-requires : tie.Need-put-together-requires
 put-together-requires c κs = search needs
 
--- src/receiving.rt:65:17
 add-whole : tie.Need-add-whole
 add-whole c = search needs
 
--- src/receiving.rt:68:9
 array-share-prefix-store : tie.Need-array-share-prefix-store
 array-share-prefix-store c = search needs
 
--- src/receiving.rt:68:9
 slice-aggregate-take-front : tie.Need-slice-aggregate-take-front
 slice-aggregate-take-front c =
     let a = c .before .before .before .before .before .before .before .before .before .before .before .before .args in
@@ -49,19 +40,15 @@ slice-aggregate-take-front c =
     let e = joined-front (now (a .input)) r _ _ (a .kept) (a .k) i k (c .before .before .put-together .ensures i (omega (arith, p .0 .2, k))) in
     sym (ap length e ∙ length-append (take (a .kept) (now (a .input))) r ∙ ap₂ _+_ (length-take-le (a .kept) (now (a .input)) i) k)
 
--- src/receiving.rt:69:9
 sub-take-front : tie.Need-sub-take-front
 sub-take-front c = search needs
 
--- src/receiving.rt:69:9
 part-take-front-start : tie.Need-part-take-front-start
 part-take-front-start c = search needs
 
--- src/receiving.rt:69:9
 part-take-front-end : tie.Need-part-take-front-end
 part-take-front-end c = search needs
 
--- src/receiving.rt:66:5
 take-front-requires : tie.Need-take-front-requires
 take-front-requires c κs =
     let a = c .before .before .before .before .before .before .before .before .before .before .before .before .before .before .before .before .before .before .before .args in
@@ -76,27 +63,21 @@ take-front-requires c κs =
           ∙ p .1 b,
     )
 
--- src/receiving.rt:40:1
 same-length : tie.Need-same-length
 same-length c = search needs
 
--- src/receiving.rt:40:1
 same-length-2 : tie.Need-same-length-2
 same-length-2 c = search needs
 
--- src/receiving.rt:40:1
 same-length-3 : tie.Need-same-length-3
 same-length-3 c = search needs
 
--- src/receiving.rt:40:1
 same-length-4 : tie.Need-same-length-4
 same-length-4 c = search needs
 
--- src/receiving.rt:40:1
 same-length-5 : tie.Need-same-length-5
 same-length-5 c = search needs
 
--- src/receiving.rt:40:1
 returns : tie.Need-returns
 returns c =
     let a = c .before .before .before .before .before .before .before .before .before .before .before .before .before .before .before .before .before .before .before .before .before .before .before .before .before .before .before .before .before .before .args in

@@ -1,3 +1,4 @@
+-- Without room everything stays; else the text is received behind the response (`reply-takes`, `reply-taken`).
 use mathlib.Core.Path.{_≡_, refl, sym, ap, _∙_}
 use mathlib.Core.Bool.{true, false}
 use mathlib.Core.List.{[]}
@@ -18,28 +19,16 @@ use Rattle.client_receiving.proofs.Laws.Replying.{begunWith, given-room
 use borrow.Author.Needs.{needs}
 use Rattle.client_receiving.proofs.replying.reply_ahead.Statement.{statement}
 use Rattle.client_receiving.proofs.replying.reply_ahead.Tie as tie
-use Rattle.client_receiving.proofs.replying.reply_ahead.Reads as reads
-use Rattle.client_receiving.proofs.replying.reply_ahead.Lts as lts
-use Rattle.client_receiving.proofs.replying.reply_has_room.Reads as reply-has-room-reads
-use Rattle.client_receiving.proofs.texts.begin.Reads as begin-reads
-use Rattle.client_receiving.proofs.texts.take_text.Reads as take-text-reads
-use Rattle.intake.proofs.leave.Reads as leave-reads
-use Rattle.responses.proofs.write.Reads as write-reads
-use Rattle.session.proofs.sessions.Session.moved.Reads as moved-reads
 
--- src/replying.rt:106:9
 moved-requires : tie.Need-moved-requires
 moved-requires c κs = search needs
 
--- src/replying.rt:108:9
 reply-has-room-requires : tie.Need-reply-has-room-requires
 reply-has-room-requires c κs = search needs
 
--- src/replying.rt:119:9
 leave-requires : tie.Need-leave-requires
 leave-requires c κs = search needs
 
--- src/replying.rt:119:9
 returns : tie.Need-returns
 returns c =
     let a = c .before .before .before .before .before .before .before .before .before .before .before .before .args in
@@ -56,15 +45,12 @@ returns c =
       (untaken-input (a .session) xs hs (now (a .input)) 15 _ (now (a .out)) (c .leave .result) (f (lent none-lent [] [] []) (now (a .out))), c .leave .ensures .1),
     )
 
--- src/replying.rt:121:5
 write-requires : tie.Need-write-requires
 write-requires c κs = search needs
 
--- src/replying.rt:122:9
 begin-requires : tie.Need-begin-requires
 begin-requires c κs = search needs
 
--- src/replying.rt:123:5
 take-text-requires : tie.Need-take-text-requires
 take-text-requires c κs =
     let a = c .before .before .before .before .before .before .before .before .before .before .before .before .before .before .before .before .before .before .before .before .before .before .args in
@@ -79,27 +65,21 @@ take-text-requires c κs =
     reply-takes (a .session) xs hs (a .response) (now (a .body)) (now (a .back)) (now (a .out)) _ (a .size) (p .0) (p .1) (c .before .before .before .before .before .before .begin .result)
     (c .before .before .before .before .before .before .begin .ensures ∙ ap (begunWith (a .size)) (c .before .before .before .before .before .before .before .before .before .before .before .before .before .before .moved .ensures)) (c .before .before .before .before .before .before .before .before .before .write .ensures .1) (now (a .errors)) (now (a .stanzas)) (now (a .returned)) held (now (a .input)) (p .2)
 
--- src/replying.rt:80:1
 same-length : tie.Need-same-length
 same-length c = search needs
 
--- src/replying.rt:80:1
 same-length-2 : tie.Need-same-length-2
 same-length-2 c = search needs
 
--- src/replying.rt:80:1
 same-length-3 : tie.Need-same-length-3
 same-length-3 c = search needs
 
--- src/replying.rt:80:1
 same-length-4 : tie.Need-same-length-4
 same-length-4 c = search needs
 
--- src/replying.rt:80:1
 same-length-5 : tie.Need-same-length-5
 same-length-5 c = search needs
 
--- src/replying.rt:80:1
 returns-2 : tie.Need-returns-2
 returns-2 c =
     let a = c .before .before .before .before .before .before .before .before .before .before .before .before .before .before .before .before .before .before .before .before .before .before .before .before .before .before .before .before .before .before .before .before .before .args in

@@ -1,17 +1,13 @@
+-- The session's part is its contract.
 use mathlib.Core.Path.{ap}
 use Rattle.refusal.specs.declared.Verdict.the-variants.{Refused}
 use borrow.Author.Needs.{needs}
 use Rattle.client_receiving.proofs.texts.stop.Statement.{statement}
 use Rattle.client_receiving.proofs.texts.stop.Tie as tie
-use Rattle.client_receiving.proofs.texts.stop.Reads as reads
-use Rattle.client_receiving.proofs.texts.stop.Lts as lts
-use Rattle.session.proofs.sessions.Session.keeping.Reads as keeping-reads
 
--- src/texts.rt:86:18
 keeping-requires : tie.Need-keeping-requires
 keeping-requires c κs = search needs
 
--- src/texts.rt:62:1
 returns : tie.Need-returns
 returns c = ap (λ s. record { verdict = Refused (c .before .args .refusal); count = c .before .args .so-far .count; last = c .before .args .so-far .last; written = c .before .args .so-far .written; session = s }) (c .keeping .ensures)
 

@@ -1,4 +1,5 @@
-use mathlib.Core.Path.{_≡_, refl, sym, ap, _∙_}
+-- The stanza is refused, or it waits, or the text behind it is received.
+use mathlib.Core.Path.{_≡_, sym, ap, _∙_}
 use lib.ListN.{take}
 use native.Mathlib.Omega.{arith}
 use denote.Ref.{now}
@@ -16,64 +17,40 @@ use Rattle.client_receiving.proofs.Laws.Front.{stoppedAt, front-fault, 
 use borrow.Author.Needs.{needs}
 use Rattle.client_receiving.proofs.texts.take_front.Statement.{statement}
 use Rattle.client_receiving.proofs.texts.take_front.Tie as tie
-use Rattle.client_receiving.proofs.texts.take_front.Reads as reads
-use Rattle.client_receiving.proofs.texts.take_front.Lts as lts
-use Rattle.client_receiving.proofs.stanzas.receive_stanza.Reads as receive-stanza-reads
-use Rattle.client_receiving.proofs.texts.begin.Reads as begin-reads
-use Rattle.client_receiving.proofs.texts.go_on.Reads as go-on-reads
-use Rattle.client_receiving.proofs.texts.is_waiting.Reads as is-waiting-reads
-use Rattle.client_receiving.proofs.texts.stop.Reads as stop-reads
-use Rattle.client_receiving.proofs.texts.take_text.Reads as take-text-reads
-use Rattle.intake.proofs.settle.Reads as settle-reads
-use Rattle.session.proofs.phase_refused.Reads as phase-refused-reads
-use Rattle.session.proofs.sessions.Session.moved.Reads as moved-reads
-use Rattle.stanza.proofs.read.Reads as read-reads
 
--- src/texts.rt:201:9
 begin-requires : tie.Need-begin-requires
 begin-requires c κs = search needs
 
--- src/texts.rt:202:9
 read-requires : tie.Need-read-requires
 read-requires c κs = search needs
 
--- src/texts.rt:204:24
 enum-known-first : tie.Need-enum-known-first
 enum-known-first c = search needs
 
--- src/texts.rt:209:31
 phase-refused-requires : tie.Need-phase-refused-requires
 phase-refused-requires c κs = search needs
 
--- src/texts.rt:209:17
 moved-requires : tie.Need-moved-requires
 moved-requires c κs = search needs
 
--- src/texts.rt:206:13
 stop-requires : tie.Need-stop-requires
 stop-requires c κs = search needs
 
--- src/texts.rt:212:23
 enum-known-first-2 : tie.Need-enum-known-first-2
 enum-known-first-2 c = search needs
 
--- src/texts.rt:213:17
 receive-stanza-requires : tie.Need-receive-stanza-requires
 receive-stanza-requires c κs = search needs
 
--- src/texts.rt:227:33
 enum-known-answer : tie.Need-enum-known-answer
 enum-known-answer c = search needs
 
--- src/texts.rt:227:39
 stop-requires-2 : tie.Need-stop-requires-2
 stop-requires-2 c κs = search needs
 
--- src/texts.rt:228:33
 enum-known-answer-2 : tie.Need-enum-known-answer-2
 enum-known-answer-2 c = search needs
 
--- src/texts.rt:229:25
 go-on-requires : tie.Need-go-on-requires
 go-on-requires c κs =
     let a = c .before .before .before .before .before .before .before .before .before .before .before .before .before .before .before .before .before .before .before .before .before .before .before .before .before .before .before .before .before .before .before .args in
@@ -85,35 +62,27 @@ go-on-requires c κs =
     let w = front-fits (a .session) (now (a .slots)) (now (a .header-slots)) (now (a .errors)) (now (a .stanzas)) (now (a .returned)) (now (a .front)) (now (a .text)) (now (a .out)) (pre .0 .0) (f .0 .0 .line) (f .0 .0 .body) (f .0 .0 .taken) h (y .result) (y .last .1 .1 .1 .0) (y .last .1 .1 .1 .1 .1 .0) (y .last .1 .1 .1 .1 .1 .1 .0) (y .last .1 .1 .1 .1 .1 .1 .1 .0) (y .last .1 .1 .1 .1 .1 .1 .1 .1 .0) (y .ensures .0) (pre .1) _ _ _ (ap takingSaid (c .before .answer2 .given .1)) in
     (omega (arith, ap (λ r. r .count) begun), omega (arith, w, ap (λ r. r .written) begun, c .before .before .before .before .before .before .before .before .before .before .before .before .before .before .before .before .before .before .before .before .before .before .before .before .before .before .before .before .before .before .before .good .1 .1 .1 .1 .1 .1 .1 .1 .1 .0))
 
--- src/texts.rt:231:24
 is-waiting-requires : tie.Need-is-waiting-requires
 is-waiting-requires c κs = search needs
 
--- src/texts.rt:232:25
 settle-requires : tie.Need-settle-requires
 settle-requires c κs = search needs
 
--- src/texts.rt:232:25
 same-length : tie.Need-same-length
 same-length c = search needs
 
--- src/texts.rt:232:25
 same-length-2 : tie.Need-same-length-2
 same-length-2 c = c .before .before .before .before .before .before .before .before .before .before .before .before .before .before .before .before .before .before .before .receive-stanza .kept .1 .1 .1 .1 .1 .0
 
--- src/texts.rt:232:25
 same-length-3 : tie.Need-same-length-3
 same-length-3 c = c .before .before .before .before .before .before .before .before .before .before .before .before .before .before .before .before .before .before .before .receive-stanza .kept .1 .1 .1 .1 .1 .1 .0
 
--- src/texts.rt:232:25
 same-length-4 : tie.Need-same-length-4
 same-length-4 c = c .before .before .before .before .before .before .before .before .before .before .before .before .before .before .before .before .before .before .before .receive-stanza .kept .1 .1 .1 .1 .1 .1 .1 .0
 
--- src/texts.rt:232:25
 same-length-5 : tie.Need-same-length-5
 same-length-5 c = search needs
 
--- src/texts.rt:232:25
 returns : tie.Need-returns
 returns c =
     let a = c .before .before .before .before .before .before .before .before .before .before .before .before .before .before .before .before .before .before .before .before .before .before .before .before .before .before .before .before .before .before .before .before .before .before .before .before .before .before .args in
@@ -136,7 +105,6 @@ returns c =
       r .ensures .1 .1 ∙ ap (λ s. s .name) session ∙ ap (λ s. s .name) (y .ensures .1),
     )
 
--- src/texts.rt:234:21
 take-text-requires : tie.Need-take-text-requires
 take-text-requires c κs =
     let a = c .before .before .before .before .before .before .before .before .before .before .before .before .before .before .before .before .before .before .before .before .before .before .before .before .before .before .before .before .before .before .before .before .before .before .before .before .before .before .before .before .args in
@@ -153,7 +121,6 @@ take-text-requires c κs =
     let v = ap (λ s. isWaiting client (s .phase)) session ∙ sym (c .before .before .before .before .before .before .before .is-waiting .ensures) ∙ c .before .before .before .before .before .before .if1 .left in
     front-takes (a .session) (now (a .slots)) (now (a .header-slots)) (now (a .errors)) (now (a .stanzas)) (now (a .returned)) (now (a .front)) (now (a .text)) (now (a .out)) (pre .0 .0) (f .0 .0 .line) (f .0 .0 .body) (f .0 .0 .taken) h (y .result) (y .last .1 .1 .1 .0) (y .last .1 .1 .1 .1 .1 .0) (y .last .1 .1 .1 .1 .1 .1 .0) (y .last .1 .1 .1 .1 .1 .1 .1 .0) (y .last .1 .1 .1 .1 .1 .1 .1 .1 .0) (y .ensures .0) (pre .1) _ _ _ (ap takingSaid (c .before .before .before .before .before .before .before .before .before .before .answer2 .given .1)) (g .result) count last written session (now (a .input)) v (pre .0 .2)
 
--- src/texts.rt:180:1
 returns-2 : tie.Need-returns-2
 returns-2 c =
     let a = c .before .before .before .before .before .before .before .before .before .before .before .before .before .before .before .args in
@@ -166,23 +133,18 @@ returns-2 c =
       ap (λ r. r .session .name) (c .stop .ensures) ∙ ap (λ s. s .name) (c .before .moved .ensures),
     )
 
--- src/texts.rt:180:1
 same-length-6 : tie.Need-same-length-6
 same-length-6 c = search needs
 
--- src/texts.rt:180:1
 same-length-7 : tie.Need-same-length-7
 same-length-7 c = search needs
 
--- src/texts.rt:180:1
 same-length-8 : tie.Need-same-length-8
 same-length-8 c = search needs
 
--- src/texts.rt:180:1
 same-length-9 : tie.Need-same-length-9
 same-length-9 c = search needs
 
--- src/texts.rt:180:1
 returns-3 : tie.Need-returns-3
 returns-3 c =
     let a = c .before .before .before .before .before .before .before .before .before .before .before .before .before .before .before .before .before .before .before .before .before .before .before .before .before .before .before .before .before .before .before .before .args in
@@ -196,27 +158,21 @@ returns-3 c =
       ap (λ r. r .session .name) (c .stop2 .ensures) ∙ ap (λ s. s .name) (y .ensures .1),
     )
 
--- src/texts.rt:180:1
 same-length-10 : tie.Need-same-length-10
 same-length-10 c = search needs
 
--- src/texts.rt:180:1
 same-length-11 : tie.Need-same-length-11
 same-length-11 c = c .before .before .before .before .before .before .before .before .before .before .take-text .kept .1 .1 .1 .1 .1 .0 ∙ c .before .before .before .before .before .before .before .before .before .before .before .before .before .before .before .before .before .before .before .before .before .before .before .before .before .before .before .before .before .before .before .before .receive-stanza .kept .1 .1 .1 .1 .1 .0
 
--- src/texts.rt:180:1
 same-length-12 : tie.Need-same-length-12
 same-length-12 c = c .before .before .before .before .before .before .before .before .before .before .take-text .kept .1 .1 .1 .1 .1 .1 .0 ∙ c .before .before .before .before .before .before .before .before .before .before .before .before .before .before .before .before .before .before .before .before .before .before .before .before .before .before .before .before .before .before .before .before .receive-stanza .kept .1 .1 .1 .1 .1 .1 .0
 
--- src/texts.rt:180:1
 same-length-13 : tie.Need-same-length-13
 same-length-13 c = c .before .before .before .before .before .before .before .before .before .before .take-text .kept .1 .1 .1 .1 .1 .1 .1 .0 ∙ c .before .before .before .before .before .before .before .before .before .before .before .before .before .before .before .before .before .before .before .before .before .before .before .before .before .before .before .before .before .before .before .before .receive-stanza .kept .1 .1 .1 .1 .1 .1 .1 .0
 
--- src/texts.rt:180:1
 same-length-14 : tie.Need-same-length-14
 same-length-14 c = c .before .before .before .before .before .before .before .before .before .before .take-text .kept .1 .1 .1 .1 .1 .1 .1 .1 .0 ∙ c .before .before .before .before .before .before .before .before .before .before .before .before .before .before .before .before .before .before .before .before .before .before .before .before .before .before .before .before .before .before .before .before .receive-stanza .kept .1 .1 .1 .1 .1 .1 .1 .1 .0
 
--- src/texts.rt:180:1
 returns-4 : tie.Need-returns-4
 returns-4 c =
     let a = c .before .before .before .before .before .before .before .before .before .before .before .before .before .before .before .before .before .before .before .before .before .before .before .before .before .before .before .before .before .before .before .before .before .before .before .before .before .before .before .before .before .before .before .before .before .before .before .before .before .before .before .args in

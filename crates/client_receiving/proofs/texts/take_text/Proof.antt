@@ -1,3 +1,4 @@
+-- The invariant: what is left, behind the stanzas that were taken, comes to what the whole text came to (`Going`). Each turn takes a byte at least.
 use mathlib.Core.Path.{subst}
 use mathlib.Core.List.{[], _++_}
 use lib.ListN.{take}
@@ -11,7 +12,7 @@ use Rattle.intake.specs.Settling.{MaySettle, Says}
 use Rattle.client_room.specs.Stanzas.{takingSaid}
 use Rattle.client_room.proofs.Laws.Room.{next-within}
 use Rattle.client_receiving.specs.Texts.{lent, behindAnswer, Answers}
-use Prim.Native.Nat.{ℕ, _≤_, _-_}
+use Prim.Native.Nat.{_-_}
 use mathlib.Core.Path.{_≡_, refl, sym, ap, _∙_}
 use lib.ListN.{length, drop}
 use native.Mathlib.Omega.{arith}
@@ -20,15 +21,6 @@ use denote.Ref.{now}
 use Rattle.client_receiving.proofs.Laws.Texts.{Going, going-first, going-settles, going-settled, going-fits, going-few, going-size, going-on, going-refused}
 use Rattle.client_receiving.proofs.texts.take_text.Statement.{statement}
 use Rattle.client_receiving.proofs.texts.take_text.Tie as tie
-use Rattle.client_receiving.proofs.texts.take_text.Reads as reads
-use Rattle.client_receiving.proofs.texts.take_text.Lts as lts
-use Rattle.client_receiving.proofs.stanzas.receive_stanza.Reads as receive-stanza-reads
-use Rattle.client_receiving.proofs.texts.awaited_in.Reads as awaited-in-reads
-use Rattle.client_receiving.proofs.texts.go_on.Reads as go-on-reads
-use Rattle.client_receiving.proofs.texts.stop.Reads as stop-reads
-use Rattle.client_room.proofs.next_stanza.Reads as next-stanza-reads
-use Rattle.intake.proofs.settle.Reads as settle-reads
-use Rattle.intake.proofs.turn_client.Reads as turn-client-reads
 
 abbrev Inv-loop : tie.InvT-loop
 Inv-loop text input₀ slots₀ header-slots errors₀ stanzas₀ returned₀ out₀ done₀ at₀ begun₀ input slots errors stanzas returned out done at begun =
@@ -38,89 +30,68 @@ abbrev μ-loop : tie.MeasureT-loop
 μ-loop text input₀ slots₀ header-slots errors₀ stanzas₀ returned₀ out₀ done₀ at₀ begun₀ input slots errors stanzas returned out done at begun =
     length text - at
 
--- src/texts.rt:125:5
 loop-holds : tie.Need-loop-holds Inv-loop μ-loop
 loop-holds c =
     let a = c .before .before .before .before .before .before .args in
     (refl, going-first (a .so-far) (now (a .slots)) (now (a .header-slots)) (now (a .errors)) (now (a .stanzas)) (now (a .returned)) (now (a .text)) (now (a .out)) (c .before .before .before .before .before .before .pre .few) (c .before .before .before .before .before .before .pre .within))
 
--- src/texts.rt:128:40
 sub-next-stanza : tie.Need-sub-next-stanza Inv-loop μ-loop
 sub-next-stanza c = search needs
 
--- src/texts.rt:128:40
 part-next-stanza-start : tie.Need-part-next-stanza-start Inv-loop μ-loop
 part-next-stanza-start c = search needs
 
--- src/texts.rt:128:40
 part-next-stanza-end : tie.Need-part-next-stanza-end Inv-loop μ-loop
 part-next-stanza-end c = search needs
 
--- src/texts.rt:128:13
 next-stanza-requires : tie.Need-next-stanza-requires Inv-loop μ-loop
 next-stanza-requires c κs = search needs
 
--- src/texts.rt:131:21
 enum-told : tie.Need-enum-told Inv-loop μ-loop
 enum-told c = search needs
 
--- src/texts.rt:131:21
 turn-client-requires : tie.Need-turn-client-requires Inv-loop μ-loop
 turn-client-requires c κs = search needs
 
--- src/texts.rt:132:49
 sub-awaited-in : tie.Need-sub-awaited-in Inv-loop μ-loop
 sub-awaited-in c = search needs
 
--- src/texts.rt:132:49
 part-awaited-in-start : tie.Need-part-awaited-in-start Inv-loop μ-loop
 part-awaited-in-start c = search needs
 
--- src/texts.rt:132:49
 part-awaited-in-end : tie.Need-part-awaited-in-end Inv-loop μ-loop
 part-awaited-in-end c = search needs
 
--- src/texts.rt:132:21
 awaited-in-requires : tie.Need-awaited-in-requires Inv-loop μ-loop
 awaited-in-requires c κs = search needs
 
--- src/texts.rt:133:60
 sub-settle : tie.Need-sub-settle Inv-loop μ-loop
 sub-settle c = search needs
 
--- src/texts.rt:133:60
 part-settle-start : tie.Need-part-settle-start Inv-loop μ-loop
 part-settle-start c = search needs
 
--- src/texts.rt:133:60
 part-settle-end : tie.Need-part-settle-end Inv-loop μ-loop
 part-settle-end c = search needs
 
--- src/texts.rt:133:17
 settle-requires : tie.Need-settle-requires Inv-loop μ-loop
 settle-requires c κs = search needs
 
--- src/texts.rt:133:17
 same-length : tie.Need-same-length Inv-loop μ-loop
 same-length c = c .before .before .settle .kept .1 .1 .1 .1 .0 ∙ ap length (c .before .before .before .before .before .before .before .before .before .before .before .before .before .loop .inv .0)
 
--- src/texts.rt:133:17
 same-length-2 : tie.Need-same-length-2 Inv-loop μ-loop
 same-length-2 c = search needs
 
--- src/texts.rt:133:17
 same-length-3 : tie.Need-same-length-3 Inv-loop μ-loop
 same-length-3 c = search needs
 
--- src/texts.rt:133:17
 same-length-4 : tie.Need-same-length-4 Inv-loop μ-loop
 same-length-4 c = search needs
 
--- src/texts.rt:133:17
 same-length-5 : tie.Need-same-length-5 Inv-loop μ-loop
 same-length-5 c = search needs
 
--- src/texts.rt:133:17
 returns : tie.Need-returns Inv-loop μ-loop
 returns c =
     let a = c .before .before .before .before .before .before .before .before .before .before .before .before .before .before .before .before .before .before .before .before .args in
@@ -141,63 +112,48 @@ returns c =
       y .ensures .1 .1 ∙ q .inv .1 .name,
     )
 
--- src/texts.rt:135:27
 enum-known-first : tie.Need-enum-known-first Inv-loop μ-loop
 enum-known-first c = search needs
 
--- src/texts.rt:139:21
 sub-receive-stanza : tie.Need-sub-receive-stanza Inv-loop μ-loop
 sub-receive-stanza c = search needs
 
--- src/texts.rt:139:21
 part-receive-stanza-start : tie.Need-part-receive-stanza-start Inv-loop μ-loop
 part-receive-stanza-start c = search needs
 
--- src/texts.rt:139:21
 part-receive-stanza-end : tie.Need-part-receive-stanza-end Inv-loop μ-loop
 part-receive-stanza-end c = search needs
 
--- src/texts.rt:146:21
 sub-receive-stanza-2 : tie.Need-sub-receive-stanza-2 Inv-loop μ-loop
 sub-receive-stanza-2 c = search needs
 
--- src/texts.rt:146:21
 part-receive-stanza-start-2 : tie.Need-part-receive-stanza-start-2 Inv-loop μ-loop
 part-receive-stanza-start-2 c = search needs
 
--- src/texts.rt:146:21
 part-receive-stanza-end-2 : tie.Need-part-receive-stanza-end-2 Inv-loop μ-loop
 part-receive-stanza-end-2 c = search needs
 
--- src/texts.rt:137:21
 receive-stanza-requires : tie.Need-receive-stanza-requires Inv-loop μ-loop
 receive-stanza-requires c κs = search needs
 
--- src/texts.rt:151:37
 enum-known-answer : tie.Need-enum-known-answer Inv-loop μ-loop
 enum-known-answer c = search needs
 
--- src/texts.rt:152:25
 stop-requires : tie.Need-stop-requires Inv-loop μ-loop
 stop-requires c κs = search needs
 
--- src/texts.rt:133:17
 same-length-6 : tie.Need-same-length-6 Inv-loop μ-loop
 same-length-6 c = ap length (c .before .before .before .before .before .before .before .before .before .before .before .before .before .before .before .before .before .before .before .before .before .before .before .before .before .before .before .loop .inv .0)
 
--- src/texts.rt:152:25
 same-length-7 : tie.Need-same-length-7 Inv-loop μ-loop
 same-length-7 c = c .before .before .before .before .before .before .before .before .before .before .before .before .before .receive-stanza .kept .1 .1 .1 .1 .1 .0 ∙ c .before .before .before .before .before .before .before .before .before .before .before .before .before .before .before .before .before .before .before .before .before .before .before .before .before .before .before .loop .inv .1 .errors
 
--- src/texts.rt:152:25
 same-length-8 : tie.Need-same-length-8 Inv-loop μ-loop
 same-length-8 c = c .before .before .before .before .before .before .before .before .before .before .before .before .before .receive-stanza .kept .1 .1 .1 .1 .1 .1 .0 ∙ c .before .before .before .before .before .before .before .before .before .before .before .before .before .before .before .before .before .before .before .before .before .before .before .before .before .before .before .loop .inv .1 .stanzas
 
--- src/texts.rt:152:25
 same-length-9 : tie.Need-same-length-9 Inv-loop μ-loop
 same-length-9 c = c .before .before .before .before .before .before .before .before .before .before .before .before .before .receive-stanza .kept .1 .1 .1 .1 .1 .1 .1 .0 ∙ c .before .before .before .before .before .before .before .before .before .before .before .before .before .before .before .before .before .before .before .before .before .before .before .before .before .before .before .loop .inv .1 .returned
 
--- src/texts.rt:152:25
 same-length-10 : tie.Need-same-length-10 Inv-loop μ-loop
 same-length-10 c =
     let a = c .before .before .before .before .before .before .before .before .before .before .before .before .before .before .before .before .before .before .before .before .before .before .before .before .before .before .before .before .before .before .before .before .before .before .args in
@@ -208,7 +164,6 @@ same-length-10 c =
     let y = c .before .before .before .before .before .before .before .before .before .before .before .before .before .receive-stanza in
     going-size (a .so-far) (now (a .slots)) (now (a .header-slots)) (now (a .errors)) (now (a .stanzas)) (now (a .returned)) (now (a .text)) (now (a .out)) (q .done) (q .slots) (q .errors) (q .stanzas) (q .returned) (q .out) (q .begun) (q .at) (q .inv .1) held (x .line) (x .body) (x .taken) h (y .result) (y .last .1 .1 .1 .0) (y .last .1 .1 .1 .1 .1 .0) (y .last .1 .1 .1 .1 .1 .1 .0) (y .last .1 .1 .1 .1 .1 .1 .1 .0) (y .last .1 .1 .1 .1 .1 .1 .1 .1 .0) (y .ensures .0) (y .kept .1 .1 .1 .1 .1 .1 .1 .1 .0)
 
--- src/texts.rt:152:25
 returns-2 : tie.Need-returns-2 Inv-loop μ-loop
 returns-2 c =
     let a = c .before .before .before .before .before .before .before .before .before .before .before .before .before .before .before .before .before .before .before .before .before .before .before .before .before .before .before .before .before .before .before .before .before .before .args in
@@ -224,11 +179,9 @@ returns-2 c =
       ap (λ r. r .session .name) (c .stop .ensures) ∙ ap (λ s. s .name) (y .ensures .1) ∙ q .inv .1 .name,
     )
 
--- src/texts.rt:154:37
 enum-known-answer-2 : tie.Need-enum-known-answer-2 Inv-loop μ-loop
 enum-known-answer-2 c = search needs
 
--- src/texts.rt:155:25
 go-on-requires : tie.Need-go-on-requires Inv-loop μ-loop
 go-on-requires c κs =
     let a = c .before .before .before .before .before .before .before .before .before .before .before .before .before .before .before .before .before .before .before .before .before .before .before .before .before .before .before .before .before .before .before .before .before .args in
@@ -241,7 +194,6 @@ go-on-requires c κs =
     let w = going-fits (a .so-far) (now (a .slots)) (now (a .header-slots)) (now (a .errors)) (now (a .stanzas)) (now (a .returned)) (now (a .text)) (now (a .out)) (q .done) (q .slots) (q .errors) (q .stanzas) (q .returned) (q .out) (q .begun) (q .at) (q .inv .1) held (x .line) (x .body) (x .taken) h (y .result) (y .last .1 .1 .1 .0) (y .last .1 .1 .1 .1 .1 .0) (y .last .1 .1 .1 .1 .1 .1 .0) (y .last .1 .1 .1 .1 .1 .1 .1 .0) (y .last .1 .1 .1 .1 .1 .1 .1 .1 .0) (y .ensures .0) _ _ _ (ap takingSaid (c .before .answer2 .given .1)) in
     (omega (arith, f, c .before .before .before .before .before .before .before .before .before .before .before .before .before .before .before .before .before .before .before .before .before .before .before .before .before .before .before .before .before .before .before .before .before .good .1 .0), omega (arith, w, q .inv .1 .size, c .before .before .before .before .before .before .before .before .before .before .before .before .before .before .before .before .before .before .before .before .before .before .before .before .before .before .before .before .before .before .before .before .before .good .1 .1 .1 .1 .1 .1 .1 .1 .0))
 
--- src/texts.rt:157:25
 add-at : tie.Need-add-at Inv-loop μ-loop
 add-at c =
     let a = c .before .before .before .before .before .before .before .before .before .before .before .before .before .before .before .before .before .before .before .before .before .before .before .before .before .before .before .before .before .before .before .before .before .before .before .args in
@@ -253,7 +205,6 @@ add-at c =
     let v = next-within (turnAt client (q .done .session .phase)) (now (a .text)) (q .at) (x .line) (x .body) (x .taken) h (q .inv .1 .within) in
     omega (arith, v .2, c .before .before .before .before .before .before .before .before .before .before .before .before .before .before .before .before .before .before .before .before .before .before .before .before .before .before .before .before .before .before .before .before .before .before .before .good .1 .0)
 
--- src/texts.rt:125:5
 loop-less : tie.Need-loop-less Inv-loop μ-loop
 loop-less c =
     let a = c .before .before .before .before .before .before .before .before .before .before .before .before .before .before .before .before .before .before .before .before .before .before .before .before .before .before .before .before .before .before .before .before .before .before .before .args in
@@ -265,7 +216,6 @@ loop-less c =
     let v = next-within (turnAt client (q .done .session .phase)) (now (a .text)) (q .at) (x .line) (x .body) (x .taken) h (q .inv .1 .within) in
     omega (arith, v .0, v .2)
 
--- src/texts.rt:125:5
 loop-again : tie.Need-loop-again Inv-loop μ-loop
 loop-again c =
     let a = c .before .before .before .before .before .before .before .before .before .before .before .before .before .before .before .before .before .before .before .before .before .before .before .before .before .before .before .before .before .before .before .before .before .before .before .args in

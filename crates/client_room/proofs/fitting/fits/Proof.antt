@@ -1,9 +1,10 @@
+-- The invariant: what is left has room in what is left of the output exactly where the whole text has.
 use Rattle.refusal.specs.Number.{numberOf}
 use Rattle.stanza.specs.Reading.{readSaid}
 use Rattle.client_room.specs.Stanzas.{takingSaid}
 use Rattle.client_room.proofs.Laws.Room.{turn-rest, turn-refused, turn-short, turn-long, turn-on, next-within, onTurn}
 use Prim.Native.Nat.{ℕ, _≤_, _-_}
-use mathlib.Core.Path.{_≡_, refl, sym, ap, _∙_}
+use mathlib.Core.Path.{refl, sym, ap, _∙_}
 use mathlib.Core.List.{List}
 use lib.ListN.{length, drop}
 use native.Mathlib.Omega.{arith}
@@ -17,54 +18,40 @@ use Rattle.client_room.specs.Room.{hasRoom}
 use Rattle.client_room.proofs.Laws.Room.{Onward}
 use Rattle.client_room.proofs.fitting.fits.Statement.{statement}
 use Rattle.client_room.proofs.fitting.fits.Tie as tie
-use Rattle.client_room.proofs.fitting.fits.Reads as reads
-use Rattle.client_room.proofs.fitting.fits.Lts as lts
-use Rattle.client_room.proofs.fitting.is_keepable.Reads as is-keepable-reads
-use Rattle.client_room.proofs.stanzas.next_stanza.Reads as next-stanza-reads
-use Rattle.client_room.proofs.stanzas.try_stanza.Reads as try-stanza-reads
 
 abbrev Inv-loop : tie.InvT-loop
-Inv-loop text room slots₀ header-slots errors stanzas returned so-far₀ left₀ at₀ slots so-far left at =
+Inv-loop text ample slots₀ header-slots errors stanzas returned so-far₀ left₀ at₀ slots so-far left at =
     (at ≤ length text) × ((a : List ℕ) (b : Buffers) → AreLong (b .second) errors stanzas returned →
-    Onward errors stanzas returned (hasRoom (takenText client (sessionOf so-far₀ slots₀ header-slots) b a text) room) (sessionOf so-far slots header-slots) (drop at text) left)
+    Onward errors stanzas returned (hasRoom (takenText client (sessionOf so-far₀ slots₀ header-slots) b a text) ample) (sessionOf so-far slots header-slots) (drop at text) left)
 
 abbrev μ-loop : tie.MeasureT-loop
-μ-loop text room slots₀ header-slots errors stanzas returned so-far₀ left₀ at₀ slots so-far left at =
+μ-loop text ample slots₀ header-slots errors stanzas returned so-far₀ left₀ at₀ slots so-far left at =
     length text - at
 
--- src/fitting.rt:59:5
 loop-holds : tie.Need-loop-holds Inv-loop μ-loop
 loop-holds c = (omega arith, λ aw b l. record { awaited = aw; buffers = b; long = l; same = refl })
 
--- src/fitting.rt:61:40
 sub-next-stanza : tie.Need-sub-next-stanza Inv-loop μ-loop
 sub-next-stanza c = search needs
 
--- src/fitting.rt:61:40
 part-next-stanza-start : tie.Need-part-next-stanza-start Inv-loop μ-loop
 part-next-stanza-start c = search needs
 
--- src/fitting.rt:61:40
 part-next-stanza-end : tie.Need-part-next-stanza-end Inv-loop μ-loop
 part-next-stanza-end c = search needs
 
--- src/fitting.rt:61:13
 next-stanza-requires : tie.Need-next-stanza-requires Inv-loop μ-loop
 next-stanza-requires c κs = search needs
 
--- src/fitting.rt:64:43
 enum-told : tie.Need-enum-told Inv-loop μ-loop
 enum-told c = search needs
 
--- src/fitting.rt:64:43
 sub-is-keepable : tie.Need-sub-is-keepable Inv-loop μ-loop
 sub-is-keepable c = search needs
 
--- src/fitting.rt:64:17
 is-keepable-requires : tie.Need-is-keepable-requires Inv-loop μ-loop
 is-keepable-requires c κs = search needs
 
--- src/fitting.rt:64:17
 returns : tie.Need-returns Inv-loop μ-loop
 returns c = λ aw b long.
     let a = c .before .before .before .before .before .before .before .args in
@@ -74,31 +61,24 @@ returns c = λ aw b long.
     ∙ turn-rest (sessionOf (q .so-far) (q .slots) (now (a .header-slots))) (z .buffers) (z .awaited) (now (a .text)) (q .at) (q .left) (numberOf (c .before .enum-told .given .0 .0))
     (sym (ap readSaid (c .before .enum-told .given .1)) ∙ c .before .before .before .next-stanza .ensures) ∙ sym (z .same)
 
--- src/fitting.rt:66:27
 enum-known-first : tie.Need-enum-known-first Inv-loop μ-loop
 enum-known-first c = search needs
 
--- src/fitting.rt:69:21
 sub-try-stanza : tie.Need-sub-try-stanza Inv-loop μ-loop
 sub-try-stanza c = search needs
 
--- src/fitting.rt:69:21
 part-try-stanza-start : tie.Need-part-try-stanza-start Inv-loop μ-loop
 part-try-stanza-start c = search needs
 
--- src/fitting.rt:69:21
 part-try-stanza-end : tie.Need-part-try-stanza-end Inv-loop μ-loop
 part-try-stanza-end c = search needs
 
--- src/fitting.rt:67:21
 try-stanza-requires : tie.Need-try-stanza-requires Inv-loop μ-loop
 try-stanza-requires c κs = search needs
 
--- src/fitting.rt:80:25
 enum-told-2 : tie.Need-enum-told-2 Inv-loop μ-loop
 enum-told-2 c = search needs
 
--- src/fitting.rt:80:25
 returns-2 : tie.Need-returns-2 Inv-loop μ-loop
 returns-2 c = λ aw b long.
     let a = c .before .before .before .before .before .before .before .before .before .before .before .before .before .args in
@@ -111,11 +91,9 @@ returns-2 c = λ aw b long.
     let tried = c .before .before .try-stanza .ensures (z .buffers .second) (z .long) in
     turn-refused (sessionOf (q .so-far) (q .slots) hs) (z .buffers) (z .awaited) (now (a .text)) (q .at) (x .line) (x .body) (x .taken) (takingSaid (y .answer)) (sessionOf (y .session) (c .before .before .try-stanza .last .1 .1 .1 .0) hs) (q .left) h tried (numberOf (c .enum-told2 .given .0 .0)) (ap takingSaid (c .enum-told2 .given .1)) ∙ sym (z .same)
 
--- src/fitting.rt:82:40
 enum-known-answer : tie.Need-enum-known-answer Inv-loop μ-loop
 enum-known-answer c = search needs
 
--- src/fitting.rt:84:29
 returns-3 : tie.Need-returns-3 Inv-loop μ-loop
 returns-3 c = λ aw b long.
     let a = c .before .before .before .before .before .before .before .before .before .before .before .before .before .before .before .args in
@@ -128,7 +106,6 @@ returns-3 c = λ aw b long.
     let tried = c .before .before .before .before .try-stanza .ensures (z .buffers .second) (z .long) in
     turn-short (sessionOf (q .so-far) (q .slots) hs) (z .buffers) (z .awaited) (now (a .text)) (q .at) (x .line) (x .body) (x .taken) (takingSaid (y .answer)) (sessionOf (y .session) (c .before .before .before .before .try-stanza .last .1 .1 .1 .0) hs) (q .left) h tried _ _ _ (ap takingSaid (c .before .before .answer .given .1)) (c .if1 .taken) ∙ sym (z .same)
 
--- src/fitting.rt:87:25
 add-at : tie.Need-add-at Inv-loop μ-loop
 add-at c =
     let a = c .before .before .before .before .before .before .before .before .before .before .before .before .before .before .before .before .args in
@@ -138,7 +115,6 @@ add-at c =
     let w = next-within (turnAt client (q .so-far .phase)) (now (a .text)) (q .at) (x .line) (x .body) (x .taken) h (q .inv .0) in
     omega (arith, c .before .before .before .before .before .before .before .before .before .before .before .before .before .before .before .before .good)
 
--- src/fitting.rt:59:5
 loop-less : tie.Need-loop-less Inv-loop μ-loop
 loop-less c =
     let a = c .before .before .before .before .before .before .before .before .before .before .before .before .before .before .before .before .before .args in
@@ -148,7 +124,6 @@ loop-less c =
     let w = next-within (turnAt client (q .so-far .phase)) (now (a .text)) (q .at) (x .line) (x .body) (x .taken) h (q .inv .0) in
     omega arith
 
--- src/fitting.rt:59:5
 loop-again : tie.Need-loop-again Inv-loop μ-loop
 loop-again c =
     let a = c .before .before .before .before .before .before .before .before .before .before .before .before .before .before .before .before .before .args in

@@ -1,3 +1,4 @@
+-- The stanza's answer fits, and so does the text behind it.
 use mathlib.Core.Path.{sym, ap, _∙_}
 use denote.Ref.{now}
 use Rattle.stanza.specs.Reading.{readSaid}
@@ -9,37 +10,25 @@ use Rattle.client_room.proofs.Laws.Room.{ahead-fault-room, ahead-refuse
 use borrow.Author.Needs.{needs}
 use Rattle.client_room.proofs.fitting.front_fits.Statement.{statement}
 use Rattle.client_room.proofs.fitting.front_fits.Tie as tie
-use Rattle.client_room.proofs.fitting.front_fits.Reads as reads
-use Rattle.client_room.proofs.fitting.front_fits.Lts as lts
-use Rattle.client_room.proofs.fitting.fits.Reads as fits-reads
-use Rattle.client_room.proofs.stanzas.try_stanza.Reads as try-stanza-reads
-use Rattle.stanza.proofs.read.Reads as read-reads
 
--- src/fitting.rt:111:9
 read-requires : tie.Need-read-requires
 read-requires c κs = search needs
 
--- src/fitting.rt:113:30
 enum-told : tie.Need-enum-told
 enum-told c = search needs
 
--- src/fitting.rt:114:23
 enum-known-first : tie.Need-enum-known-first
 enum-known-first c = search needs
 
--- src/fitting.rt:115:17
 try-stanza-requires : tie.Need-try-stanza-requires
 try-stanza-requires c κs = search needs
 
--- src/fitting.rt:127:39
 enum-told-2 : tie.Need-enum-told-2
 enum-told-2 c = search needs
 
--- src/fitting.rt:128:39
 enum-known-answer : tie.Need-enum-known-answer
 enum-known-answer c = search needs
 
--- src/fitting.rt:130:25
 returns : tie.Need-returns
 returns c = λ b long two.
     let a = c .before .before .before .before .before .before .before .before .before .before .before .before .before .args in
@@ -51,17 +40,15 @@ returns c = λ b long two.
     let tried = c .before .before .before .before .try-stanza .ensures (b .second) long in
     let turn = ap (turnAt client) (turn-second (a .session .phase) two) in
     let after = sessionOf (y .session) (c .before .before .before .before .try-stanza .last .1 .1 .1 .0) hs in
-    ahead-short-room s b (now (a .front)) (now (a .text)) (x .line) (x .body) (x .taken) (takingSaid (y .answer)) after (a .room) turn h tried _ _ _ (ap takingSaid (c .before .before .answer .given .1)) (c .if1 .taken)
+    ahead-short-room s b (now (a .front)) (now (a .text)) (x .line) (x .body) (x .taken) (takingSaid (y .answer)) after (a .ample) turn h tried _ _ _ (ap takingSaid (c .before .before .answer .given .1)) (c .if1 .taken)
 
--- src/fitting.rt:132:21
 fits-requires : tie.Need-fits-requires
 fits-requires c κs = search needs
 
--- src/fitting.rt:97:1
 returns-2 : tie.Need-returns-2
 returns-2 c = λ b long two.
     let a = c .before .before .before .before .before .args in
-    ahead-fault-room (sessionOf (a .session) (now (a .slots)) (now (a .header-slots))) b (now (a .front)) (now (a .text)) _ (a .room) (ap (turnAt client) (turn-second (a .session .phase) two))
+    ahead-fault-room (sessionOf (a .session) (now (a .slots)) (now (a .header-slots))) b (now (a .front)) (now (a .text)) _ (a .ample) (ap (turnAt client) (turn-second (a .session .phase) two))
     (sym (ap readSaid (c .enum-told .given .1)) ∙ c .before .before .read .ensures)
 
 returns-3 : tie.Need-returns-3
@@ -75,9 +62,8 @@ returns-3 c = λ b long two.
     let tried = c .before .before .try-stanza .ensures (b .second) long in
     let turn = ap (turnAt client) (turn-second (a .session .phase) two) in
     let after = sessionOf (y .session) (c .before .before .try-stanza .last .1 .1 .1 .0) hs in
-    ahead-refused-room s b (now (a .front)) (now (a .text)) (x .line) (x .body) (x .taken) (takingSaid (y .answer)) after (a .room) turn h tried _ (ap takingSaid (c .enum-told2 .given .1))
+    ahead-refused-room s b (now (a .front)) (now (a .text)) (x .line) (x .body) (x .taken) (takingSaid (y .answer)) after (a .ample) turn h tried _ (ap takingSaid (c .enum-told2 .given .1))
 
--- src/fitting.rt:97:1
 returns-4 : tie.Need-returns-4
 returns-4 c = λ b long two.
     let a = c .before .before .before .before .before .before .before .before .before .before .before .before .before .before .before .args in
@@ -89,8 +75,8 @@ returns-4 c = λ b long two.
     let tried = c .before .before .before .before .before .before .try-stanza .ensures (b .second) long in
     let turn = ap (turnAt client) (turn-second (a .session .phase) two) in
     let after = sessionOf (y .session) (c .before .before .before .before .before .before .try-stanza .last .1 .1 .1 .0) hs in
-    c .fits2 .ensures (awaitedBehind client (after .phase) (now (a .front))) (aheadBuffers s b (now (a .front)) (now (a .text)) (x .line) (x .body) (x .taken) (takingSaid (y .answer)) after (a .room) turn h tried) (ahead-long s b (now (a .front)) (now (a .text)) (x .line) (x .body) (x .taken) (takingSaid (y .answer)) after (a .room) turn h tried (a .errors) (a .stanzas) (a .returned) long)
-    ∙ ahead-on-room s b (now (a .front)) (now (a .text)) (x .line) (x .body) (x .taken) (takingSaid (y .answer)) after (a .room) turn h tried _ _ _ (ap takingSaid (c .before .before .before .before .answer .given .1)) (search needs)
+    c .fits2 .ensures (awaitedBehind client (after .phase) (now (a .front))) (aheadBuffers s b (now (a .front)) (now (a .text)) (x .line) (x .body) (x .taken) (takingSaid (y .answer)) after (a .ample) turn h tried) (ahead-long s b (now (a .front)) (now (a .text)) (x .line) (x .body) (x .taken) (takingSaid (y .answer)) after (a .ample) turn h tried (a .errors) (a .stanzas) (a .returned) long)
+    ∙ ahead-on-room s b (now (a .front)) (now (a .text)) (x .line) (x .body) (x .taken) (takingSaid (y .answer)) after (a .ample) turn h tried _ _ _ (ap takingSaid (c .before .before .before .before .answer .given .1)) (search needs)
 
 pub front-fits-spec : {M : Type 1} → statement M
 front-fits-spec =

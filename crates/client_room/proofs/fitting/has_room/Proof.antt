@@ -1,3 +1,4 @@
+-- By how reading goes on; a short chunk has room by its length alone.
 use Prim.Native.Nat.{min}
 use mathlib.Core.List.{[], _++_}
 use lib.Seq.{length-take-le}
@@ -16,94 +17,75 @@ use Rattle.client_room.proofs.Laws.Room.{front-on, front-over, front-at
 use borrow.Author.Needs.{needs}
 use Rattle.client_room.proofs.fitting.has_room.Statement.{statement}
 use Rattle.client_room.proofs.fitting.has_room.Tie as tie
-use Rattle.client_room.proofs.fitting.has_room.Reads as reads
-use Rattle.client_room.proofs.fitting.has_room.Lts as lts
-use Rattle.client_room.proofs.fitting.is_ample.Reads as is-ample-reads
-use Rattle.client_room.proofs.fitting.joined_fits.Reads as joined-fits-reads
-use Rattle.intake.proofs.kept_of.Reads as kept-of-reads
-use Rattle.stanza.proofs.read_on.Reads as read-on-reads
 
--- src/fitting.rt:243:9
 kept-of-requires : tie.Need-kept-of-requires
 kept-of-requires c κs = search needs
 
--- src/fitting.rt:245:40
 add-is-ample : tie.Need-add-is-ample
 add-is-ample c = search needs
 
--- src/fitting.rt:245:31
 is-ample-requires : tie.Need-is-ample-requires
 is-ample-requires c κs = search needs
 
--- src/fitting.rt:246:9
 returns : tie.Need-returns
 returns c = λ b m long two.
     let a = c .before .before .before .before .before .before .args in
     let i = keeping (sessionOf (a .session) (now (a .slots)) (now (a .header-slots))) (placeSaid (a .session .reading)) (take (min (a .session .kept) 8191) (now (a .input))) [] in
-    let z = ap (λ i. hasRoom (taken client i b (now (a .chunk))) (a .room)) (sym (intake-two (a .session) (now (a .slots)) (now (a .header-slots)) (now (a .input)) (turn-second (a .session .phase) two))) in
+    let z = ap (λ i. hasRoom (taken client i b (now (a .chunk))) (a .ample)) (sym (intake-two (a .session) (now (a .slots)) (now (a .header-slots)) (now (a .input)) (turn-second (a .session .phase) two))) in
     let turn = ap (turnAt client) (turn-second (a .session .phase) two) in
     let l : length (take (min (a .session .kept) 8191) (now (a .input))) ≡ min (a .session .kept) 8191 = length-take-le (min (a .session .kept) 8191) (now (a .input)) (omega arith) in
-    front-ample i b (now (a .chunk)) (a .room) turn (omega arith) (omega arith) (omega (arith, c .before .is-ample .ensures (c .if2 .taken), c .before .before .before .kept-of .ensures)) ∙ z
+    front-ample i b (now (a .chunk)) (a .ample) turn (omega arith) (omega arith) (omega (arith, c .before .is-ample .ensures (c .if2 .taken), c .before .before .before .kept-of .ensures)) ∙ z
 
--- src/fitting.rt:249:9
 read-on-requires : tie.Need-read-on-requires
 read-on-requires c κs = search needs
 
--- src/fitting.rt:251:37
 enum-told : tie.Need-enum-told
 enum-told c = search needs
 
--- src/fitting.rt:252:34
 enum-told-2 : tie.Need-enum-told-2
 enum-told-2 c = search needs
 
--- src/fitting.rt:253:26
 enum-known-continued : tie.Need-enum-known-continued
 enum-known-continued c = search needs
 
--- src/fitting.rt:228:1
 returns-2 : tie.Need-returns-2
 returns-2 c = λ b m long two. absurd (omega (arith, c .before .before .before .before .before .before .kept-of .ensures))
 
--- src/fitting.rt:253:32
 joined-fits-requires : tie.Need-joined-fits-requires
 joined-fits-requires c κs =
     let a = c .before .before .before .before .before .before .before .before .before .args in
     let w = whole-within (now (a .chunk)) (placeSaid (a .session .reading)) _ _ (sym (c .before .before .before .before .read-on .ensures) ∙ ap continuedSaid (c .before .before .continued .given .1)) in
     (omega arith, w .1, w .2)
 
--- src/fitting.rt:228:1
 returns-3 : tie.Need-returns-3
 returns-3 c = λ b m long two.
     let a = c .before .before .before .before .before .before .before .args in
     let i = keeping (sessionOf (a .session) (now (a .slots)) (now (a .header-slots))) (placeSaid (a .session .reading)) (take (min (a .session .kept) 8191) (now (a .input))) [] in
-    let z = ap (λ i. hasRoom (taken client i b (now (a .chunk))) (a .room)) (sym (intake-two (a .session) (now (a .slots)) (now (a .header-slots)) (now (a .input)) (turn-second (a .session .phase) two))) in
+    let z = ap (λ i. hasRoom (taken client i b (now (a .chunk))) (a .ample)) (sym (intake-two (a .session) (now (a .slots)) (now (a .header-slots)) (now (a .input)) (turn-second (a .session .phase) two))) in
     let turn = ap (turnAt client) (turn-second (a .session .phase) two) in
     let l : length (take (min (a .session .kept) 8191) (now (a .input))) ≡ min (a .session .kept) 8191 = length-take-le (min (a .session .kept) 8191) (now (a .input)) (omega arith) in
-    front-over i b (now (a .chunk)) (a .room) turn _ (ap (λ n. continued (placeSaid (a .session .reading)) n (now (a .chunk))) (l ∙ sym (c .before .before .before .before .kept-of .ensures)) ∙ sym (c .before .before .read-on .ensures) ∙ ap continuedSaid (c .enum-told .given .1)) ∙ z
+    front-over i b (now (a .chunk)) (a .ample) turn _ (ap (λ n. continued (placeSaid (a .session .reading)) n (now (a .chunk))) (l ∙ sym (c .before .before .before .before .kept-of .ensures)) ∙ sym (c .before .before .read-on .ensures) ∙ ap continuedSaid (c .enum-told .given .1)) ∙ z
 
--- src/fitting.rt:228:1
 returns-4 : tie.Need-returns-4
 returns-4 c = λ b m long two.
     let a = c .before .before .before .before .before .before .before .args in
     let i = keeping (sessionOf (a .session) (now (a .slots)) (now (a .header-slots))) (placeSaid (a .session .reading)) (take (min (a .session .kept) 8191) (now (a .input))) [] in
-    let z = ap (λ i. hasRoom (taken client i b (now (a .chunk))) (a .room)) (sym (intake-two (a .session) (now (a .slots)) (now (a .header-slots)) (now (a .input)) (turn-second (a .session .phase) two))) in
+    let z = ap (λ i. hasRoom (taken client i b (now (a .chunk))) (a .ample)) (sym (intake-two (a .session) (now (a .slots)) (now (a .header-slots)) (now (a .input)) (turn-second (a .session .phase) two))) in
     let turn = ap (turnAt client) (turn-second (a .session .phase) two) in
     let l : length (take (min (a .session .kept) 8191) (now (a .input))) ≡ min (a .session .kept) 8191 = length-take-le (min (a .session .kept) 8191) (now (a .input)) (omega arith) in
-    front-at-fault i b (now (a .chunk)) (a .room) turn _ (omega arith) (ap (λ n. continued (placeSaid (a .session .reading)) n (now (a .chunk))) (l ∙ sym (c .before .before .before .before .kept-of .ensures)) ∙ sym (c .before .before .read-on .ensures) ∙ ap continuedSaid (c .enum-told2 .given .1)) ∙ z
+    front-at-fault i b (now (a .chunk)) (a .ample) turn _ (omega arith) (ap (λ n. continued (placeSaid (a .session .reading)) n (now (a .chunk))) (l ∙ sym (c .before .before .before .before .kept-of .ensures)) ∙ sym (c .before .before .read-on .ensures) ∙ ap continuedSaid (c .enum-told2 .given .1)) ∙ z
 
--- src/fitting.rt:227:1
 returns-5 : tie.Need-returns-5
 returns-5 c = λ b m long two.
     let a = c .before .before .before .before .before .before .before .before .before .before .args in
     let i = keeping (sessionOf (a .session) (now (a .slots)) (now (a .header-slots))) (placeSaid (a .session .reading)) (take (min (a .session .kept) 8191) (now (a .input))) [] in
-    let z = ap (λ i. hasRoom (taken client i b (now (a .chunk))) (a .room)) (sym (intake-two (a .session) (now (a .slots)) (now (a .header-slots)) (now (a .input)) (turn-second (a .session .phase) two))) in
+    let z = ap (λ i. hasRoom (taken client i b (now (a .chunk))) (a .ample)) (sym (intake-two (a .session) (now (a .slots)) (now (a .header-slots)) (now (a .input)) (turn-second (a .session .phase) two))) in
     let turn = ap (turnAt client) (turn-second (a .session .phase) two) in
     let l : length (take (min (a .session .kept) 8191) (now (a .input))) ≡ min (a .session .kept) 8191 = length-take-le (min (a .session .kept) 8191) (now (a .input)) (omega arith) in
     let k = c .before .before .before .continued .given .0 .0 in
     c .joined-fits .ensures b long two
-    ∙ ap (λ n. hasRoom (stanzaAhead (i .session) b (take n (now (a .input)) ++ take k (now (a .chunk))) (drop k (now (a .chunk)))) (a .room)) (c .before .before .before .before .before .before .before .kept-of .ensures)
-    ∙ front-on i b (now (a .chunk)) (a .room) turn k (ap (λ n. continued (placeSaid (a .session .reading)) n (now (a .chunk))) (l ∙ sym (c .before .before .before .before .before .before .before .kept-of .ensures)) ∙ sym (c .before .before .before .before .before .read-on .ensures) ∙ ap continuedSaid (c .before .before .before .continued .given .1)) ∙ z
+    ∙ ap (λ n. hasRoom (stanzaAhead (i .session) b (take n (now (a .input)) ++ take k (now (a .chunk))) (drop k (now (a .chunk)))) (a .ample)) (c .before .before .before .before .before .before .before .kept-of .ensures)
+    ∙ front-on i b (now (a .chunk)) (a .ample) turn k (ap (λ n. continued (placeSaid (a .session .reading)) n (now (a .chunk))) (l ∙ sym (c .before .before .before .before .before .before .before .kept-of .ensures)) ∙ sym (c .before .before .before .before .before .read-on .ensures) ∙ ap continuedSaid (c .before .before .before .continued .given .1)) ∙ z
 
 pub has-room-spec : {M : Type 1} → statement M
 has-room-spec =

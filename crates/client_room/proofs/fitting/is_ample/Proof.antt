@@ -1,3 +1,4 @@
+-- The quotient is rounded down.
 use Prim.Native.Nat.{_*_, _/_}
 use mathlib.Core.Bool.{false≢true}
 use native.Mathlib.Omega.{arith}
@@ -5,20 +6,15 @@ use borrow.Author.Tests.{leb-true}
 use borrow.Author.Needs.{needs}
 use Rattle.client_room.proofs.fitting.is_ample.Statement.{statement}
 use Rattle.client_room.proofs.fitting.is_ample.Tie as tie
-use Rattle.client_room.proofs.fitting.is_ample.Reads as reads
-use Rattle.client_room.proofs.fitting.is_ample.Lts as lts
 
--- src/fitting.rt:153:9
 returns : tie.Need-returns
 returns c = λ e. absurd (false≢true e)
 
--- src/fitting.rt:155:5
 mul-result : tie.Need-mul-result
 mul-result c = search needs
 
--- src/fitting.rt:149:1
 returns-2 : tie.Need-returns-2
-returns-2 c = λ e. let a = c .before .args in omega (arith, leb-true (16 * a .bytes / 6) (a .room) e)
+returns-2 c = λ e. let a = c .before .args in omega (arith, leb-true (16 * a .bytes / 6) (a .ample) e)
 
 pub is-ample-spec : {M : Type 1} → statement M
 is-ample-spec = tie.close (tie.spec returns mul-result returns-2)

@@ -1,46 +1,35 @@
+-- By the phase.
 use borrow.Author.Needs.{needs}
 use Rattle.client_room.proofs.fitting.is_keepable.Statement.{statement}
 use Rattle.client_room.proofs.fitting.is_keepable.Tie as tie
-use Rattle.client_room.proofs.fitting.is_keepable.Reads as reads
-use Rattle.client_room.proofs.fitting.is_keepable.Lts as lts
 
--- src/fitting.rt:34:23
 enum-told : tie.Need-enum-told
 enum-told c = search needs
 
--- src/fitting.rt:35:23
 enum-told-2 : tie.Need-enum-told-2
 enum-told-2 c = search needs
 
--- src/fitting.rt:36:31
 enum-told-3 : tie.Need-enum-told-3
 enum-told-3 c = search needs
 
--- src/fitting.rt:37:25
 enum-told-4 : tie.Need-enum-told-4
 enum-told-4 c = search needs
 
--- src/fitting.rt:38:26
 enum-told-5 : tie.Need-enum-told-5
 enum-told-5 c = search needs
 
--- src/fitting.rt:30:1
 returns : tie.Need-returns
 returns c = search needs
 
--- src/fitting.rt:30:1
 returns-2 : tie.Need-returns-2
 returns-2 c = search needs
 
--- src/fitting.rt:30:1
 returns-3 : tie.Need-returns-3
 returns-3 c = rw (c .enum-told3 .given .1)
 
--- src/fitting.rt:30:1
 returns-4 : tie.Need-returns-4
 returns-4 c = search needs
 
--- src/fitting.rt:30:1
 returns-5 : tie.Need-returns-5
 returns-5 c = search needs
 

@@ -1,3 +1,4 @@
+-- By its length alone, or by the first pass over a copy of the slots.
 use native.Mathlib.Omega.{arith}
 use denote.Ref.{now}
 use Rattle.session.specs.Session.{sessionOf}
@@ -5,26 +6,18 @@ use Rattle.client_room.proofs.Laws.Room.{text-ample}
 use borrow.Author.Needs.{needs}
 use Rattle.client_room.proofs.fitting.text_has_room.Statement.{statement}
 use Rattle.client_room.proofs.fitting.text_has_room.Tie as tie
-use Rattle.client_room.proofs.fitting.text_has_room.Reads as reads
-use Rattle.client_room.proofs.fitting.text_has_room.Lts as lts
-use Rattle.client_room.proofs.fitting.fits.Reads as fits-reads
-use Rattle.client_room.proofs.fitting.is_ample.Reads as is-ample-reads
 
--- src/fitting.rt:173:32
 is-ample-requires : tie.Need-is-ample-requires
 is-ample-requires c κs = search needs
 
--- src/fitting.rt:174:9
 returns : tie.Need-returns
 returns c = λ aw b long.
     let a = c .before .before .before .before .args in
-    text-ample (sessionOf (a .session) (now (a .slots)) (now (a .header-slots))) b aw (now (a .text)) (a .room) (omega arith) (omega (arith, c .before .is-ample .ensures (c .if2 .taken)))
+    text-ample (sessionOf (a .session) (now (a .slots)) (now (a .header-slots))) b aw (now (a .text)) (a .ample) (omega arith) (omega (arith, c .before .is-ample .ensures (c .if2 .taken)))
 
--- src/fitting.rt:177:5
 fits-requires : tie.Need-fits-requires
 fits-requires c κs = search needs
 
--- src/fitting.rt:159:1
 returns-2 : tie.Need-returns-2
 returns-2 c = search needs
 

@@ -1,51 +1,38 @@
+-- By the phase.
 use borrow.Author.Needs.{needs}
 use Rattle.client_room.proofs.stanzas.next_stanza.Statement.{statement}
 use Rattle.client_room.proofs.stanzas.next_stanza.Tie as tie
-use Rattle.client_room.proofs.stanzas.next_stanza.Reads as reads
-use Rattle.client_room.proofs.stanzas.next_stanza.Lts as lts
-use Rattle.stanza.proofs.read.Reads as read-reads
 
--- src/stanzas.rt:52:38
 enum-told : tie.Need-enum-told
 enum-told c = search needs
 
--- src/stanzas.rt:53:23
 enum-told-2 : tie.Need-enum-told-2
 enum-told-2 c = search needs
 
--- src/stanzas.rt:53:23
 read-requires : tie.Need-read-requires
 read-requires c κs = search needs
 
--- src/stanzas.rt:54:46
 enum-told-3 : tie.Need-enum-told-3
 enum-told-3 c = search needs
 
--- src/stanzas.rt:55:40
 enum-told-4 : tie.Need-enum-told-4
 enum-told-4 c = search needs
 
--- src/stanzas.rt:56:41
 enum-told-5 : tie.Need-enum-told-5
 enum-told-5 c = search needs
 
--- src/stanzas.rt:48:1
 returns : tie.Need-returns
 returns c = rw (c .enum-told .given .1)
 
--- src/stanzas.rt:48:1
 returns-2 : tie.Need-returns-2
 returns-2 c = rw (c .before .enum-told2 .given .1) (c .read .ensures)
 
--- src/stanzas.rt:48:1
 returns-3 : tie.Need-returns-3
 returns-3 c = rw (c .enum-told3 .given .1)
 
--- src/stanzas.rt:48:1
 returns-4 : tie.Need-returns-4
 returns-4 c = rw (c .enum-told4 .given .1)
 
--- src/stanzas.rt:48:1
 returns-5 : tie.Need-returns-5
 returns-5 c = rw (c .enum-told5 .given .1)
 

@@ -1,3 +1,4 @@
+-- Two copies, the second behind the first.
 use mathlib.Core.Path.{sym}
 use lib.Seq.{length-take-le}
 use native.Mathlib.Omega.{arith}
@@ -6,47 +7,34 @@ use Rattle.client_room.proofs.Laws.Stanzas.{put-together-is}
 use borrow.Author.Needs.{needs}
 use Rattle.client_room.proofs.stanzas.put_together.Statement.{statement}
 use Rattle.client_room.proofs.stanzas.put_together.Tie as tie
-use Rattle.client_room.proofs.stanzas.put_together.Reads as reads
-use Rattle.client_room.proofs.stanzas.put_together.Lts as lts
-use Rattle.stanza.proofs.copy.Reads as copy-reads
 
--- src/stanzas.rt:62:1
 returns : tie.Need-returns
 returns c = λ l h. absurd (omega arith)
 
--- src/stanzas.rt:70:9
 returns-2 : tie.Need-returns-2
 returns-2 c = λ l h. absurd (omega arith)
 
--- src/stanzas.rt:67:18
 slice-aggregate-copy : tie.Need-slice-aggregate-copy
 slice-aggregate-copy c = let a = c .before .before .before .before .before .before .args in sym (length-take-le (a .kept) (now (a .input)) (omega arith))
 
--- src/stanzas.rt:67:5
 copy-requires : tie.Need-copy-requires
 copy-requires c κs = search needs
 
--- src/stanzas.rt:68:24
 sub-copy : tie.Need-sub-copy
 sub-copy c = search needs
 
--- src/stanzas.rt:68:24
 part-copy-start : tie.Need-part-copy-start
 part-copy-start c = search needs
 
--- src/stanzas.rt:68:24
 part-copy-end : tie.Need-part-copy-end
 part-copy-end c = search needs
 
--- src/stanzas.rt:68:5
 copy-requires-2 : tie.Need-copy-requires-2
 copy-requires-2 c κs = search needs
 
--- src/stanzas.rt:62:1
 same-length : tie.Need-same-length
 same-length c = search needs
 
--- src/stanzas.rt:62:1
 returns-3 : tie.Need-returns-3
 returns-3 c = λ l h. let a = c .before .before .before .before .before .before .before .before .before .before .before .before .before .before .args in put-together-is (now (a .input)) (now (a .rest)) (now (a .store)) _ _ (a .kept) l h (c .before .before .before .before .before .before .copy .ensures) (c .before .before .copy2 .ensures)
 

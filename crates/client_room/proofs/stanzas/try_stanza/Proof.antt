@@ -1,3 +1,4 @@
+-- Each step of the code is a part of the definition, for all buffers of these lengths.
 use mathlib.Core.Path.{sym, ap, _∙_}
 use denote.Ref.{now}
 use Rattle.refusal.specs.Verdict.{verdictSaid}
@@ -12,74 +13,46 @@ use Rattle.client_room.proofs.Laws.Stanzas.{tried}
 use borrow.Author.Needs.{needs}
 use Rattle.client_room.proofs.stanzas.try_stanza.Statement.{statement}
 use Rattle.client_room.proofs.stanzas.try_stanza.Tie as tie
-use Rattle.client_room.proofs.stanzas.try_stanza.Reads as reads
-use Rattle.client_room.proofs.stanzas.try_stanza.Lts as lts
-use Rattle.client_room.proofs.stanzas.answer_to.Reads as answer-to-reads
-use Rattle.phase_two.proofs.answer_at_once.Reads as answer-at-once-reads
-use Rattle.phase_two.proofs.at_once_size.Reads as at-once-size-reads
-use Rattle.phase_two.proofs.enter_two.Reads as enter-two-reads
-use Rattle.phase_two.proofs.payload_size.Reads as payload-size-reads
-use Rattle.phase_two.proofs.phase_received_two.Reads as phase-received-two-reads
-use Rattle.phase_two_commands.proofs.parse_two.Reads as parse-two-reads
-use Rattle.phase_two_decision.proofs.rule_two.Reads as rule-two-reads
-use Rattle.session.proofs.sessions.Session.moved.Reads as moved-reads
-use Rattle.stanza.proofs.arguments_of.Reads as arguments-of-reads
-use Rattle.stanza.proofs.lines_of.Reads as lines-of-reads
-use Rattle.tables.proofs.body_size.Reads as body-size-reads
 
--- src/stanzas.rt:90:9
 arguments-of-requires : tie.Need-arguments-of-requires
 arguments-of-requires c κs = search needs
 
--- src/stanzas.rt:91:9
 lines-of-requires : tie.Need-lines-of-requires
 lines-of-requires c κs = search needs
 
--- src/stanzas.rt:92:9
 body-size-requires : tie.Need-body-size-requires
 body-size-requires c κs = search needs
 
--- src/stanzas.rt:93:9
 parse-two-requires : tie.Need-parse-two-requires
 parse-two-requires c κs = search needs
 
--- src/stanzas.rt:94:9
 rule-two-requires : tie.Need-rule-two-requires
 rule-two-requires c κs = search needs
 
--- src/stanzas.rt:95:9
 answer-at-once-requires : tie.Need-answer-at-once-requires
 answer-at-once-requires c κs = search needs
 
--- src/stanzas.rt:96:9
 at-once-size-requires : tie.Need-at-once-size-requires
 at-once-size-requires c κs = search needs
 
--- src/stanzas.rt:97:9
 payload-size-requires : tie.Need-payload-size-requires
 payload-size-requires c κs = search needs
 
--- src/stanzas.rt:98:9
 enter-two-requires : tie.Need-enter-two-requires
 enter-two-requires c κs = search needs
 
--- src/stanzas.rt:111:9
 answer-to-requires : tie.Need-answer-to-requires
 answer-to-requires c κs = search needs
 
--- src/stanzas.rt:112:9
 phase-received-two-requires : tie.Need-phase-received-two-requires
 phase-received-two-requires c κs = search needs
 
--- src/stanzas.rt:115:18
 moved-requires : tie.Need-moved-requires
 moved-requires c κs = search needs
 
--- src/stanzas.rt:72:1
 same-length : tie.Need-same-length
 same-length c = search needs
 
--- src/stanzas.rt:72:1
 returns : tie.Need-returns
 returns c = λ b long.
     let a = c .before .before .before .before .before .before .before .before .before .before .before .before .before .before .before .before .before .before .args in
