@@ -190,7 +190,7 @@ module _ (s : CodeSession) (xs hs : List (List ℕ)) (r : Response) (body back o
 
 -- bytes of the input at the front of a store
 module _ (input store store′ : List ℕ) (at k m : ℕ) (same : m ≡ k) (within : at + k ≤ length input)
-    (copied : store′ ≡ filled (take m (drop at input)) store) (ample : k ≤ length store) where
+    (copied : store′ ≡ filled (take m (drop at input)) store) (room : k ≤ length store) where
   abbrev part : List ℕ
   part = take m (drop at input)
 

@@ -1,4 +1,4 @@
--- One stanza with the output buffer that is lent, beside what the definitions say of it with `ample`.
+-- One stanza with the output buffer that is lent, beside what the definitions say of it with `room`.
 use Prim.Native.Nat.{ℕ, _≤_, _<_}
 use mathlib.Core.Path.{_≡_, refl, sym, ap, ap₂, _∙_, subst}
 use mathlib.Core.Bool.{Bool, true, false}

@@ -200,7 +200,7 @@ pub record Going (r₀ r : CodeReceived) (xs₀ xs hs : List (List ℕ)) (e₀ s
   pub within : at ≤ length text
   pub short : at ≤ begun + 8192
   pub few : r .count ≤ at + 1
-  pub ample : r .written ≤ length out
+  pub room : r .written ≤ length out
   pub size : length out ≡ length out₀
   pub rest : drop (r .written) out ≡ drop (r .written) out₀
   pub name : r .session .name ≡ r₀ .session .name
@@ -212,12 +212,12 @@ pub record Going (r₀ r : CodeReceived) (xs₀ xs hs : List (List ℕ)) (e₀ s
 
 module _ (r₀ : CodeReceived) (xs₀ hs : List (List ℕ)) (e₀ s₀ d₀ text out₀ : List ℕ) where
   pub going-first : r₀ .count ≤ 1 → r₀ .written ≤ length out₀ → Going r₀ r₀ xs₀ xs₀ hs e₀ s₀ d₀ e₀ s₀ d₀ text out₀ out₀ 0 0
-  going-first few ample = record {
+  going-first few room = record {
     ordered = omega arith;
     within = omega arith;
     short = omega arith;
     few = few;
-    ample = ample;
+    room = ample;
     size = refl;
     rest = refl;
     name = refl;
@@ -251,7 +251,7 @@ module _ (r₀ : CodeReceived) (xs₀ hs : List (List ℕ)) (e₀ s₀ d₀ text
         Answers y xs hs input after (lent b e s d) out₀ out (behindAnswer r₀ xs₀ hs (lent b e₀ s₀ d₀) [] text out₀)
     going-settled b y input after h w =
         answers-says y xs hs input after (lent b e s d) out₀ out (r .written) _ _ h
-        (g .same b ∙ ap (λ x. behindAnswer r xs hs (lent b e s d) awaited x out) (sym (part-rest at text))) w (g .ample) (g .size) (g .rest)
+        (g .same b ∙ ap (λ x. behindAnswer r xs hs (lent b e s d) awaited x out) (sym (part-rest at text))) w (g .room) (g .size) (g .rest)
 
     -- one stanza more
     module _ (l m k : ℕ) (h : stanza l m k ≡ nextIn (turnAt client (r .session .phase)) (take (length text - at) (drop at text))) (y : CodeStep)
@@ -286,14 +286,14 @@ module _ (r₀ : CodeReceived) (xs₀ hs : List (List ℕ)) (e₀ s₀ d₀ text
 
       -- its answer fits, and the counts do not wrap
       pub going-fits : (w : WordTwo) (i j : ℕ) → takingSaid (y .answer) ≡ took w i j → r .written + j ≤ length out
-      going-fits w i j z = on-within (r .count) (lastSaid (r .last)) (r .written) out (g .ample) j (took-here none-lent w i j z .fits)
+      going-fits w i j z = on-within (r .count) (lastSaid (r .last)) (r .written) out (g .room) j (took-here none-lent w i j z .fits)
 
       pub going-few : r .count + 5 ≤ length text
       going-few = omega (arith, g .few, g .within, stanza-long rest l m k first, next-within (turnAt client (r .session .phase)) text at l m k h (g .within))
 
       pub going-size : length o′ ≡ length (take (length out - r .written) (drop (r .written) out)) →
           length (take (r .written) out ++ (o′ ++ drop (length out - r .written) (drop (r .written) out))) ≡ length out₀
-      going-size z = on-size (r .count) (lastSaid (r .last)) (r .written) out (g .ample) o′ z ∙ g .size
+      going-size z = on-size (r .count) (lastSaid (r .last)) (r .written) out (g .room) o′ z ∙ g .size
 
       pub going-on : (w : WordTwo) (i j : ℕ) (x : CodeReceived) → takingSaid (y .answer) ≡ took w i j →
           x ≡ record { verdict = Accepted; count = r .count + 1; last = CommandTwo w; written = r .written + j; session = y .session } →
@@ -309,15 +309,15 @@ module _ (r₀ : CodeReceived) (xs₀ hs : List (List ℕ)) (e₀ s₀ d₀ text
             within = v .2;
             short = omega (arith, v .1);
             few = omega (arith, g .few, v .0);
-            ample = omega (arith, on-within (r .count) (lastSaid (r .last)) (r .written) out (g .ample) j (t .fits), on-size (r .count) (lastSaid (r .last)) (r .written) out (g .ample) o′ (t .size));
-            size = on-size (r .count) (lastSaid (r .last)) (r .written) out (g .ample) o′ (t .size) ∙ g .size;
-            rest = on-rest (r .count) (lastSaid (r .last)) (r .written) out (g .ample) o′ j (t .rest) ∙ further;
+            room = omega (arith, on-within (r .count) (lastSaid (r .last)) (r .written) out (g .room) j (t .fits), on-size (r .count) (lastSaid (r .last)) (r .written) out (g .room) o′ (t .size));
+            size = on-size (r .count) (lastSaid (r .last)) (r .written) out (g .room) o′ (t .size) ∙ g .size;
+            rest = on-rest (r .count) (lastSaid (r .last)) (r .written) out (g .room) o′ j (t .rest) ∙ further;
             name = ap (λ c. c .name) c ∙ g .name;
             errors = le ∙ g .errors;
             stanzas = ls ∙ g .stanzas;
             returned = ld ∙ g .returned;
             same = λ b. g .same b ∙ ap (behind (r .count) (lastSaid (r .last)) (take (r .written) out)) (ahead-is b)
-                ∙ on-same (r .count) (lastSaid (r .last)) (r .written) out (g .ample) (ahead b) _ (command (textOfWord w)) o′ j (took-here b w i j z .same)
+                ∙ on-same (r .count) (lastSaid (r .last)) (r .written) out (g .room) (ahead b) _ (command (textOfWord w)) o′ j (took-here b w i j z .same)
                 ∙ ap₂ (λ a x. behind (r .count + 1) (command (textOfWord w)) (take (r .written + j) (take (r .written) out ++ (o′ ++ drop (length out - r .written) (drop (r .written) out))))
                 (takenText client (sessionOf (y .session) xs′ hs) (lent b e′ s′ d′) (awaitedBehind client (y .session .phase) a) x))
                 (ap (take k) (part-rest at text) ∙ ap (λ i. take i (drop at text)) kz)
@@ -344,10 +344,10 @@ module _ (r₀ : CodeReceived) (xs₀ hs : List (List ℕ)) (e₀ s₀ d₀ text
           (and-true (leb (length (take (r .written) out ++ u .written)) (length out₀)) (leb (length (u .intake .kept)) 8192) (held-on b) .0) in
           let t = declined-is now (lent b e s d) rest l m k part (reads-two (r .session .phase) turn) first
           (stepSaid y xs′ hs e′ s′ d′ o′) q (take k rest) (drop k rest) (numberOf n) z
-          (omega (arith, v, length-append (take (r .written) out) (takenText client now (lent b e s d) awaited (drop at text) .written), length-take-le (r .written) out (g .ample), ap length (part-rest (r .written) out), length-drop (r .written) out, ap (λ u. length (u .written)) (ahead-is b), g .size)) in
-          let p : take (r .written) out ++ (o′ ++ drop (length out - r .written) (drop (r .written) out)) ≡ out = put-same (r .count) (lastSaid (r .last)) (r .written) out (g .ample) o′ (t .output) in
+          (omega (arith, v, length-append (take (r .written) out) (takenText client now (lent b e s d) awaited (drop at text) .written), length-take-le (r .written) out (g .room), ap length (part-rest (r .written) out), length-drop (r .written) out, ap (λ u. length (u .written)) (ahead-is b), g .size)) in
+          let p : take (r .written) out ++ (o′ ++ drop (length out - r .written) (drop (r .written) out)) ≡ out = put-same (r .count) (lastSaid (r .last)) (r .written) out (g .room) o′ (t .output) in
           subst (λ o. Answers x xs′ hs input input (lent b e′ s′ d′) out₀ o (behindAnswer r₀ xs₀ hs (lent b e₀ s₀ d₀) [] text out₀)) (sym p)
           (subst (λ x. Answers x xs′ hs input input (lent b e′ s′ d′) out₀ out (behindAnswer r₀ xs₀ hs (lent b e₀ s₀ d₀) [] text out₀)) (sym xz)
           (answers-says _ xs′ hs input input (lent b e′ s′ d′) out₀ out (r .written) _ _
           (stop-says (r .count) (r .last) (r .written) n (y .session) xs′ hs input (take (r .written) out) (lent b e′ s′ d′))
-          (g .same b ∙ ap (behind (r .count) (lastSaid (r .last)) (take (r .written) out)) (ahead-is b ∙ t .same)) refl (g .ample) (g .size) (g .rest)))
+          (g .same b ∙ ap (behind (r .count) (lastSaid (r .last)) (take (r .written) out)) (ahead-is b ∙ t .same)) refl (g .room) (g .size) (g .rest)))

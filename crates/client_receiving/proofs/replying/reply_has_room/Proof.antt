@@ -12,7 +12,7 @@ use Rattle.client_receiving.proofs.replying.reply_has_room.Tie as tie
 returns : tie.Need-returns
 returns c = λ w a b l h.
     let g = c .before .before .args in
-    reply-short w (takenText client (sessionOf (g .session) (now (g .slots)) (now (g .header-slots))) b a (now (g .back))) (g .ample) (g .size) l (omega arith)
+    reply-short w (takenText client (sessionOf (g .session) (now (g .slots)) (now (g .header-slots))) b a (now (g .back))) (g .room) (g .size) l (omega arith)
 
 text-has-room-requires : tie.Need-text-has-room-requires
 text-has-room-requires c κs = search needs
@@ -21,7 +21,7 @@ returns-2 : tie.Need-returns-2
 returns-2 c = λ w a b l h.
     let g = c .before .before .before .args in
     c .text-has-room .ensures a b h
-    ∙ reply-room w (takenText client (sessionOf (g .session) (now (g .slots)) (now (g .header-slots))) b a (now (g .back))) (g .ample) (g .size) l (omega arith)
+    ∙ reply-room w (takenText client (sessionOf (g .session) (now (g .slots)) (now (g .header-slots))) b a (now (g .back))) (g .room) (g .size) l (omega arith)
 
 pub reply-has-room-spec : {M : Type 1} → statement M
 reply-has-room-spec = tie.close (tie.spec returns text-has-room-requires returns-2)

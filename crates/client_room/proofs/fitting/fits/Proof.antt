@@ -20,12 +20,12 @@ use Rattle.client_room.proofs.fitting.fits.Statement.{statement}
 use Rattle.client_room.proofs.fitting.fits.Tie as tie
 
 abbrev Inv-loop : tie.InvT-loop
-Inv-loop text ample slots₀ header-slots errors stanzas returned so-far₀ left₀ at₀ slots so-far left at =
+Inv-loop text room slots₀ header-slots errors stanzas returned so-far₀ left₀ at₀ slots so-far left at =
     (at ≤ length text) × ((a : List ℕ) (b : Buffers) → AreLong (b .second) errors stanzas returned →
-    Onward errors stanzas returned (hasRoom (takenText client (sessionOf so-far₀ slots₀ header-slots) b a text) ample) (sessionOf so-far slots header-slots) (drop at text) left)
+    Onward errors stanzas returned (hasRoom (takenText client (sessionOf so-far₀ slots₀ header-slots) b a text) room) (sessionOf so-far slots header-slots) (drop at text) left)
 
 abbrev μ-loop : tie.MeasureT-loop
-μ-loop text ample slots₀ header-slots errors stanzas returned so-far₀ left₀ at₀ slots so-far left at =
+μ-loop text room slots₀ header-slots errors stanzas returned so-far₀ left₀ at₀ slots so-far left at =
     length text - at
 
 loop-holds : tie.Need-loop-holds Inv-loop μ-loop

@@ -40,7 +40,7 @@ returns c = λ b long two.
     let tried = c .before .before .before .before .try-stanza .ensures (b .second) long in
     let turn = ap (turnAt client) (turn-second (a .session .phase) two) in
     let after = sessionOf (y .session) (c .before .before .before .before .try-stanza .last .1 .1 .1 .0) hs in
-    ahead-short-room s b (now (a .front)) (now (a .text)) (x .line) (x .body) (x .taken) (takingSaid (y .answer)) after (a .ample) turn h tried _ _ _ (ap takingSaid (c .before .before .answer .given .1)) (c .if1 .taken)
+    ahead-short-room s b (now (a .front)) (now (a .text)) (x .line) (x .body) (x .taken) (takingSaid (y .answer)) after (a .room) turn h tried _ _ _ (ap takingSaid (c .before .before .answer .given .1)) (c .if1 .taken)
 
 fits-requires : tie.Need-fits-requires
 fits-requires c κs = search needs
@@ -48,7 +48,7 @@ fits-requires c κs = search needs
 returns-2 : tie.Need-returns-2
 returns-2 c = λ b long two.
     let a = c .before .before .before .before .before .args in
-    ahead-fault-room (sessionOf (a .session) (now (a .slots)) (now (a .header-slots))) b (now (a .front)) (now (a .text)) _ (a .ample) (ap (turnAt client) (turn-second (a .session .phase) two))
+    ahead-fault-room (sessionOf (a .session) (now (a .slots)) (now (a .header-slots))) b (now (a .front)) (now (a .text)) _ (a .room) (ap (turnAt client) (turn-second (a .session .phase) two))
     (sym (ap readSaid (c .enum-told .given .1)) ∙ c .before .before .read .ensures)
 
 returns-3 : tie.Need-returns-3
@@ -62,7 +62,7 @@ returns-3 c = λ b long two.
     let tried = c .before .before .try-stanza .ensures (b .second) long in
     let turn = ap (turnAt client) (turn-second (a .session .phase) two) in
     let after = sessionOf (y .session) (c .before .before .try-stanza .last .1 .1 .1 .0) hs in
-    ahead-refused-room s b (now (a .front)) (now (a .text)) (x .line) (x .body) (x .taken) (takingSaid (y .answer)) after (a .ample) turn h tried _ (ap takingSaid (c .enum-told2 .given .1))
+    ahead-refused-room s b (now (a .front)) (now (a .text)) (x .line) (x .body) (x .taken) (takingSaid (y .answer)) after (a .room) turn h tried _ (ap takingSaid (c .enum-told2 .given .1))
 
 returns-4 : tie.Need-returns-4
 returns-4 c = λ b long two.
@@ -75,8 +75,8 @@ returns-4 c = λ b long two.
     let tried = c .before .before .before .before .before .before .try-stanza .ensures (b .second) long in
     let turn = ap (turnAt client) (turn-second (a .session .phase) two) in
     let after = sessionOf (y .session) (c .before .before .before .before .before .before .try-stanza .last .1 .1 .1 .0) hs in
-    c .fits2 .ensures (awaitedBehind client (after .phase) (now (a .front))) (aheadBuffers s b (now (a .front)) (now (a .text)) (x .line) (x .body) (x .taken) (takingSaid (y .answer)) after (a .ample) turn h tried) (ahead-long s b (now (a .front)) (now (a .text)) (x .line) (x .body) (x .taken) (takingSaid (y .answer)) after (a .ample) turn h tried (a .errors) (a .stanzas) (a .returned) long)
-    ∙ ahead-on-room s b (now (a .front)) (now (a .text)) (x .line) (x .body) (x .taken) (takingSaid (y .answer)) after (a .ample) turn h tried _ _ _ (ap takingSaid (c .before .before .before .before .answer .given .1)) (search needs)
+    c .fits2 .ensures (awaitedBehind client (after .phase) (now (a .front))) (aheadBuffers s b (now (a .front)) (now (a .text)) (x .line) (x .body) (x .taken) (takingSaid (y .answer)) after (a .room) turn h tried) (ahead-long s b (now (a .front)) (now (a .text)) (x .line) (x .body) (x .taken) (takingSaid (y .answer)) after (a .room) turn h tried (a .errors) (a .stanzas) (a .returned) long)
+    ∙ ahead-on-room s b (now (a .front)) (now (a .text)) (x .line) (x .body) (x .taken) (takingSaid (y .answer)) after (a .room) turn h tried _ _ _ (ap takingSaid (c .before .before .before .before .answer .given .1)) (search needs)
 
 pub front-fits-spec : {M : Type 1} → statement M
 front-fits-spec =

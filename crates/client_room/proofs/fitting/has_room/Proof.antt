@@ -31,10 +31,10 @@ returns : tie.Need-returns
 returns c = λ b m long two.
     let a = c .before .before .before .before .before .before .args in
     let i = keeping (sessionOf (a .session) (now (a .slots)) (now (a .header-slots))) (placeSaid (a .session .reading)) (take (min (a .session .kept) 8191) (now (a .input))) [] in
-    let z = ap (λ i. hasRoom (taken client i b (now (a .chunk))) (a .ample)) (sym (intake-two (a .session) (now (a .slots)) (now (a .header-slots)) (now (a .input)) (turn-second (a .session .phase) two))) in
+    let z = ap (λ i. hasRoom (taken client i b (now (a .chunk))) (a .room)) (sym (intake-two (a .session) (now (a .slots)) (now (a .header-slots)) (now (a .input)) (turn-second (a .session .phase) two))) in
     let turn = ap (turnAt client) (turn-second (a .session .phase) two) in
     let l : length (take (min (a .session .kept) 8191) (now (a .input))) ≡ min (a .session .kept) 8191 = length-take-le (min (a .session .kept) 8191) (now (a .input)) (omega arith) in
-    front-ample i b (now (a .chunk)) (a .ample) turn (omega arith) (omega arith) (omega (arith, c .before .is-ample .ensures (c .if2 .taken), c .before .before .before .kept-of .ensures)) ∙ z
+    front-ample i b (now (a .chunk)) (a .room) turn (omega arith) (omega arith) (omega (arith, c .before .is-ample .ensures (c .if2 .taken), c .before .before .before .kept-of .ensures)) ∙ z
 
 read-on-requires : tie.Need-read-on-requires
 read-on-requires c κs = search needs
@@ -61,31 +61,31 @@ returns-3 : tie.Need-returns-3
 returns-3 c = λ b m long two.
     let a = c .before .before .before .before .before .before .before .args in
     let i = keeping (sessionOf (a .session) (now (a .slots)) (now (a .header-slots))) (placeSaid (a .session .reading)) (take (min (a .session .kept) 8191) (now (a .input))) [] in
-    let z = ap (λ i. hasRoom (taken client i b (now (a .chunk))) (a .ample)) (sym (intake-two (a .session) (now (a .slots)) (now (a .header-slots)) (now (a .input)) (turn-second (a .session .phase) two))) in
+    let z = ap (λ i. hasRoom (taken client i b (now (a .chunk))) (a .room)) (sym (intake-two (a .session) (now (a .slots)) (now (a .header-slots)) (now (a .input)) (turn-second (a .session .phase) two))) in
     let turn = ap (turnAt client) (turn-second (a .session .phase) two) in
     let l : length (take (min (a .session .kept) 8191) (now (a .input))) ≡ min (a .session .kept) 8191 = length-take-le (min (a .session .kept) 8191) (now (a .input)) (omega arith) in
-    front-over i b (now (a .chunk)) (a .ample) turn _ (ap (λ n. continued (placeSaid (a .session .reading)) n (now (a .chunk))) (l ∙ sym (c .before .before .before .before .kept-of .ensures)) ∙ sym (c .before .before .read-on .ensures) ∙ ap continuedSaid (c .enum-told .given .1)) ∙ z
+    front-over i b (now (a .chunk)) (a .room) turn _ (ap (λ n. continued (placeSaid (a .session .reading)) n (now (a .chunk))) (l ∙ sym (c .before .before .before .before .kept-of .ensures)) ∙ sym (c .before .before .read-on .ensures) ∙ ap continuedSaid (c .enum-told .given .1)) ∙ z
 
 returns-4 : tie.Need-returns-4
 returns-4 c = λ b m long two.
     let a = c .before .before .before .before .before .before .before .args in
     let i = keeping (sessionOf (a .session) (now (a .slots)) (now (a .header-slots))) (placeSaid (a .session .reading)) (take (min (a .session .kept) 8191) (now (a .input))) [] in
-    let z = ap (λ i. hasRoom (taken client i b (now (a .chunk))) (a .ample)) (sym (intake-two (a .session) (now (a .slots)) (now (a .header-slots)) (now (a .input)) (turn-second (a .session .phase) two))) in
+    let z = ap (λ i. hasRoom (taken client i b (now (a .chunk))) (a .room)) (sym (intake-two (a .session) (now (a .slots)) (now (a .header-slots)) (now (a .input)) (turn-second (a .session .phase) two))) in
     let turn = ap (turnAt client) (turn-second (a .session .phase) two) in
     let l : length (take (min (a .session .kept) 8191) (now (a .input))) ≡ min (a .session .kept) 8191 = length-take-le (min (a .session .kept) 8191) (now (a .input)) (omega arith) in
-    front-at-fault i b (now (a .chunk)) (a .ample) turn _ (omega arith) (ap (λ n. continued (placeSaid (a .session .reading)) n (now (a .chunk))) (l ∙ sym (c .before .before .before .before .kept-of .ensures)) ∙ sym (c .before .before .read-on .ensures) ∙ ap continuedSaid (c .enum-told2 .given .1)) ∙ z
+    front-at-fault i b (now (a .chunk)) (a .room) turn _ (omega arith) (ap (λ n. continued (placeSaid (a .session .reading)) n (now (a .chunk))) (l ∙ sym (c .before .before .before .before .kept-of .ensures)) ∙ sym (c .before .before .read-on .ensures) ∙ ap continuedSaid (c .enum-told2 .given .1)) ∙ z
 
 returns-5 : tie.Need-returns-5
 returns-5 c = λ b m long two.
     let a = c .before .before .before .before .before .before .before .before .before .before .args in
     let i = keeping (sessionOf (a .session) (now (a .slots)) (now (a .header-slots))) (placeSaid (a .session .reading)) (take (min (a .session .kept) 8191) (now (a .input))) [] in
-    let z = ap (λ i. hasRoom (taken client i b (now (a .chunk))) (a .ample)) (sym (intake-two (a .session) (now (a .slots)) (now (a .header-slots)) (now (a .input)) (turn-second (a .session .phase) two))) in
+    let z = ap (λ i. hasRoom (taken client i b (now (a .chunk))) (a .room)) (sym (intake-two (a .session) (now (a .slots)) (now (a .header-slots)) (now (a .input)) (turn-second (a .session .phase) two))) in
     let turn = ap (turnAt client) (turn-second (a .session .phase) two) in
     let l : length (take (min (a .session .kept) 8191) (now (a .input))) ≡ min (a .session .kept) 8191 = length-take-le (min (a .session .kept) 8191) (now (a .input)) (omega arith) in
     let k = c .before .before .before .continued .given .0 .0 in
     c .joined-fits .ensures b long two
-    ∙ ap (λ n. hasRoom (stanzaAhead (i .session) b (take n (now (a .input)) ++ take k (now (a .chunk))) (drop k (now (a .chunk)))) (a .ample)) (c .before .before .before .before .before .before .before .kept-of .ensures)
-    ∙ front-on i b (now (a .chunk)) (a .ample) turn k (ap (λ n. continued (placeSaid (a .session .reading)) n (now (a .chunk))) (l ∙ sym (c .before .before .before .before .before .before .before .kept-of .ensures)) ∙ sym (c .before .before .before .before .before .read-on .ensures) ∙ ap continuedSaid (c .before .before .before .continued .given .1)) ∙ z
+    ∙ ap (λ n. hasRoom (stanzaAhead (i .session) b (take n (now (a .input)) ++ take k (now (a .chunk))) (drop k (now (a .chunk)))) (a .room)) (c .before .before .before .before .before .before .before .kept-of .ensures)
+    ∙ front-on i b (now (a .chunk)) (a .room) turn k (ap (λ n. continued (placeSaid (a .session .reading)) n (now (a .chunk))) (l ∙ sym (c .before .before .before .before .before .before .before .kept-of .ensures)) ∙ sym (c .before .before .before .before .before .read-on .ensures) ∙ ap continuedSaid (c .before .before .before .continued .given .1)) ∙ z
 
 pub has-room-spec : {M : Type 1} → statement M
 has-room-spec =

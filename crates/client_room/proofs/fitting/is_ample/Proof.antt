@@ -14,7 +14,7 @@ mul-result : tie.Need-mul-result
 mul-result c = search needs
 
 returns-2 : tie.Need-returns-2
-returns-2 c = λ e. let a = c .before .args in omega (arith, leb-true (16 * a .bytes / 6) (a .ample) e)
+returns-2 c = λ e. let a = c .before .args in omega (arith, leb-true (16 * a .bytes / 6) (a .room) e)
 
 pub is-ample-spec : {M : Type 1} → statement M
 is-ample-spec = tie.close (tie.spec returns mul-result returns-2)

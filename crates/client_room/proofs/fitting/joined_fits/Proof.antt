@@ -55,7 +55,7 @@ returns c = λ b long two.
     let p = c .before .before .before .before .before .before .before .before .before .before .before .pre in
     let e = joined-front (now (a .input)) (take (a .k) (now (a .chunk))) _ _ (a .kept) (a .k) (p .0) (length-take-le (a .k) (now (a .chunk)) (p .1)) (c .before .before .before .before .before .before .put-together .ensures (p .0) (omega (arith, p .2, length-take-le (a .k) (now (a .chunk)) (p .1)))) in
     c .front-fits .ensures b long two
-    ∙ ap₂ (λ t x. hasRoom (stanzaAhead (sessionOf (a .session) (now (a .slots)) (now (a .header-slots))) b t x) (a .ample)) e (part-rest (a .k) (now (a .chunk)))
+    ∙ ap₂ (λ t x. hasRoom (stanzaAhead (sessionOf (a .session) (now (a .slots)) (now (a .header-slots))) b t x) (a .room)) e (part-rest (a .k) (now (a .chunk)))
 
 pub joined-fits-spec : {M : Type 1} → statement M
 joined-fits-spec =

@@ -13,7 +13,7 @@ is-ample-requires c κs = search needs
 returns : tie.Need-returns
 returns c = λ aw b long.
     let a = c .before .before .before .before .args in
-    text-ample (sessionOf (a .session) (now (a .slots)) (now (a .header-slots))) b aw (now (a .text)) (a .ample) (omega arith) (omega (arith, c .before .is-ample .ensures (c .if2 .taken)))
+    text-ample (sessionOf (a .session) (now (a .slots)) (now (a .header-slots))) b aw (now (a .text)) (a .room) (omega arith) (omega (arith, c .before .is-ample .ensures (c .if2 .taken)))
 
 fits-requires : tie.Need-fits-requires
 fits-requires c κs = search needs
