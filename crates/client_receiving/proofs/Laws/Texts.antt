@@ -212,12 +212,12 @@ pub record Going (r₀ r : CodeReceived) (xs₀ xs hs : List (List ℕ)) (e₀ s
 
 module _ (r₀ : CodeReceived) (xs₀ hs : List (List ℕ)) (e₀ s₀ d₀ text out₀ : List ℕ) where
   pub going-first : r₀ .count ≤ 1 → r₀ .written ≤ length out₀ → Going r₀ r₀ xs₀ xs₀ hs e₀ s₀ d₀ e₀ s₀ d₀ text out₀ out₀ 0 0
-  going-first few room = record {
+  going-first few within = record {
     ordered = omega arith;
     within = omega arith;
     short = omega arith;
     few = few;
-    room = ample;
+    room = within;
     size = refl;
     rest = refl;
     name = refl;
