@@ -1,3 +1,5 @@
+use mathlib.Core.Path.{ap}
+use Rattle.refusal.specs.declared.Verdict.the-variants.{Refused}
 use borrow.Author.Needs.{needs}
 use Rattle.client_receiving.proofs.texts.stop.Statement.{statement}
 use Rattle.client_receiving.proofs.texts.stop.Tie as tie
@@ -11,7 +13,7 @@ keeping-requires c κs = search needs
 
 -- src/texts.rt:62:1
 returns : tie.Need-returns
-returns c = ?
+returns c = ap (λ s. record { verdict = Refused (c .before .args .refusal); count = c .before .args .so-far .count; last = c .before .args .so-far .last; written = c .before .args .so-far .written; session = s }) (c .keeping .ensures)
 
 pub stop-spec : {M : Type 1} → statement M
 stop-spec = tie.close (tie.spec keeping-requires returns)

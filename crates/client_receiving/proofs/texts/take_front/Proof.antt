@@ -92,11 +92,7 @@ same-length-4 c = ?
 
 -- src/texts.rt:219:25
 same-length-5 : tie.Need-same-length-5
-same-length-5 c = ?
-
--- src/texts.rt:219:25
-same-length-6 : tie.Need-same-length-6
-same-length-6 c = search needs
+same-length-5 c = search needs
 
 -- src/texts.rt:219:25
 returns : tie.Need-returns
@@ -111,6 +107,10 @@ returns-2 : tie.Need-returns-2
 returns-2 c = ?
 
 -- src/texts.rt:166:1
+same-length-6 : tie.Need-same-length-6
+same-length-6 c = search needs
+
+-- src/texts.rt:166:1
 same-length-7 : tie.Need-same-length-7
 same-length-7 c = search needs
 
@@ -123,20 +123,20 @@ same-length-9 : tie.Need-same-length-9
 same-length-9 c = search needs
 
 -- src/texts.rt:166:1
+returns-3 : tie.Need-returns-3
+returns-3 c = ?
+
+-- src/texts.rt:166:1
 same-length-10 : tie.Need-same-length-10
 same-length-10 c = search needs
 
 -- src/texts.rt:166:1
 same-length-11 : tie.Need-same-length-11
-same-length-11 c = search needs
-
--- src/texts.rt:166:1
-returns-3 : tie.Need-returns-3
-returns-3 c = ?
+same-length-11 c = ?
 
 -- src/texts.rt:166:1
 same-length-12 : tie.Need-same-length-12
-same-length-12 c = search needs
+same-length-12 c = ?
 
 -- src/texts.rt:166:1
 same-length-13 : tie.Need-same-length-13
@@ -145,18 +145,6 @@ same-length-13 c = ?
 -- src/texts.rt:166:1
 same-length-14 : tie.Need-same-length-14
 same-length-14 c = ?
-
--- src/texts.rt:166:1
-same-length-15 : tie.Need-same-length-15
-same-length-15 c = ?
-
--- src/texts.rt:166:1
-same-length-16 : tie.Need-same-length-16
-same-length-16 c = ?
-
--- src/texts.rt:166:1
-same-length-17 : tie.Need-same-length-17
-same-length-17 c = ?
 
 -- src/texts.rt:166:1
 returns-4 : tie.Need-returns-4
@@ -186,20 +174,17 @@ take-front-spec =
     same-length-3
     same-length-4
     same-length-5
-    same-length-6
     returns
     take-text-requires
     returns-2
+    same-length-6
     same-length-7
     same-length-8
     same-length-9
+    returns-3
     same-length-10
     same-length-11
-    returns-3
     same-length-12
     same-length-13
     same-length-14
-    same-length-15
-    same-length-16
-    same-length-17
     returns-4)
