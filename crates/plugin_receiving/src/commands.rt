@@ -15,9 +15,10 @@ ghost use Rattle.chunks.specs.Chunks.{taken};
 ghost use Rattle.intake.specs.Intake.{intakeOf};
 ghost use Rattle.intake.specs.Settling.{Says};
 ghost use Rattle.plugin_receiving.specs.Commands.{nextIn, answerBehind, comesTo, NoneDue};
+use crate::fronts::Front;
 use crate::fronts::begin;
-use crate::fronts::begins;
 use crate::fronts::put_together;
+use crate::fronts::read_front;
 use crate::receiving::Receipt;
 use crate::receiving::Taking;
 use crate::receiving::receive_stanza;
@@ -27,7 +28,6 @@ use refusal::Verdict;
 use session::Phase;
 use session::Session;
 use session::front;
-use stanza::Continued;
 use stanza::First;
 use stanza::Place;
 
@@ -205,7 +205,7 @@ fn receive_front(
 }
 
 // A chunk in phase one.
-pub fn receive_one(
+pub(crate) fn receive_one(
     session: Session,
     chunk: &[u8],
     input: &mut [u8; Session::PLUGIN_INPUT],
@@ -224,11 +224,13 @@ pub fn receive_one(
         (buffersOf (one.buffersOf (now (recipients .entry)) (now (identities .entry)) (now (keys .entry)) (now (headers .entry))) c) (now (chunk .entry)))) ⌝ }
     ensures rest { λ r. ⌜ (r .written ≡ 0) × (r .session .name ≡ session .name) ⌝ }
 {
-    let reading = session.reading;
-    let kept = intake::kept_of(session);
-    if begins(reading, kept) {
-        return receive_text(
-            begin(session),
+    let begun = read_front(session, chunk, input);
+    let front = begun.front;
+    let answer = begun.answer;
+    match front {
+        Front::Answered => answer,
+        Front::Begins => receive_text(
+            answer,
             chunk,
             input,
             slots,
@@ -237,13 +239,8 @@ pub fn receive_one(
             identities,
             keys,
             headers,
-        );
-    }
-    let continued = stanza::read_on(reading, kept, chunk);
-    match continued {
-        Continued::Unfinished(place) => intake::keep_on(session, place, chunk, input),
-        Continued::Refused(r) => intake::close(session, r),
-        Continued::Whole(k) => {
+        ),
+        Front::Ends(k) => {
             let so_far = receive_front(
                 session,
                 chunk,
