@@ -20,6 +20,7 @@ pub mod Blocks
 pub mod Heard
 pub mod Orders
 pub mod AnyCalls
+pub mod AnyAccepted
 pub mod Sent
 pub mod Itself
 pub mod Fronts

@@ -15,6 +15,7 @@ use Rattle.conversation.specs.Kinds.{Buffers}
 use Rattle.conversation.specs.TurnsTwo.{answered}
 use Rattle.chunks.specs.Cutting.{Rest, unfinished, impossible, cut}
 use Rattle.chunks.specs.Taking.{End, client, Turn, reads, drops, keeps-back, turnAt, room, stanzaCall, Intake, joined}
+use Rattle.chunks.specs.Chunks.{finished}
 use Rattle.chunks.specs.Uncut.{chunk, reply, outcomeOf, State, isUnfit}
 use Rattle.chunks.specs.Reached.{AnyCall, piece, sends-one, sends-two, finishes, intakeAfter}
 
@@ -27,6 +28,13 @@ buffersAfter e i b (sends-one word arguments body out) = outcome (i .session) b 
 buffersAfter e i b (sends-two word arguments body out) = outcome (i .session) b (send-two word arguments body out) .buffers
 buffersAfter e i b finishes = b
 
+-- its number
+abbrev pub numberAt : End → Intake → Buffers → AnyCall → ℕ
+numberAt e i b (piece c) = outcomeOf e i b c .number
+numberAt e i b (sends-one word arguments body out) = outcome (i .session) b (send word arguments body out) .number
+numberAt e i b (sends-two word arguments body out) = outcome (i .session) b (send-two word arguments body out) .number
+numberAt e i b finishes = finished (i .session .phase)
+
 -- the bytes that it writes to its output buffer
 abbrev pub writtenAt : End → Intake → Buffers → AnyCall → List ℕ
 writtenAt e i b (piece c) = let o = outcomeOf e i b c in take (o .size) (o .output)
@@ -38,6 +46,16 @@ writtenAt e i b finishes = []
 unfoldable pub afterAny : End → Intake → Buffers → List AnyCall → State
 afterAny e i b [] = record { intake = i; buffers = b }
 afterAny e i b (c ∷ cs) = afterAny e (intakeAfter e i b c) (buffersAfter e i b c) cs
+
+-- the number of each
+unfoldable pub numbersAny : End → Intake → Buffers → List AnyCall → List ℕ
+numbersAny e i b [] = []
+numbersAny e i b (c ∷ cs) = numberAt e i b c ∷ numbersAny e (intakeAfter e i b c) (buffersAfter e i b c) cs
+
+-- every call is in turn and has room for what it writes, and the input is not declared ended early: none is refused with 2, 13, 14 or 15
+unfoldable pub InTurn : List ℕ → Type 0
+InTurn [] = Unit
+InTurn (n ∷ ns) = ((n ≡ 2 → ⊥) × (n ≡ 13 → ⊥) × (n ≡ 14 → ⊥) × (n ≡ 15 → ⊥)) × InTurn ns
 
 -- what is written by all of them, one behind the other
 unfoldable pub writtenAny : End → Intake → Buffers → List AnyCall → List ℕ

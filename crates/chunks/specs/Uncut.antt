@@ -242,9 +242,9 @@ pub record Together (first second whole : Outcome) : Type 0 where
   pub buffers : second .buffers ≡ whole .buffers
   pub output : take (first .size) (first .output) ++ take (second .size) (second .output) ≡ take (whole .size) (whole .output)
 
--- a call refused with a number other than 15, that took stanzas of its text by the calls xs before its fault: it "leaves tables, buffers and output as the calls for the
--- stanzas before the fault leave them, the session closed with that number or, for 13 and 14, as it was after them; the rest is dropped". The number is the one that
--- the fault has in a call of its own
+-- a call refused with a number other than 15, that took stanzas of its text by the calls xs before its fault: it "leaves tables, buffers and output as the calls
+-- for the stanzas before the fault leave them, the session closed with that number or, for 13 and 14, as it was after them; the rest is dropped". The number is the
+-- one that the fault has in a call of its own
 pub record Prefix (e : End) (i : Intake) (b : Buffers) (text : List ℕ) (o : Outcome) (xs : List Piece) : Type 0 where
   pub number : (closes (o .number) ≡ true) ⊎ ((o .number ≡ 13) ⊎ (o .number ≡ 14))
   pub accepted : AllZero (numbers e (emptied (i .session) (i .awaited)) b xs)

@@ -1,5 +1,5 @@
 -- The user's three demands (document 00), with input in chunks (document 02, No. 1), stated over the definitions that the public contracts cite. `outcome` is what a
--- call of one stanza does to a session and its buffers, sending among them; `chunked`, `replied` and `finished` are what a chunk, a reply and the end of the input do.
+-- call of one stanza does to a session and its buffers, a sending among them; `chunked`, `replied` and `finished`, what a chunk, a reply and the input's end do.
 use Prim.Native.Nat.{ℕ, _<_, _≤_}
 use mathlib.Core.Path.{_≡_, ap, _∙_}
 use mathlib.Core.Bool.{Bool, true, false}
@@ -45,7 +45,7 @@ use Rattle.session.specs.declared.phases.Phase.the-variants.{One, Two, Awaiting
 use Rattle.conversation.specs.Agreement.{Alike, Agreed, SameViews}
 use Rattle.conversation.specs.Allowed.{Allowed, AllowedTwo, Exchange, isDoneSent, sendingCalls, AllowedSent, leftOf, capacityOf}
 use Rattle.conversation.specs.Answers.{events, Paired}
-use Rattle.conversation.specs.Calls.{Call, receive, send, receive-two, reply, send-two, isClient, outcome, writtenBy, State, stateOf, after, broughtBy, rowsBrought, acceptedRows, Accepted, Refused}
+use Rattle.conversation.specs.Calls.{Call, receive, send, receive-two, reply, send-two, isClient, outcome, writtenBy, State, stateOf, after, broughtBy, rowsBrought, acceptedRows, AllZero, Accepted, Refused}
 use Rattle.conversation.specs.CommandsTwo.{lineSent, commandTwo, wordTwo, textOfWord}
 use Rattle.conversation.specs.Given.{GivenBack}
 use Rattle.conversation.specs.Kinds.{AnyKind, Buffers, tableOf, viewOf, ofFile}
@@ -77,7 +77,7 @@ use Rattle.chunks.specs.Calls as chunk-calls
 use Rattle.chunks.specs.Calls.{callsFor, lastFrom, AsCalls}
 use Rattle.chunks.specs.Reached.{AnyCall, sends-one, Has, intakeAfter, AnyWith, intakeAfterAll, Bounded, isIdle}
 use Rattle.chunks.specs.Orders.{uncutCalls, rooms, IsCut, endOf, OneByOne, AllTaken, SameCuts}
-use Rattle.chunks.specs.AnyCalls.{afterAny, callsAll, ComesTo}
+use Rattle.chunks.specs.AnyCalls.{afterAny, numbersAny, InTurn, callsAll, ComesTo}
 use Rattle.chunks.specs.Sent.{sentAny, OfBytes, textSent, stanzasSent, textsSent}
 use Rattle.refusal.proofs.Laws.Output as outputs
 use Rattle.base64.proofs.Laws.Lines as lines
@@ -109,6 +109,7 @@ use Rattle.conversation.proofs.Laws.ShapesSent as sent-shaped
 use Rattle.conversation.proofs.Laws.ShapesTwo as two-shaped
 use Rattle.conversation.proofs.Laws.Tables as tables
 use Rattle.conversation.proofs.Laws.WrittenRead as written-read
+use Rattle.chunks.proofs.Laws.AnyAccepted as any-accepted
 use Rattle.chunks.proofs.Laws.AnyCalls as any-calls
 use Rattle.chunks.proofs.Laws.Calls as chunks-called
 use Rattle.chunks.proofs.Laws.Cut as cutting
@@ -190,7 +191,8 @@ demand-1-reply-undue i b r body out n h = ap (λ d. repliedBy d i b r body out) 
 pub demand-1-output : (e : End) (i : Intake) (b : Buffers) (bytes out : List ℕ) (r : Response) (body : List ℕ) → RestStays (chunked e i b bytes out) out × RestStays (replied i b r body out) out
 demand-1-output e i b bytes out r body = (too-short.chunk-stays e i b bytes out, too-short.reply-stays i b r body out)
 
--- "A session then gives 2 only when the input is declared ended before the conversation has": no chunk and no reply gives 2, and `finish` exactly in phases one and two
+-- "A session then gives 2 only when the input is declared ended before the conversation has": no chunk and no reply gives 2, the input's end does exactly in phases
+-- one and two
 pub demand-1-chunk-two : (e : End) (machine name : List ℕ) (screen : Bool) (before : List (AnyWith e)) (b : Buffers) (bytes out : List ℕ) → chunked e (kept e machine name screen before) b bytes out .number ≡ 2 → ⊥
 demand-1-chunk-two = reaching.reached-not-two
 
@@ -525,8 +527,8 @@ pub chunks-joined : (e : End) (machine name : List ℕ) (screen : Bool) (before 
 chunks-joined e machine name screen before b x y first-out second-out whole-out =
     chunks-together.together e (kept e machine name screen before) b x y first-out second-out whole-out (reaching.reached-bounded e machine name screen before)
 
--- the cut theorem: for both ends and every start that is not closed and keeps nothing, and every list of chunks and replies of which no call is refused with 14 or 15:
--- no call of its uncut list is; outputs, tables, buffers, phase, waiting command and closing number are equal
+-- the cut theorem: for both ends, every start that is not closed and keeps nothing, and every list of chunks and replies of which no call is refused with 14 or
+-- 15: no call of its uncut list is; outputs, tables, buffers, phase, waiting command and closing number are equal
 pub chunks-cut : (e : End) (s : Session) (b : Buffers) (cs : List Piece) → isClosed (s .phase) ≡ false → NoneHeldUp (chunk-lists.numbers e (emptied s []) b cs) →
     SameRun e s b (uncut e (emptied s []) b [] cs) cs
 chunks-cut = cutting.cut-theorem
@@ -589,6 +591,20 @@ pub any-calls-errors : (e : End) (machine name : List ℕ) (screen : Bool) (b : 
 any-calls-errors e machine name screen b cs h k =
     let s = opened machine name screen .session in
     ap (λ (s : Session). errorNamed (s .tables) k) (any-calls.any-calls e (emptied s []) b cs (reaching.opened-keeps e machine name screen) h .session) ∙ error-names.names-opened machine name screen b (callsAll e (emptied s []) b cs) k
+
+-- "The transcripts allowed are the ones accepted": phase two at the plugin end, its commands sent and the responses in chunks, by a session that has just received
+-- done, where no call is out of turn, too long for its output buffer or the end of the input: accepted to the end of the phase exactly those that have its shape
+-- and are allowed
+pub any-calls-plugin : (s : Session) (b : Buffers) → JustReceived s → (cs : List AnyCall) → All (Has plugin) cs → let i = emptied s [] in let ds = callsAll plugin i b cs in
+    InTurn (numbersAny plugin i b cs) → LongEnough s b ds → (AllZero (numbersAny plugin i b cs) × (afterAny plugin i b cs .intake .session .phase ≡ Ended))
+    ↔ ((p : ShapedSent ds) × AllowedSent (s .machine) (leftOf (stateOf s b)) (capacityOf b) (p .ahead ++ (p .last ∷ [])))
+any-calls-plugin = any-accepted.plugin-exact
+
+-- .. and accepted but not to its end, exactly those cut before done that are allowed so far
+pub any-calls-plugin-so-far : (s : Session) (b : Buffers) → JustReceived s → (cs : List AnyCall) → All (Has plugin) cs → let i = emptied s [] in let ds = callsAll plugin i b cs in
+    InTurn (numbersAny plugin i b cs) → LongEnough s b ds → (q : SessionPhase) → (q ≡ Ended → ⊥) → (AllZero (numbersAny plugin i b cs) × (afterAny plugin i b cs .intake .session .phase ≡ q))
+    ↔ ((p : FrontSent ds) × AllowedSentSoFar (s .machine) (leftOf (stateOf s b)) (capacityOf b) q (p .exchanges))
+any-calls-plugin-so-far = any-accepted.plugin-so-far
 
 -- "gives back which it was": a chunk the last of the stanzas that it took, a reply the last of those that were kept back
 pub chunks-last : (e : End) (i : Intake) (b : Buffers) (bytes out : List ℕ) → let o = chunked e i b bytes out in

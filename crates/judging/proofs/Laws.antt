@@ -1,3 +1,4 @@
 -- What is shown of judging.
 pub mod Cuts
 pub mod Examples
+pub mod Steps

@@ -133,7 +133,6 @@ fn settle_response(session: Session, responded: Responded, left: usize) -> Recei
     requires { ⌜ responded .session .name ≡ session .name ⌝ }
     ensures outcome { λ r. ⌜ ((xs hs : List (List ℕ)) (input : List ℕ) (b : Buffers) (out : List ℕ) →
         receivedSaid plugin r xs hs input b out ≡ settledResponse (respondedSaid responded xs hs out) (intakeOf plugin session xs hs input) b left) ⌝ }
-    ensures stored { λ r. ⌜ ((xs hs : List (List ℕ)) (input : List ℕ) → input ≡ storedIn (intakeOf plugin (r .session) xs hs input) input) ⌝ }
     ensures name { λ r. ⌜ r .session .name ≡ session .name ⌝ }
 {
     let answer = responded.answer;
@@ -219,7 +218,6 @@ fn receive_ended(
         receivedSaid plugin r xs hs (now (input .entry)) b (now (out .exit)) ≡
         judged (intakeOf plugin session xs hs (now (input .entry))) b (now (out .entry))
         (taken plugin (intakeOf plugin session xs hs (now (input .entry))) b (now (chunk .entry)))) ⌝ }
-    ensures stored { λ r. ⌜ ((xs hs : List (List ℕ)) → now (input .entry) ≡ storedIn (intakeOf plugin (r .session) xs hs (now (input .entry))) (now (input .entry))) ⌝ }
     ensures name { λ r. ⌜ r .session .name ≡ session .name ⌝ }
 {
     let kept = intake::kept_of(session);

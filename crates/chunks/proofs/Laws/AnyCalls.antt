@@ -70,7 +70,7 @@ unfolding one-call.after one-call.written joined
 as-one s b c s′ b′ v p q r = record { session = p; buffers = q; written = r ∙ sym (append-nil (writtenBy s b c)) }
 
 -- bytes that no stanza begins with
-impossible-as : (e : End) (s : Session) (b : Buffers) (n : ℕ) (x : List ℕ) → IsRest (impossible n x) → turnAt e (s .phase) ≡ reads → As s b (closed s) b [] (stanzaCall e (s .phase) x ∷ [])
+pub impossible-as : (e : End) (s : Session) (b : Buffers) (n : ℕ) (x : List ℕ) → IsRest (impossible n x) → turnAt e (s .phase) ≡ reads → As s b (closed s) b [] (stanzaCall e (s .phase) x ∷ [])
 impossible-as e s b n x k t =
     let h = last-held e 0 s [] b x (impossible n x) (noMore n (emptied (closed s) []) b) t (k .0) refl refl (omega arith) in
     let d = last-does e s [] b x (ap (λ c. c .texts) (k .0)) in
@@ -241,6 +241,43 @@ all-as e i b [] h k = as-none (i .session) b
 all-as e i b (c ∷ cs) h k =
     as-append (i .session) b (callsIn e i b c) (callsAll e (intakeAfter e i b c) (buffersAfter e i b c) cs) _ _ _ _ _ _ (call-as e i b c (h .0) k)
     (all-as e (intakeAfter e i b c) (buffersAfter e i b c) cs (h .1) (call-keeps e i b c (h .0) k))
+
+-- ---- what every call for a stanza has
+
+module _ (P : Call → Type 0) (e : End) (each : (p : Phase) (t : List ℕ) → P (stanzaCall e p t)) where
+  rest-all : (u : Turn) (p : Phase) (r : Rest) → All P (restCalls u e p r)
+  unfolding All
+  rest-all reads p (unfinished q f) = tt
+  rest-all reads p (impossible n x) = (each p x, tt)
+  rest-all (drops n) p r = tt
+  rest-all keeps-back p r = tt
+
+  turn-all : (u : Turn) (cs : List Call) → All P cs → All P (turnCalls u cs)
+  unfolding All
+  turn-all reads cs h = h
+  turn-all (drops n) cs h = tt
+  turn-all keeps-back cs h = tt
+
+  pub pick-all : (f : Bool) (xs ys : List Call) → All P xs → All P ys → All P (pick f xs ys)
+  pick-all true xs ys h k = h
+  pick-all false xs ys h k = k
+
+  none-all : All P []
+  unfolding All
+  none-all = tt
+
+  more-all : (c : Call) (cs : List Call) → P c → All P cs → All P (c ∷ cs)
+  unfolding All
+  more-all c cs h k = (h, k)
+
+  pub stanzas-all : (ts : List (List ℕ)) (s : Session) (b : Buffers) (r : Rest) → All P (stanzaCalls e s b ts r)
+  unfolding stanzaCalls
+  stanzas-all [] s b r = rest-all (turnAt e (s .phase)) (s .phase) r
+  stanzas-all (t ∷ ts) s b r =
+      let c = stanzaCall e (s .phase) t in
+      let o = outcome s b c in
+      turn-all (turnAt e (s .phase)) (c ∷ pick (eqb (o .number) 0) (stanzaCalls e (o .session) (o .buffers) ts r) [])
+      (more-all c (pick (eqb (o .number) 0) (stanzaCalls e (o .session) (o .buffers) ts r) []) (each (s .phase) t) (pick-all (eqb (o .number) 0) (stanzaCalls e (o .session) (o .buffers) ts r) [] (stanzas-all ts (o .session) (o .buffers) r) none-all))
 
 -- ---- the theorem
 

@@ -22,13 +22,13 @@ use Rattle.conversation.specs.TurnsTwo.{answered}
 use Rattle.conversation.specs.WrittenRead.{ReadsBack}
 use Rattle.conversation.proofs.Laws.Refusals.{refusal}
 use Rattle.conversation.proofs.Laws.WrittenRead.{phase-one-written, command-written, at-once-text, at-once-written, response-written}
-use Rattle.chunks.specs.Cutting.{Rest, unfinished, impossible, cut}
-use Rattle.chunks.specs.Taking.{End, client, plugin, Turn, reads, drops, keeps-back, turnAt, room, stanzaCall, Intake, emptied, joined}
+use Rattle.chunks.specs.Cutting.{cut}
+use Rattle.chunks.specs.Taking.{End, client, plugin, room, stanzaCall, Intake, emptied, joined}
 use Rattle.chunks.specs.Uncut.{Piece, chunk, reply, outcomeOf, after, numbers, NoneHeldUp, isWaiting, isUnfit, uncut, textIn, stanzasIn}
 use Rattle.chunks.specs.Reached.{AnyCall, piece, sends-one, sends-two, finishes, Has, intakeAfter}
-use Rattle.chunks.specs.AnyCalls.{buffersAfter, restCalls, turnCalls, stanzaCalls, callsIn, callsAll}
+use Rattle.chunks.specs.AnyCalls.{buffersAfter, stanzaCalls, callsIn, callsAll}
 use Rattle.chunks.specs.Sent.{sentAt, sentAny, OfBytes, SentStanza, textSent, atOnceSent, stanzasBy, stanzasSent, textsSent}
-use Rattle.chunks.proofs.Laws.AnyCalls.{call-as, joined-front}
+use Rattle.chunks.proofs.Laws.AnyCalls.{call-as, joined-front, pick-all, stanzas-all}
 use Rattle.chunks.proofs.Laws.Orders.{all-append, joined-append}
 use Rattle.chunks.proofs.Laws.Reached.{Keeps, call-keeps}
 use Rattle.chunks.proofs.Laws.Written.{back-whole, chunks-written}
@@ -129,42 +129,6 @@ stanzas-append s b (c ∷ xs) ys =
     ap (λ z. here ++ z) (stanzas-append (o .session) (o .buffers) xs ys) ∙ sym (append-assoc here (stanzasSent (o .session) (o .buffers) xs) _)
 
 -- ---- any call
-
--- the calls for stanzas that are received
-module _ (P : Call → Type 0) (e : End) (each : (p : Phase) (t : List ℕ) → P (stanzaCall e p t)) where
-  rest-all : (u : Turn) (p : Phase) (r : Rest) → All P (restCalls u e p r)
-  unfolding All
-  rest-all reads p (unfinished q f) = tt
-  rest-all reads p (impossible n x) = (each p x, tt)
-  rest-all (drops n) p r = tt
-  rest-all keeps-back p r = tt
-
-  turn-all : (u : Turn) (cs : List Call) → All P cs → All P (turnCalls u cs)
-  unfolding All
-  turn-all reads cs h = h
-  turn-all (drops n) cs h = tt
-  turn-all keeps-back cs h = tt
-
-  pick-all : (f : Bool) (xs ys : List Call) → All P xs → All P ys → All P (pick f xs ys)
-  pick-all true xs ys h k = h
-  pick-all false xs ys h k = k
-
-  none-all : All P []
-  unfolding All
-  none-all = tt
-
-  more-all : (c : Call) (cs : List Call) → P c → All P cs → All P (c ∷ cs)
-  unfolding All
-  more-all c cs h k = (h, k)
-
-  stanzas-all : (ts : List (List ℕ)) (s : Session) (b : Buffers) (r : Rest) → All P (stanzaCalls e s b ts r)
-  unfolding stanzaCalls
-  stanzas-all [] s b r = rest-all (turnAt e (s .phase)) (s .phase) r
-  stanzas-all (t ∷ ts) s b r =
-      let c = stanzaCall e (s .phase) t in
-      let o = outcome s b c in
-      turn-all (turnAt e (s .phase)) (c ∷ pick (eqb (o .number) 0) (stanzaCalls e (o .session) (o .buffers) ts r) [])
-      (more-all c (pick (eqb (o .number) 0) (stanzaCalls e (o .session) (o .buffers) ts r) []) (each (s .phase) t) (pick-all (eqb (o .number) 0) (stanzaCalls e (o .session) (o .buffers) ts r) [] (stanzas-all ts (o .session) (o .buffers) r) none-all))
 
 client-sends : (p : Phase) (t : List ℕ) → Sends (stanzaCall client p t)
 client-sends p t = tt

@@ -1,46 +1,61 @@
+-- The stanza that was put together is the response, or reads as none.
+use Prim.Native.Nat.{_≤_}
+use mathlib.Core.Path.{_≡_, ap, _∙_}
+use mathlib.Core.List.{[], _++_}
+use lib.ListN.{length, take}
+use native.Mathlib.Omega.{arith}
+use denote.Ref.{now}
+use Rattle.session.specs.Session.{Carried}
+use Rattle.chunks.specs.Taking.{plugin, turnAt}
+use Rattle.plugin_receiving.proofs.Laws.Commands.{chunk-within}
+use Rattle.plugin_receiving.proofs.Laws.Responses.{ended-settled}
 use borrow.Author.Needs.{needs}
 use Rattle.plugin_receiving.proofs.responding.receive_ended.Statement.{statement}
 use Rattle.plugin_receiving.proofs.responding.receive_ended.Tie as tie
 
--- src/responding.rt:225:9
 kept-of-requires : tie.Need-kept-of-requires
 kept-of-requires c κs = search needs
 
--- src/responding.rt:227:49
 slice-aggregate-put-together : tie.Need-slice-aggregate-put-together
 slice-aggregate-put-together c = search needs
 
--- src/responding.rt:227:9
 put-together-requires : tie.Need-put-together-requires
-put-together-requires c κs = ?
+put-together-requires c κs =
+    let a = c .before .before .before .before .before .args in
+    let p = c .before .before .before .before .before .pre in
+    let w = chunk-within (a .session) [] [] (now (a .input)) (p .1 .0) (ap (turnAt plugin) (p .0)) (now (a .chunk)) (a .k) (p .1 .1) in
+    (omega (arith, p .1 .0, c .before .kept-of .ensures), (w .0, omega (arith, c .before .kept-of .ensures, w .1)))
 
--- src/responding.rt:228:58
 slice-aggregate-front : tie.Need-slice-aggregate-front
 slice-aggregate-front c = search needs
 
--- src/responding.rt:228:52
 front-requires : tie.Need-front-requires
 front-requires c κs = search needs
 
--- src/responding.rt:228:9
 receive-awaited-requires : tie.Need-receive-awaited-requires
 receive-awaited-requires c κs = search needs
 
--- src/responding.rt:229:16
 sub-left : tie.Need-sub-left
-sub-left c = ?
+sub-left c =
+    let a = c .before .before .before .before .before .before .before .before .before .before .before .before .before .args in
+    let p = c .before .before .before .before .before .before .before .before .before .before .before .before .before .pre in
+    omega (arith, chunk-within (a .session) [] [] (now (a .input)) (p .1 .0) (ap (turnAt plugin) (p .0)) (now (a .chunk)) (a .k) (p .1 .1) .0)
 
--- src/responding.rt:230:5
 settle-response-requires : tie.Need-settle-response-requires
-settle-response-requires c κs = ?
+settle-response-requires c κs = ap (λ (x : Carried). x .name) (c .before .before .receive-awaited .ensures .1)
 
--- src/responding.rt:207:1
 same-length : tie.Need-same-length
 same-length c = search needs
 
--- src/responding.rt:207:1
 returns : tie.Need-returns
-returns c = ?
+returns c =
+    let a = c .before .before .before .before .before .before .before .before .before .before .before .before .before .before .args in
+    let p = c .before .before .before .before .before .before .before .before .before .before .before .before .before .before .pre in
+    let n = c .before .before .before .receive-awaited in
+    let at = c .before .before .before .before .before .front .ensures ∙ c .before .before .before .before .before .before .before .before .put-together .ensures ∙ ap (λ j. take j (now (a .input)) ++ take (a .k) (now (a .chunk))) (c .before .before .before .before .before .before .before .before .before .before .kept-of .ensures) in (
+      λ xs hs b. c .settle-response .ensures .0 xs hs (now (a .input)) b _ ∙ ended-settled (a .session) (a .word) (p .0) (now (a .input)) (p .1 .0) (now (a .chunk)) xs hs b (n .result) (now (a .out)) _ (a .k) (p .1 .1) (now (c .before .before .before .before .before .front .result)) at (n .ensures .0 xs hs),
+      c .settle-response .ensures .1,
+    )
 
 pub receive-ended-spec : {M : Type 1} → statement M
 receive-ended-spec =
