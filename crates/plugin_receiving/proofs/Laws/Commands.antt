@@ -7,9 +7,8 @@ use lib.Dec.{eqb}
 use lib.ListN.{length, take, drop, length-drop}
 use lib.Seq.{length-take-le, take-all, drop-drop}
 use native.Mathlib.Omega.{arith}
-use borrow.Author.Tests.{eqb-true, eqb-false, le-ltb}
+use borrow.Author.Tests.{eqb-true, eqb-false}
 use Rattle.refusal.specs.Number.{numberOf}
-use Rattle.refusal.specs.Output.{filled}
 use Rattle.refusal.specs.Pick.{pick}
 use Rattle.refusal.specs.Verdict.{verdictSaid}
 use Rattle.refusal.specs.declared.Refusal.{Refusal}
@@ -49,6 +48,7 @@ use Rattle.chunks.specs.Uncut.{isWaiting}
 use Rattle.chunks.proofs.Laws.Bounds.{stanza-long}
 use Rattle.chunks.proofs.Laws.Cases.{drops-not-reads, keeps-not-reads, keeps-not-drops}
 use Rattle.chunks.proofs.Laws.Texts.{stanzaTaken, takenCut, text-stanza, front-left, front-fault, front-stanza, behind-more, behind-none}
+use Rattle.intake.proofs.Laws.Keeping.{filled-empty}
 use Rattle.intake.specs.Intake.{intakeOf, storedIn, lastSaid, takenSaid}
 use Rattle.intake.specs.Settling.{MaySettle, Says}
 use Rattle.intake.specs.declared.answers.Received.{Received as CodeReceived}
@@ -130,7 +130,7 @@ command-phase s b x (refused n) first = either (λ (s : Session). isWaiting clie
 module _ (r : CodeReceived) (xs hs xs′ hs′ : List (List ℕ)) (b b′ : BuffersOne) (x : List ℕ) (answer : CodeTaking) (after : CodeSession)
     (first : r .session .phase ≡ One)
     (is : record { answer = takingSaid answer; session = sessionOf after xs′ hs′; buffers = b′ } ≡
-        receivedAs (readFirst x) (sessionOf (r .session) xs hs) x b) where
+    receivedAs (readFirst x) (sessionOf (r .session) xs hs) x b) where
   comes-on : (c : BuffersTwo) (t rest : List ℕ) →
       behind (r .count) (lastSaid (r .last)) [] (callTaken (sessionOf (r .session) xs hs) b c x first _ is t rest) ≡
       comesTo (answerBehind r answer after) xs′ hs′ (buffersOf b′ c) rest
@@ -221,7 +221,7 @@ module _ (r : CodeReceived) (text : List ℕ) (at : ℕ) (in-text : at ≤ lengt
 
   pub advanced : (r′ : CodeReceived) (xs hs xs′ hs′ : List (List ℕ)) (b b′ : BuffersOne) (answer : CodeTaking) (after : CodeSession) →
       record { answer = takingSaid answer; session = sessionOf after xs′ hs′; buffers = b′ } ≡
-          receivedStanza (sessionOf (r .session) xs hs) b (argumentsIn x s) (bodyIn x s) (s .taken) →
+      receivedStanza (sessionOf (r .session) xs hs) b (argumentsIn x s) (bodyIn x s) (s .taken) →
       r′ ≡ answerBehind r answer after → Advanced r r′ xs hs xs′ hs′ b b′ text at (s .taken) after
   advanced r′ xs hs xs′ hs′ b b′ answer after is e =
       let f = next-stanza (verdictSaid (r .verdict)) (r .session .phase) (readFirst x) (s .line) (s .body) (s .taken) found in
@@ -272,10 +272,6 @@ may-settle n p t rest input z w e long none = record {
     plugin-keeps Ended h = keeps-not-drops 13 (sym h)
     plugin-keeps Closed h = keeps-not-drops 13 (sym h)
 
--- nothing is kept, and the input is as it was
-pub filled-nothing : (input : List ℕ) → input ≡ filled [] input
-filled-nothing input = rw (le-ltb (length input) 0 (omega arith))
-
 -- nothing is taken behind a refusal, and nothing is kept
 pub refusal-stands : (r : CodeReceived) (q : Refusal) (s : CodeSession) (xs hs : List (List ℕ)) (b : Buffers) (input rest : List ℕ) → r .verdict ≡ the-verdict.Refused q →
     s ≡ record {
@@ -288,7 +284,7 @@ pub refusal-stands : (r : CodeReceived) (q : Refusal) (s : CodeSession) (xs hs :
       kept = 0;
       awaited = 0;
     } → Says plugin (record { verdict = r .verdict; count = r .count; last = r .last; written = r .written; session = s }) xs hs input input [] b (comesTo r xs hs b rest)
-refusal-stands r q s xs hs b input rest v e = record { taken = rw (e, v, number-not-zero q) (ap (λ n. at n) (omega arith)); input = rw e (filled-nothing input) }
+refusal-stands r q s xs hs b input rest v e = record { taken = rw (e, v, number-not-zero q) (ap (λ n. at n) (omega arith)); input = rw e (filled-empty input) }
   where
     at : ℕ → Taken
     at n = record {
@@ -308,7 +304,7 @@ says-same r xs hs before before′ after b t t′ i e h = record { taken = h .ta
 -- nothing is kept, and the input is as it was
 pub says-emptied : (r : CodeReceived) (xs hs : List (List ℕ)) (input : List ℕ) (b : Buffers) (n : ℕ) (s : Session) →
     takenSaid plugin r xs hs input [] b ≡ noMore n (emptied s []) b → Says plugin r xs hs input input [] b (noMore n (emptied s []) b)
-says-emptied r xs hs input b n s h = record { taken = h; input = filled-nothing input ∙ sym (ap (λ (x : Taken). storedIn (x .intake) input) h) }
+says-emptied r xs hs input b n s h = record { taken = h; input = filled-empty input ∙ sym (ap (λ (x : Taken). storedIn (x .intake) input) h) }
 
 -- ---- a stanza that began in an earlier chunk
 
@@ -387,7 +383,7 @@ fronted s xs hs xs′ hs′ b b′ input chunk k r answer after long first h tex
           let turn : turnAt plugin (s .phase) ≡ reads = ap (turnAt plugin) first in
           let d = chunk-ends s xs hs input long turn chunk k h (buffersOf b c) in
           let whole-taken : taken plugin (intakeOf plugin s xs hs input) (buffersOf b c) chunk ≡ callTaken (sessionOf s xs hs) b c text first _ is text (drop k chunk) =
-              d ∙ ap (λ t. stanzaTaken plugin (buffersOf b c) (outcome (sessionOf s xs hs) (buffersOf b c) (stanzaCall plugin (s .phase) t)) t (drop k chunk)) (sym at) in
+          d ∙ ap (λ t. stanzaTaken plugin (buffersOf b c) (outcome (sessionOf s xs hs) (buffersOf b c) (stanzaCall plugin (s .phase) t)) t (drop k chunk)) (sym at) in
           sym (z .comes c text (drop k chunk))
           ∙ ap (behind 0 no-stanza []) (sym whole-taken)
           ∙ behind-none plugin (sessionOf s xs hs) (buffersOf b c) [] _ _;

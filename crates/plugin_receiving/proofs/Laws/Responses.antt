@@ -82,9 +82,10 @@ judged-held i b out t w k =
 pub judged-silent : (i : Intake) (b : Buffers) (out : List ℕ) (t : Taken) → t .written ≡ [] → length (t .intake .kept) ≤ 8192 →
     judged i b out t ≡ record { number = t .number; count = t .count; last = t .last; size = 0; intake = t .intake; buffers = t .buffers; output = out }
 judged-silent i b out t w k =
-    judged-held i b out t (omega (arith, ap length w)) k
-    ∙ ap (λ x. record { number = t .number; count = t .count; last = t .last; size = length x; intake = t .intake; buffers = t .buffers; output = filled x out }) w
-    ∙ ap (λ o. record { number = t .number; count = t .count; last = t .last; size = 0; intake = t .intake; buffers = t .buffers; output = o }) (sym (filled-empty out))
+    judged-held i b out t (omega (arith, ap length w)) k ∙ ap (λ x. at (length x) (filled x out)) w ∙ ap (at 0) (sym (filled-empty out))
+  where
+    at : ℕ → List ℕ → Outcome
+    at n o = record { number = t .number; count = t .count; last = t .last; size = n; intake = t .intake; buffers = t .buffers; output = o }
 
 -- more is written than has room
 judged-overflows : (i : Intake) (b : Buffers) (out : List ℕ) (t : Taken) → length out < length (t .written) → judged i b out t ≡ untaken 15 i b out
@@ -102,7 +103,9 @@ module _ (b : Buffers) (i : Intake) (left : ℕ) (s : Session) (after : List ℕ
   abbrev settled : CodeAnswering → Outcome
   settled a = settledAs (answeringSaid a) s after i b left
 
-  settled-took : (a : CodeAnswering) (o : one-call.Outcome) → said a ≡ o → o .number ≡ 0 → settled a ≡ record {
+  -- .. by the call's outcome: it is accepted
+  abbrev took : one-call.Outcome → Outcome
+  took o = record {
     number = pick (eqb left 0) 0 14;
     count = 1;
     last = lastIn (o .given);
@@ -111,57 +114,39 @@ module _ (b : Buffers) (i : Intake) (left : ℕ) (s : Session) (after : List ℕ
     buffers = b;
     output = o .output;
   }
+
+  settled-took : (a : CodeAnswering) (o : one-call.Outcome) → said a ≡ o → o .number ≡ 0 → settled a ≡ took o
   settled-took (the.Response r k n) o e z = ap took e
-    where
-      took : one-call.Outcome → Outcome
-      took o = record {
-        number = pick (eqb left 0) 0 14;
-        count = 1;
-        last = lastIn (o .given);
-        size = o .size;
-        intake = emptied (o .session) [];
-        buffers = b;
-        output = o .output;
-      }
   settled-took (the.Refused q) o e z = absurd (eqb-false (numberOf q) 0 (number-not-zero q) (ap (λ (o : one-call.Outcome). o .number) e ∙ z))
 
-  settled-refused : (a : CodeAnswering) (o : one-call.Outcome) → said a ≡ o → (o .number ≡ 0 → ⊥) → (o .number ≡ 15 → ⊥) → settled a ≡ record {
-    number = o .number;
-    count = 0;
-    last = no-stanza;
-    size = 0;
-    intake = emptied (o .session) [];
-    buffers = b;
-    output = o .output;
-  }
+  -- .. or it is refused
+  abbrev declined : one-call.Outcome → Outcome
+  declined o = record { number = o .number; count = 0; last = no-stanza; size = 0; intake = emptied (o .session) []; buffers = b; output = o .output }
+
+  settled-refused : (a : CodeAnswering) (o : one-call.Outcome) → said a ≡ o → (o .number ≡ 0 → ⊥) → (o .number ≡ 15 → ⊥) → settled a ≡ declined o
   settled-refused (the.Response r k n) o e z f = absurd (z (sym (ap (λ (o : one-call.Outcome). o .number) e)))
   settled-refused (the.Refused q) o e z f =
-      ap (λ d. pick d (untaken (numberOf q) i b after) (declined (said (the.Refused q)))) (ne-eqb (numberOf q) 15 (λ h. f (sym (ap (λ (o : one-call.Outcome). o .number) e) ∙ h)))
+      ap (λ d. pick d (untaken (numberOf q) i b after) (declined (said (the.Refused q))))
+      (ne-eqb (numberOf q) 15 (λ h. f (sym (ap (λ (o : one-call.Outcome). o .number) e) ∙ h)))
       ∙ ap declined e
-    where
-      declined : one-call.Outcome → Outcome
-      declined o = record {
-        number = o .number;
-        count = 0;
-        last = no-stanza;
-        size = 0;
-        intake = emptied (o .session) [];
-        buffers = b;
-        output = o .output;
-      }
 
   settled-short : (a : CodeAnswering) (o : one-call.Outcome) → said a ≡ o → o .number ≡ 15 → settled a ≡ untaken 15 i b (o .output)
   settled-short (the.Response r k n) o e z = let h : _≡_ {A = ℕ} 0 15 = ap (λ (o : one-call.Outcome). o .number) e ∙ z in absurd (omega arith)
   settled-short (the.Refused q) o e z =
       let h : numberOf q ≡ 15 = ap (λ (o : one-call.Outcome). o .number) e ∙ z in
-      ap (λ d. pick d (untaken (numberOf q) i b after) (record { number = numberOf q; count = 0; last = no-stanza; size = 0; intake = emptied s []; buffers = b; output = after }))
-      (eq-eqb (numberOf q) 15 h)
+      ap (λ d. pick d (untaken (numberOf q) i b after) (declined (said (the.Refused q)))) (eq-eqb (numberOf q) 15 h)
       ∙ ap₂ (λ n y. untaken n i b y) h (ap (λ (o : one-call.Outcome). o .output) e)
 
 module _ (s : Session) (b : Buffers) (i : Intake) (bytes t rest out : List ℕ)
     (is : taken plugin i b bytes ≡ stanzaTaken plugin b (outcome s b (respond t room)) t rest) where
   abbrev inRoom : one-call.Outcome
   inRoom = outcome s b (respond t room)
+
+  -- by whether it is accepted
+  abbrev by-number : Bool → Taken
+  by-number f =
+      pick f (oneMore (lastIn (inRoom .given)) (take (inRoom .size) (inRoom .output)) (takenText plugin (inRoom .session) b [] rest))
+      (noMore (inRoom .number) (emptied (inRoom .session) []) b)
 
   -- bytes behind it are dropped
   abbrev dropping : Taken
@@ -182,7 +167,8 @@ module _ (s : Session) (b : Buffers) (i : Intake) (bytes t rest out : List ℕ)
         text-dropped plugin (inRoom .session) b [] 14 (ap (λ (s : Session). turnAt plugin (s .phase)) (accepted s b (respond t room) z .1 .session)) rest
         ∙ go (eqb (length rest) 0)
       where
-        go : (f : Bool) → pick f (noMore 0 (emptied (inRoom .session) []) b) (noMore 14 (emptied (inRoom .session) []) b) ≡ noMore (pick f 0 14) (emptied (inRoom .session) []) b
+        go : (f : Bool) →
+            pick f (noMore 0 (emptied (inRoom .session) []) b) (noMore 14 (emptied (inRoom .session) []) b) ≡ noMore (pick f 0 14) (emptied (inRoom .session) []) b
         go true = refl
         go false = refl
 
@@ -199,14 +185,12 @@ module _ (s : Session) (b : Buffers) (i : Intake) (bytes t rest out : List ℕ)
     one-taken : taken plugin i b bytes ≡ more w
     one-taken =
         is
-        ∙ ap (λ f. pick f (oneMore (lastIn (inRoom .given)) w (takenText plugin (inRoom .session) b [] rest)) (noMore (inRoom .number) (emptied (inRoom .session) []) b)) (eq-eqb (inRoom .number) 0 z)
+        ∙ ap by-number (eq-eqb (inRoom .number) 0 z)
         ∙ ap (oneMore (lastIn (inRoom .given)) w) behind-is
         ∙ ap more (append-nil w)
 
   none-taken : (inRoom .number ≡ 0 → ⊥) → taken plugin i b bytes ≡ noMore (inRoom .number) (emptied (inRoom .session) []) b
-  none-taken z =
-      is
-      ∙ ap (λ f. pick f (oneMore (lastIn (inRoom .given)) (take (inRoom .size) (inRoom .output)) (takenText plugin (inRoom .session) b [] rest)) (noMore (inRoom .number) (emptied (inRoom .session) []) b)) (ne-eqb (inRoom .number) 0 z)
+  none-taken z = is ∙ ap by-number (ne-eqb (inRoom .number) 0 z)
 
   -- the code's step with the lent buffer settles the chunk
   pub response-settled : (x : CodeResponded) (xs hs : List (List ℕ)) (after : List ℕ) → respondedSaid x xs hs after ≡ responded s t out →
@@ -216,30 +200,30 @@ module _ (s : Session) (b : Buffers) (i : Intake) (bytes t rest out : List ℕ)
       let said-is : said b i (length rest) v after (x .answer) ≡ outcome s b (respond t out) = ap (respondedOutcome b) e in
       cases (eqb (inRoom .number) 0)
       (λ f.
-          let z = eqb-true (inRoom .number) 0 f in
-          cases (leb (inRoom .size) (length out))
-          (λ g.
-              let l = leb-true (inRoom .size) (length out) g in
-              settled-took b i (length rest) v after (x .answer) _ (said-is ∙ response-fits s b t out z l) z
-              ∙ ap (λ n. record {
-                number = pick (eqb (length rest) 0) 0 14;
-                count = 1;
-                last = lastIn (inRoom .given);
-                size = n;
-                intake = emptied (inRoom .session) [];
-                buffers = b;
-                output = filled (w z) out;
-              }) (sym (written-size z))
-              ∙ sym (ap (judged i b out) (one-taken z) ∙ judged-held i b out (more z (w z)) (omega (arith, written-size z)) (omega arith)))
-          (λ g.
-              let l = leb-false (inRoom .size) (length out) g in
-              settled-short b i (length rest) v after (x .answer) _ (said-is ∙ response-overflows s b t out z l) refl
-              ∙ sym (ap (judged i b out) (one-taken z) ∙ judged-overflows i b out (more z (w z)) (omega (arith, written-size z)))))
+      let z = eqb-true (inRoom .number) 0 f in
+      cases (leb (inRoom .size) (length out))
+      (λ g.
+      let l = leb-true (inRoom .size) (length out) g in
+      settled-took b i (length rest) v after (x .answer) _ (said-is ∙ response-fits s b t out z l) z
+      ∙ ap (λ n. record {
+        number = pick (eqb (length rest) 0) 0 14;
+        count = 1;
+        last = lastIn (inRoom .given);
+        size = n;
+        intake = emptied (inRoom .session) [];
+        buffers = b;
+        output = filled (w z) out;
+      }) (sym (written-size z))
+      ∙ sym (ap (judged i b out) (one-taken z) ∙ judged-held i b out (more z (w z)) (omega (arith, written-size z)) (omega arith)))
+      (λ g.
+      let l = leb-false (inRoom .size) (length out) g in
+      settled-short b i (length rest) v after (x .answer) _ (said-is ∙ response-overflows s b t out z l) refl
+      ∙ sym (ap (judged i b out) (one-taken z) ∙ judged-overflows i b out (more z (w z)) (omega (arith, written-size z)))))
       (λ f.
-          let z = eqb-false (inRoom .number) 0 f in
-          settled-refused b i (length rest) v after (x .answer) _ (said-is ∙ response-declined s b t out z) z
-          (λ h. taken-not-short plugin i b bytes (ap (λ (t : Taken). t .number) (none-taken z) ∙ h))
-          ∙ sym (ap (judged i b out) (none-taken z) ∙ judged-silent i b out (noMore (inRoom .number) (emptied (inRoom .session) []) b) refl (omega arith)))
+      let z = eqb-false (inRoom .number) 0 f in
+      settled-refused b i (length rest) v after (x .answer) _ (said-is ∙ response-declined s b t out z) z
+      (λ h. taken-not-short plugin i b bytes (ap (λ (t : Taken). t .number) (none-taken z) ∙ h))
+      ∙ sym (ap (judged i b out) (none-taken z) ∙ judged-silent i b out (noMore (inRoom .number) (emptied (inRoom .session) []) b) refl (omega arith)))
 
 -- an answer that says what was taken, and wrote nothing
 pub says-judged : (r : CodeReceived) (xs hs : List (List ℕ)) (before after out : List ℕ) (b : Buffers) (i : Intake) (t : Taken) →

@@ -2,23 +2,18 @@ use borrow.Author.Needs.{needs}
 use Rattle.plugin_receiving.proofs.commands.answer_behind.Statement.{statement}
 use Rattle.plugin_receiving.proofs.commands.answer_behind.Tie as tie
 
--- src/commands.rt:47:25
 enum-known-answer : tie.Need-enum-known-answer
 enum-known-answer c = search needs
 
--- src/commands.rt:49:20
 add-t10 : tie.Need-add-t10
 add-t10 c = search needs
 
--- src/commands.rt:54:25
 enum-known-answer-2 : tie.Need-enum-known-answer-2
 enum-known-answer-2 c = search needs
 
--- src/commands.rt:40:1
 returns : tie.Need-returns
 returns c = rw (c .before .before .answer .given .1)
 
--- src/commands.rt:40:1
 returns-2 : tie.Need-returns-2
 returns-2 c = rw (c .before .answer2 .given .1)
 

@@ -1,41 +1,32 @@
 use borrow.Author.Needs.{needs}
-use mathlib.Core.Path.{_≡_, refl, sym, ap, _∙_}
-use Rattle.refusal.specs.Verdict.{verdictSaid}
 use Rattle.refusal.proofs.Laws.Number.{number-not-zero}
 use Rattle.plugin_receiving.proofs.commands.next_command.Statement.{statement}
 use Rattle.plugin_receiving.proofs.commands.next_command.Tie as tie
 
--- src/commands.rt:29:29
 enum-known-verdict : tie.Need-enum-known-verdict
 enum-known-verdict c = search needs
 
--- src/commands.rt:30:9
 returns : tie.Need-returns
 returns c = rw (c .before .verdict .given .1, number-not-zero (c .before .verdict .given .0 .0))
 
 enum-told : tie.Need-enum-told
 enum-told c = search needs
 
--- src/commands.rt:32:9
 turn-one-requires : tie.Need-turn-one-requires
 turn-one-requires c κs = search needs
 
--- src/commands.rt:33:29
 enum-known-turn : tie.Need-enum-known-turn
 enum-known-turn c = search needs
 
--- src/commands.rt:34:9
 returns-2 : tie.Need-returns-2
 returns-2 c = rw (c .before .before .before .before .enum-told .given .1, ← c .before .before .before .turn-one .ensures, c .before .turn .given .1, number-not-zero (c .before .turn .given .0 .0))
 
 enum-told-2 : tie.Need-enum-told-2
 enum-told-2 c = search needs
 
--- src/commands.rt:36:5
 read-requires : tie.Need-read-requires
 read-requires c κs = search needs
 
--- src/commands.rt:26:1
 returns-3 : tie.Need-returns-3
 returns-3 c = rw (c .before .before .before .before .enum-told .given .1, ← c .before .before .before .turn-one .ensures, c .before .enum-told2 .given .1) (c .read .ensures)
 

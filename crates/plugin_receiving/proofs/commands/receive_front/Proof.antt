@@ -21,15 +21,12 @@ use borrow.Author.Needs.{needs}
 use Rattle.plugin_receiving.proofs.commands.receive_front.Statement.{statement}
 use Rattle.plugin_receiving.proofs.commands.receive_front.Tie as tie
 
--- src/commands.rt:175:9
 kept-of-requires : tie.Need-kept-of-requires
 kept-of-requires c κs = search needs
 
--- src/commands.rt:177:49
 slice-aggregate-put-together : tie.Need-slice-aggregate-put-together
 slice-aggregate-put-together c = search needs
 
--- src/commands.rt:177:9
 put-together-requires : tie.Need-put-together-requires
 put-together-requires c κs =
     let a = c .before .before .before .before .before .before .before .before .args in
@@ -37,55 +34,42 @@ put-together-requires c κs =
     let w = chunk-within (a .session) [] [] (now (a .input)) long (ap (turnAt plugin) (c .before .before .before .before .before .before .before .before .pre .0)) (now (a .chunk)) (a .k) (c .before .before .before .before .before .before .before .before .pre .1) in
     (omega (arith, c .before .before .kept-of .ensures), (w .0, omega (arith, c .before .before .kept-of .ensures, w .1)))
 
--- src/commands.rt:178:36
 slice-aggregate-front : tie.Need-slice-aggregate-front
 slice-aggregate-front c = search needs
 
--- src/commands.rt:178:30
 front-requires : tie.Need-front-requires
 front-requires c κs = search needs
 
--- src/commands.rt:178:9
 read-requires : tie.Need-read-requires
 read-requires c κs = search needs
 
--- src/commands.rt:180:24
 enum-known-first : tie.Need-enum-known-first
 enum-known-first c = search needs
 
--- src/commands.rt:187:40
 phase-refused-requires : tie.Need-phase-refused-requires
 phase-refused-requires c κs = search needs
 
--- src/commands.rt:187:26
 moved-requires : tie.Need-moved-requires
 moved-requires c κs = search needs
 
--- src/commands.rt:190:23
 enum-known-first-2 : tie.Need-enum-known-first-2
 enum-known-first-2 c = search needs
 
--- src/commands.rt:193:23
 slice-aggregate-front-2 : tie.Need-slice-aggregate-front-2
 slice-aggregate-front-2 c = search needs
 
--- src/commands.rt:193:17
 front-requires-2 : tie.Need-front-requires-2
 front-requires-2 c κs = search needs
 
--- src/commands.rt:191:17
 receive-stanza-requires : tie.Need-receive-stanza-requires
 receive-stanza-requires c κs = search needs
 
--- src/commands.rt:202:27
 begin-requires : tie.Need-begin-requires
 begin-requires c κs = search needs
 
--- src/commands.rt:202:13
 answer-behind-requires : tie.Need-answer-behind-requires
 answer-behind-requires c κs = rw (c .begin .ensures) (omega arith)
 
--- src/commands.rt:154:1
 returns : tie.Need-returns
 returns c =
     let a = c .before .before .before .before .before .before .before .before .before .before .before .before .before .before .before .before .before .before .args in
@@ -100,23 +84,18 @@ returns c =
     refl in
     (f .comes, (f .none-due, f .count, f .written, ap (λ s. s .name) (c .moved .ensures)))
 
--- src/commands.rt:154:1
 same-length : tie.Need-same-length
 same-length c = search needs
 
--- src/commands.rt:154:1
 same-length-2 : tie.Need-same-length-2
 same-length-2 c = search needs
 
--- src/commands.rt:154:1
 same-length-3 : tie.Need-same-length-3
 same-length-3 c = search needs
 
--- src/commands.rt:154:1
 same-length-4 : tie.Need-same-length-4
 same-length-4 c = search needs
 
--- src/commands.rt:154:1
 returns-2 : tie.Need-returns-2
 returns-2 c =
     let a = c .before .before .before .before .before .before .before .before .before .before .before .before .before .before .before .before .before .before .before .before .before .before .before .before .before .before .before .before .before .before .before .before .before .before .before .args in

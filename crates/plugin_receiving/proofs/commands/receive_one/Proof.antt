@@ -1,6 +1,6 @@
 -- By the chunk's front: the chunk is answered, or the text is received from its start on or behind the stanza that ends.
 use Prim.Native.Nat.{_≤_, min}
-use mathlib.Core.Path.{_≡_, sym, ap, subst, _∙_}
+use mathlib.Core.Path.{ap, subst, _∙_}
 use lib.ListN.{length}
 use native.Mathlib.Omega.{arith}
 use denote.Ref.{now}
@@ -19,19 +19,15 @@ use borrow.Author.Needs.{needs}
 use Rattle.plugin_receiving.proofs.commands.receive_one.Statement.{statement}
 use Rattle.plugin_receiving.proofs.commands.receive_one.Tie as tie
 
--- src/commands.rt:227:9
 read-front-requires : tie.Need-read-front-requires
 read-front-requires c κs = (ap (turnAt plugin) (c .before .before .before .before .before .before .pre), search needs)
 
--- src/commands.rt:231:28
 enum-told : tie.Need-enum-told
 enum-told c = search needs
 
--- src/commands.rt:235:13
 enum-told-2 : tie.Need-enum-told-2
 enum-told-2 c = search needs
 
--- src/commands.rt:232:26
 receive-text-requires : tie.Need-receive-text-requires
 receive-text-requires c κs =
     let a = c .before .before .before .before .before .before .before .before .before .before .before .before .before .before .before .before .before .args in
@@ -39,11 +35,9 @@ receive-text-requires c κs =
     let s = subst (λ x. FrontSays (a .session) (now (a .chunk)) (now (a .input)) (f .last .1 .1 .0) x (f .result .answer)) (c .before .before .before .before .before .before .before .enum-told2 .given .1) (f .ensures) in
     (λ z. ap (λ (r : Received). isWaiting client (r .session .phase)) (s .2) ∙ ap (isWaiting client) (c .before .before .before .before .before .before .before .before .before .before .before .before .before .before .before .before .before .pre), rw (s .2) (omega arith))
 
--- src/commands.rt:243:21
 enum-known-front : tie.Need-enum-known-front
 enum-known-front c = search needs
 
--- src/commands.rt:244:17
 receive-front-requires : tie.Need-receive-front-requires
 receive-front-requires c κs =
     let a = c .before .before .before .before .before .before .before .before .before .before .before .before .before .before .before .before .before .before .args in
@@ -51,7 +45,6 @@ receive-front-requires c κs =
     let s = subst (λ x. FrontSays (a .session) (now (a .chunk)) (now (a .input)) (f .last .1 .1 .0) x (f .result .answer)) (c .before .before .before .before .before .before .before .before .front .given .1) (f .ensures) in
     (c .before .before .before .before .before .before .before .before .before .before .before .before .before .before .before .before .before .before .pre, s .0)
 
--- src/commands.rt:258:17
 sub-receive-text : tie.Need-sub-receive-text
 sub-receive-text c =
     let a = c .before .before .before .before .before .before .before .before .before .before .before .before .before .before .before .before .before .before .before .before .before .before .before .before .before .before .before .args in
@@ -59,7 +52,6 @@ sub-receive-text c =
     let s = subst (λ x. FrontSays (a .session) (now (a .chunk)) (now (a .input)) (f .last .1 .1 .0) x (f .result .answer)) (c .before .before .before .before .before .before .before .before .before .before .before .before .before .before .before .before .before .front .given .1) (f .ensures) in
     omega (arith, whole-within (now (a .chunk)) (placeSaid (a .session .reading)) (min (a .session .kept) 8191) (c .before .before .before .before .before .before .before .before .before .before .before .before .before .before .before .before .before .front .given .0 .0) (s .0) .1)
 
--- src/commands.rt:258:17
 part-receive-text-start : tie.Need-part-receive-text-start
 part-receive-text-start c =
     let a = c .before .before .before .before .before .before .before .before .before .before .before .before .before .before .before .before .before .before .before .before .before .before .before .before .before .before .before .args in
@@ -67,15 +59,12 @@ part-receive-text-start c =
     let s = subst (λ x. FrontSays (a .session) (now (a .chunk)) (now (a .input)) (f .last .1 .1 .0) x (f .result .answer)) (c .before .before .before .before .before .before .before .before .before .before .before .before .before .before .before .before .before .front .given .1) (f .ensures) in
     omega (arith, whole-within (now (a .chunk)) (placeSaid (a .session .reading)) (min (a .session .kept) 8191) (c .before .before .before .before .before .before .before .before .before .before .before .before .before .before .before .before .before .front .given .0 .0) (s .0) .1)
 
--- src/commands.rt:258:17
 part-receive-text-end : tie.Need-part-receive-text-end
 part-receive-text-end c = search needs
 
--- src/commands.rt:256:13
 receive-text-requires-2 : tie.Need-receive-text-requires-2
 receive-text-requires-2 c κs = search needs
 
--- src/commands.rt:208:1
 returns : tie.Need-returns
 returns c =
     let a = c .before .before .before .before .before .before .before .before .before .before .args in
@@ -83,23 +72,18 @@ returns c =
     let s = subst (λ x. FrontSays (a .session) (now (a .chunk)) (now (a .input)) (f .last .1 .1 .0) x (f .result .answer)) (c .enum-told .given .1) (f .ensures) in
     (λ d. s .0 (now (a .slots)) (now (a .header-slots)) (buffersOf (one.buffersOf (now (a .recipients)) (now (a .identities)) (now (a .keys)) (now (a .headers))) d), (s .1, s .2))
 
--- src/commands.rt:208:1
 same-length : tie.Need-same-length
 same-length c = search needs
 
--- src/commands.rt:208:1
 same-length-2 : tie.Need-same-length-2
 same-length-2 c = search needs
 
--- src/commands.rt:208:1
 same-length-3 : tie.Need-same-length-3
 same-length-3 c = search needs
 
--- src/commands.rt:208:1
 same-length-4 : tie.Need-same-length-4
 same-length-4 c = search needs
 
--- src/commands.rt:208:1
 returns-2 : tie.Need-returns-2
 returns-2 c =
     let a = c .before .before .before .before .before .before .before .before .before .before .before .before .before .before .before .before .before .before .before .before .before .before .before .before .before .before .args in
@@ -113,23 +97,18 @@ returns-2 c =
       (n .ensures .1 .0 ∙ ap (λ (r : Received). r .written) (s .2), n .ensures .1 .1 ∙ ap (λ (r : Received). r .session .name) (s .2)),
     )
 
--- src/commands.rt:208:1
 same-length-5 : tie.Need-same-length-5
 same-length-5 c = c .before .before .before .before .before .before .before .before .receive-text2 .kept .1 .1 .1 .1 .1 .0 ∙ c .before .before .before .before .before .before .before .before .before .before .before .before .before .before .before .before .before .before .before .before .before .before .before .before .before .receive-front .kept .1 .1 .1 .1 .1 .1 .0
 
--- src/commands.rt:208:1
 same-length-6 : tie.Need-same-length-6
 same-length-6 c = search needs
 
--- src/commands.rt:208:1
 same-length-7 : tie.Need-same-length-7
 same-length-7 c = search needs
 
--- src/commands.rt:208:1
 same-length-8 : tie.Need-same-length-8
 same-length-8 c = search needs
 
--- src/commands.rt:208:1
 returns-3 : tie.Need-returns-3
 returns-3 c =
     let a = c .before .before .before .before .before .before .before .before .before .before .before .before .before .before .before .before .before .before .before .before .before .before .before .before .before .before .before .before .before .before .before .before .before .before .before .before .before .before .before .before .before .before .before .before .args in

@@ -24,70 +24,54 @@ abbrev μ-loop : tie.MeasureT-loop
 μ-loop text input₀ slots₀ header-slots₀ recipients₀ identities₀ keys₀ headers₀ answer₀ at₀ input slots header-slots recipients identities keys headers answer at =
     length text - at
 
--- src/commands.rt:120:5
 loop-holds : tie.Need-loop-holds Inv-loop μ-loop
 loop-holds c =
     let p = c .before .before .before .before .before .pre in
     (omega arith, omega (arith, p .1), refl, p .0, λ d. refl, refl, refl, refl, refl, refl, refl)
 
--- src/commands.rt:124:49
 sub-next-command : tie.Need-sub-next-command Inv-loop μ-loop
 sub-next-command c = omega (arith, c .before .loop .inv .0)
 
--- src/commands.rt:124:49
 part-next-command-start : tie.Need-part-next-command-start Inv-loop μ-loop
 part-next-command-start c = omega (arith, c .before .loop .inv .0)
 
--- src/commands.rt:124:49
 part-next-command-end : tie.Need-part-next-command-end Inv-loop μ-loop
 part-next-command-end c = omega (arith, c .before .loop .inv .0)
 
--- src/commands.rt:124:13
 next-command-requires : tie.Need-next-command-requires Inv-loop μ-loop
 next-command-requires c κs = search needs
 
--- src/commands.rt:125:27
 enum-known-next : tie.Need-enum-known-next Inv-loop μ-loop
 enum-known-next c = search needs
 
--- src/commands.rt:126:44
 enum-told : tie.Need-enum-told Inv-loop μ-loop
 enum-told c = search needs
 
--- src/commands.rt:126:44
 sub-settle-commands : tie.Need-sub-settle-commands Inv-loop μ-loop
 sub-settle-commands c = omega (arith, c .before .before .before .before .before .loop .inv .0)
 
--- src/commands.rt:126:44
 part-settle-commands-start : tie.Need-part-settle-commands-start Inv-loop μ-loop
 part-settle-commands-start c = omega (arith, c .before .before .before .before .before .loop .inv .0)
 
--- src/commands.rt:126:44
 part-settle-commands-end : tie.Need-part-settle-commands-end Inv-loop μ-loop
 part-settle-commands-end c = omega (arith, c .before .before .before .before .before .loop .inv .0)
 
--- src/commands.rt:126:13
 settle-commands-requires : tie.Need-settle-commands-requires Inv-loop μ-loop
 settle-commands-requires c κs =
     (c .before .before .before .before .before .before .before .loop .inv .3, (search needs, λ l m k e. stanza-not-refused (numberOf (c .before .before .enum-told .given .0 .0)) l m k (sym (ap readSaid (c .before .before .enum-told .given .1)) ∙ c .before .before .before .before .next-command .ensures ∙ e)))
 
--- src/commands.rt:126:13
 same-length : tie.Need-same-length Inv-loop μ-loop
 same-length c = c .before .before .before .before .before .before .before .before .loop .inv .5
 
--- src/commands.rt:126:13
 same-length-2 : tie.Need-same-length-2 Inv-loop μ-loop
 same-length-2 c = c .before .before .before .before .before .before .before .before .loop .inv .6
 
--- src/commands.rt:126:13
 same-length-3 : tie.Need-same-length-3 Inv-loop μ-loop
 same-length-3 c = c .before .before .before .before .before .before .before .before .loop .inv .7
 
--- src/commands.rt:126:13
 same-length-4 : tie.Need-same-length-4 Inv-loop μ-loop
 same-length-4 c = c .before .before .before .before .before .before .before .before .loop .inv .8
 
--- src/commands.rt:126:13
 returns : tie.Need-returns Inv-loop μ-loop
 returns c =
     let a = c .before .before .before .before .before .before .before .before .before .before .before .before .before .before .args in
@@ -97,34 +81,27 @@ returns c =
       (n .ensures .1 .0 ∙ l .inv .9, n .ensures .1 .1 ∙ l .inv .10),
     )
 
--- src/commands.rt:130:13
 sub-receive-stanza : tie.Need-sub-receive-stanza Inv-loop μ-loop
 sub-receive-stanza c = omega (arith, c .before .before .before .before .before .before .loop .inv .0)
 
--- src/commands.rt:130:13
 part-receive-stanza-start : tie.Need-part-receive-stanza-start Inv-loop μ-loop
 part-receive-stanza-start c = omega (arith, c .before .before .before .before .before .before .loop .inv .0)
 
--- src/commands.rt:130:13
 part-receive-stanza-end : tie.Need-part-receive-stanza-end Inv-loop μ-loop
 part-receive-stanza-end c = omega (arith, c .before .before .before .before .before .before .loop .inv .0)
 
--- src/commands.rt:128:13
 receive-stanza-requires : tie.Need-receive-stanza-requires Inv-loop μ-loop
 receive-stanza-requires c κs = search needs
 
--- src/commands.rt:139:9
 answer-behind-requires : tie.Need-answer-behind-requires Inv-loop μ-loop
 answer-behind-requires c κs = omega (arith, c .before .before .before .before .before .before .before .before .before .before .before .before .before .before .before .before .before .before .before .before .before .before .before .before .before .before .before .before .good, c .before .before .before .before .before .before .before .before .before .before .before .before .before .before .before .before .before .before .before .before .before .before .loop .inv .0, c .before .before .before .before .before .before .before .before .before .before .before .before .before .before .before .before .before .before .before .before .before .before .loop .inv .1)
 
--- src/commands.rt:140:9
 add-at : tie.Need-add-at Inv-loop μ-loop
 add-at c =
     let a = c .before .before .before .before .before .before .before .before .before .before .before .before .before .before .before .before .before .before .before .before .before .before .before .before .before .before .before .before .before .before .args in
     let l = c .before .before .before .before .before .before .before .before .before .before .before .before .before .before .before .before .before .before .before .before .before .before .before .before .loop in
     omega (arith, c .before .before .before .before .before .before .before .before .before .before .before .before .before .before .before .before .before .before .before .before .before .before .before .before .before .before .before .before .before .before .good, stanza-within (l .answer) (now (a .text)) (l .at) (l .inv .0) (c .before .before .before .before .before .before .before .before .before .before .before .before .before .before .before .before .before .before .before .next .given .0 .0) (sym (ap readSaid (c .before .before .before .before .before .before .before .before .before .before .before .before .before .before .before .before .before .before .before .next .given .1)) ∙ c .before .before .before .before .before .before .before .before .before .before .before .before .before .before .before .before .before .before .before .before .before .next-command .ensures))
 
--- src/commands.rt:120:5
 loop-less : tie.Need-loop-less Inv-loop μ-loop
 loop-less c =
     let a = c .before .before .before .before .before .before .before .before .before .before .before .before .before .before .before .before .before .before .before .before .before .before .before .before .before .before .before .before .before .before .args in
@@ -133,7 +110,6 @@ loop-less c =
     let v = advanced (l .answer) (now (a .text)) (l .at) (l .inv .0) (c .before .before .before .before .before .before .before .before .before .before .before .before .before .before .before .before .before .before .before .next .given .0 .0) (sym (ap readSaid (c .before .before .before .before .before .before .before .before .before .before .before .before .before .before .before .before .before .before .before .next .given .1)) ∙ c .before .before .before .before .before .before .before .before .before .before .before .before .before .before .before .before .before .before .before .before .before .next-command .ensures) (c .before .answer-behind .result) (l .slots) (l .header-slots) (n .last .1 .1 .1 .0) (n .last .1 .1 .1 .1 .0) (one.buffersOf (l .recipients) (l .identities) (l .keys) (l .headers)) (one.buffersOf (n .last .1 .1 .1 .1 .1 .0) (n .last .1 .1 .1 .1 .1 .1 .0) (n .last .1 .1 .1 .1 .1 .1 .1 .0) (n .last .1 .1 .1 .1 .1 .1 .1 .1 .0)) (n .result .answer) (n .result .session) (n .ensures .0) (c .before .answer-behind .ensures) in
     omega (arith, v .within, v .long)
 
--- src/commands.rt:120:5
 loop-again : tie.Need-loop-again Inv-loop μ-loop
 loop-again c =
     let a = c .before .before .before .before .before .before .before .before .before .before .before .before .before .before .before .before .before .before .before .before .before .before .before .before .before .before .before .before .before .before .args in

@@ -10,35 +10,27 @@ use Rattle.plugin_receiving.proofs.Laws.Commands.{may-settle, refusal-s
 use Rattle.plugin_receiving.proofs.commands.settle_commands.Statement.{statement}
 use Rattle.plugin_receiving.proofs.commands.settle_commands.Tie as tie
 
--- src/commands.rt:80:17
 enum-told : tie.Need-enum-told
 enum-told c = search needs
 
--- src/commands.rt:81:17
 turn-plugin-requires : tie.Need-turn-plugin-requires
 turn-plugin-requires c κs = search needs
 
--- src/commands.rt:82:47
 slice-aggregate-settle : tie.Need-slice-aggregate-settle
 slice-aggregate-settle c = search needs
 
--- src/commands.rt:82:13
 settle-requires : tie.Need-settle-requires
 settle-requires c κs = search needs
 
--- src/commands.rt:85:17
 enum-told-2 : tie.Need-enum-told-2
 enum-told-2 c = search needs
 
--- src/commands.rt:91:26
 keeping-requires : tie.Need-keeping-requires
 keeping-requires c κs = search needs
 
--- src/commands.rt:68:1
 same-length : tie.Need-same-length
 same-length c = search needs
 
--- src/commands.rt:68:1
 returns : tie.Need-returns
 returns c =
     let a = c .before .before .before .before .before .before .before .before .before .before .before .args in
@@ -48,7 +40,6 @@ returns c =
       c .before .before .settle .ensures .1,
     )
 
--- src/commands.rt:68:1
 returns-2 : tie.Need-returns-2
 returns-2 c =
     let a = c .before .before .before .before .before .before .args in (

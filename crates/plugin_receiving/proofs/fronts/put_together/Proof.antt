@@ -13,7 +13,6 @@ use borrow.Author.Needs.{needs}
 use Rattle.plugin_receiving.proofs.fronts.put_together.Statement.{statement}
 use Rattle.plugin_receiving.proofs.fronts.put_together.Tie as tie
 
--- src/fronts.rt:50:18
 together : (p q o x : List ℕ) (n m : ℕ) → x ≡ filled p o → length p ≡ n → length q ≡ m → n + m ≤ length o →
     take (n + m) (take n x ++ filled q (drop n x)) ≡ p ++ q
 together p q o x n m e lp lq l =
@@ -26,39 +25,30 @@ together p q o x n m e lp lq l =
 front-requires : tie.Need-front-requires
 front-requires c κs = search needs
 
--- src/fronts.rt:50:5
 copy-requires : tie.Need-copy-requires
 copy-requires c κs = search needs
 
--- src/fronts.rt:51:18
 front-requires-2 : tie.Need-front-requires-2
 front-requires-2 c κs = search needs
 
--- src/fronts.rt:51:35
 sub-copy : tie.Need-sub-copy
 sub-copy c = search needs
 
--- src/fronts.rt:51:35
 part-copy-start : tie.Need-part-copy-start
 part-copy-start c = search needs
 
--- src/fronts.rt:51:35
 part-copy-end : tie.Need-part-copy-end
 part-copy-end c = search needs
 
--- src/fronts.rt:51:5
 copy-requires-2 : tie.Need-copy-requires-2
 copy-requires-2 c κs = search needs
 
--- src/fronts.rt:52:5
 add-result : tie.Need-add-result
 add-result c = search needs
 
--- src/fronts.rt:38:1
 same-length : tie.Need-same-length
 same-length c = search needs
 
--- src/fronts.rt:38:1
 returns : tie.Need-returns
 returns c =
     let a = c .before .before .before .before .before .before .before .before .before .before .before .before .before .args in

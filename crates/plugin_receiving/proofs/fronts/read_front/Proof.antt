@@ -10,63 +10,49 @@ use borrow.Author.Needs.{needs}
 use Rattle.plugin_receiving.proofs.fronts.read_front.Statement.{statement}
 use Rattle.plugin_receiving.proofs.fronts.read_front.Tie as tie
 
--- src/fronts.rt:64:9
 kept-of-requires : tie.Need-kept-of-requires
 kept-of-requires c κs = search needs
 
--- src/fronts.rt:65:8
 begins-requires : tie.Need-begins-requires
 begins-requires c κs = search needs
 
--- src/fronts.rt:68:21
 begin-requires : tie.Need-begin-requires
 begin-requires c κs = search needs
 
--- src/fronts.rt:66:9
 returns : tie.Need-returns
 returns c =
     let a = c .before .before .before .before .before .before .args in
     (ap (beginsAt (a .session .reading)) (sym (c .before .before .before .kept-of .ensures)) ∙ sym (c .before .before .begins .ensures) ∙ c .before .if1 .taken, refl, c .begin .ensures)
 
--- src/fronts.rt:71:9
 read-on-requires : tie.Need-read-on-requires
 read-on-requires c κs = search needs
 
--- src/fronts.rt:73:26
 enum-known-continued : tie.Need-enum-known-continued
 enum-known-continued c = search needs
 
--- src/fronts.rt:75:21
 begin-requires-2 : tie.Need-begin-requires-2
 begin-requires-2 c κs = search needs
 
--- src/fronts.rt:77:31
 enum-known-continued-2 : tie.Need-enum-known-continued-2
 enum-known-continued-2 c = search needs
 
--- src/fronts.rt:79:21
 keep-on-requires : tie.Need-keep-on-requires
 keep-on-requires c κs = search needs
 
--- src/fronts.rt:81:28
 enum-known-continued-3 : tie.Need-enum-known-continued-3
 enum-known-continued-3 c = search needs
 
--- src/fronts.rt:83:21
 close-requires : tie.Need-close-requires
 close-requires c κs = search needs
 
--- src/fronts.rt:58:1
 returns-2 : tie.Need-returns-2
 returns-2 c =
     let a = c .before .before .before .before .before .before .before .before .before .before .args in
     (ap (λ n. continued (placeSaid (a .session .reading)) n (now (a .chunk))) (sym (c .before .before .before .before .before .before .before .kept-of .ensures)) ∙ sym (c .before .before .before .before .read-on .ensures) ∙ ap continuedSaid (c .before .before .continued .given .1), refl, c .begin2 .ensures)
 
--- src/fronts.rt:58:1
 same-length : tie.Need-same-length
 same-length c = search needs
 
--- src/fronts.rt:58:1
 returns-3 : tie.Need-returns-3
 returns-3 c =
     let a = c .before .before .before .before .before .before .before .before .before .before .before .before .before .args in
@@ -78,7 +64,6 @@ returns-3 c =
       n .ensures .1 .1,
     )
 
--- src/fronts.rt:58:1
 returns-4 : tie.Need-returns-4
 returns-4 c =
     let a = c .before .before .before .before .before .before .before .before .before .before .args in

@@ -3,11 +3,9 @@ use borrow.Author.Tests.{eq-eqb, ne-eqb}
 use Rattle.plugin_receiving.proofs.responding.none_behind.Statement.{statement}
 use Rattle.plugin_receiving.proofs.responding.none_behind.Tie as tie
 
--- src/responding.rt:170:9
 returns : tie.Need-returns
 returns c = rw (eq-eqb _ _ (c .if1 .taken))
 
--- src/responding.rt:166:1
 returns-2 : tie.Need-returns-2
 returns-2 c = rw (ne-eqb _ _ (c .if1 .left))
 

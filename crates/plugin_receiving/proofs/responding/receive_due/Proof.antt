@@ -1,6 +1,6 @@
 -- By the chunk's front: the chunk is answered, or a response begins in it, or one ends.
 use Prim.Native.Nat.{_≤_, min}
-use mathlib.Core.Path.{_≡_, sym, ap, ap₂, subst, _∙_}
+use mathlib.Core.Path.{sym, ap, ap₂, subst, _∙_}
 use lib.ListN.{length}
 use denote.Ref.{now}
 use Rattle.chunks.specs.Chunks.{judged, taken}

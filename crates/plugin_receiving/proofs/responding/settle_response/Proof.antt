@@ -1,5 +1,5 @@
 -- By the answer: 15 leaves everything as it was, any other drops what was kept.
-use mathlib.Core.Path.{_≡_, sym, ap, _∙_}
+use mathlib.Core.Path.{sym, ap, _∙_}
 use borrow.Author.Tests.{eq-eqb, ne-eqb}
 use Rattle.refusal.specs.Number.{numberOf}
 use Rattle.chunks.specs.Taking.{plugin}
