@@ -16,6 +16,8 @@ const STORE: usize = 256;
 
 fn main() {
     let opening = Session::open(b"recipient-v1", b"interop");
+    let verdict = opening.verdict;
+    print_verdict(b"open: ", verdict);
     let mut slots = Session::open_slots();
     let mut header_slots = Session::open_header_slots();
     let mut recipients = [0u8; STORE];

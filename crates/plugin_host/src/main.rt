@@ -17,6 +17,8 @@ const STORE: usize = 256;
 
 fn main() {
     let opening = Session::open_plugin(b"recipient-v1", b"interop");
+    let verdict = opening.verdict;
+    print_verdict(b"open: ", verdict);
     let mut input = [0u8; Session::PLUGIN_INPUT];
     let mut slots = Session::open_slots();
     let mut header_slots = Session::open_header_slots();
