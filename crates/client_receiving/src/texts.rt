@@ -42,11 +42,11 @@ pub(crate) fn begin(session: Session, written: usize) -> Received
 fn go_on(so_far: Received, word: WordTwo, size: usize, session: Session) -> Received
     requires { ⌜ («so_far» .count + 1 ≤ 18446744073709551615) × («so_far» .written + size ≤ 18446744073709551615) ⌝ }
     ensures { λ r. ⌜ r ≡ record {
-        verdict = Verdict.Accepted;
-        count = «so_far» .count + 1;
-        last = Last.CommandTwo word;
-        written = «so_far» .written + size;
-        session = session;
+      verdict = Verdict.Accepted;
+      count = «so_far» .count + 1;
+      last = Last.CommandTwo word;
+      written = «so_far» .written + size;
+      session = session;
     } ⌝ }
 {
     Received {
@@ -61,20 +61,20 @@ fn go_on(so_far: Received, word: WordTwo, size: usize, session: Session) -> Rece
 // A refusal behind what was taken. Nothing is kept.
 pub(crate) fn stop(so_far: Received, refusal: Refusal, session: Session) -> Received
     ensures { λ r. ⌜ r ≡ record {
-        verdict = Verdict.Refused refusal;
-        count = «so_far» .count;
-        last = «so_far» .last;
-        written = «so_far» .written;
-        session = record {
-            machine = session .machine;
-            phase = session .phase;
-            screen = session .screen;
-            name = session .name;
-            tables = session .tables;
-            reading = Place.Start;
-            kept = 0;
-            awaited = 0;
-        };
+      verdict = Verdict.Refused refusal;
+      count = «so_far» .count;
+      last = «so_far» .last;
+      written = «so_far» .written;
+      session = record {
+        machine = session .machine;
+        phase = session .phase;
+        screen = session .screen;
+        name = session .name;
+        tables = session .tables;
+        reading = Place.Start;
+        kept = 0;
+        awaited = 0;
+      };
     } ⌝ }
 {
     let last = so_far.last;

@@ -128,9 +128,10 @@ impl Judging {
                     &mut out,
                 );
                 let after = received.session;
+                let verdict = received.verdict;
                 Judging {
                     session: after,
-                    progress: behind_chunk(after, received.verdict),
+                    progress: behind_chunk(after, verdict),
                 }
             }
         }

@@ -80,8 +80,8 @@ filled-own m o =
     let n : length (take m o) ≡ min m (length o) = length-take m o in
     filled-whole (take m o) o (omega (arith, n))
     ∙ elim (decLe m (length o)) [
-      yes h ↦ (let k : length (take m o) ≡ m = omega (arith, n) in rw k (take-append-drop m o))
-    | no h ↦ (let k : length (take m o) ≡ length o = omega (arith, n) in rw (k, take-all m o (omega arith), drop-length o, append-nil))
+      | yes h ↦ (let k : length (take m o) ≡ m = omega (arith, n) in rw k (take-append-drop m o))
+      | no h ↦ (let k : length (take m o) ≡ length o = omega (arith, n) in rw (k, take-all m o (omega arith), drop-length o, append-nil))
     ]
 
 -- the input has what its session keeps

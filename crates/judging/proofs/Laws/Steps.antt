@@ -6,7 +6,8 @@ use lib.ListN.{length}
 use native.Mathlib.Omega.{arith}
 use Rattle.refusal.specs.Same.{same}
 use Rattle.refusal.specs.Run.{all}
-use Rattle.bech32.specs.Text.{isName, isNameByte, isLower}
+use Rattle.symbols.specs.Charset.{isLower}
+use Rattle.bech32.specs.Text.{isName, isNameByte}
 use Rattle.session.specs.Opening.{recipientV1}
 use Rattle.session.specs.Session.{opened}
 use Rattle.phase_one.specs.PhaseOne as one
@@ -29,9 +30,9 @@ empty-list [] h = refl
 empty-list (x ∷ l) h = absurd (omega arith)
 
 -- a chunk that was received, with no buffer for header stanzas
-pub received-judged : (o : Outcome) (i : Intake) (r i′ k h x : List ℕ) (c : BuffersTwo) (d : Standing) (b : Buffers) (bytes : List ℕ) → length h ≡ 0 →
+pub received-judged : (o : Outcome) (i : Intake) (r i′ k h : List ℕ) (c : BuffersTwo) (d : Standing) (b : Buffers) (bytes : List ℕ) → length h ≡ 0 →
     o ≡ chunked plugin i b bytes [] → o .buffers ≡ buffersOf (one.buffersOf r i′ k h) c → d ≡ behindChunk o →
     record { standing = d; buffers = buffersIn r i′ k c } ≡ judgedFrom (going i) b bytes
-received-judged o i r i′ k h x c d b bytes z e q s =
+received-judged o i r i′ k h c d b bytes z e q s =
     ap₂ (λ (d : Standing) (b : Buffers). record { standing = d; buffers = b }) s (ap (λ h. buffersOf (one.buffersOf r i′ k h) c) (sym (empty-list h z)) ∙ sym q)
     ∙ ap (λ (o : Outcome). record { standing = behindChunk o; buffers = o .buffers }) e

@@ -39,9 +39,9 @@ returns c =
     let n : verdictSaid (c .dropped .result) ≡ pick (eqb (length (k ++ x)) 0) 0 14 =
     c .dropped .ensures ∙ ap (λ m. pick (eqb m 0) 0 14) (ap (λ m. m + length x) f ∙ sym (length-append k x)) in (
       (λ xs hs b.
-      let s = sessionOf (a .session) xs hs in
-      let q = front-dropped plugin s b [] 14 (ap (turnAt plugin) (c .before .before .before .before .before .before .pre)) x (placeSaid (a .session .reading)) k in
-      says-same _ xs hs o o o b _ _ refl (dropped-is s b (k ++ x) ∙ sym q) (says-emptied _ xs hs o b _ s (rw (c .before .keeping .ensures, n)))),
+          let s = sessionOf (a .session) xs hs in
+          let q = front-dropped plugin s b [] 14 (ap (turnAt plugin) (c .before .before .before .before .before .before .pre)) x (placeSaid (a .session .reading)) k in
+          says-same _ xs hs o o o b _ _ refl (dropped-is s b (k ++ x) ∙ sym q) (says-emptied _ xs hs o b _ s (rw (c .before .keeping .ensures, n)))),
       (refl, ap (λ s. s .name) (c .before .keeping .ensures)),
     )
 

@@ -94,7 +94,7 @@ returns-4 c =
     let a = c .before .before .before .before .before .before .before .before .before .args in
     let i = intakeOf plugin (a .session) (now (a .slots)) (now (a .header-slots)) (now (a .input)) in (
       (λ d. let b = buffersOf (one.buffersOf (now (a .recipients)) (now (a .identities)) (now (a .keys)) (now (a .headers))) d in
-      c .leave .ensures .0 plugin (now (a .slots)) (now (a .header-slots)) (now (a .input)) b (now (a .out)) ∙ sym (chunk-refused plugin i b 13 (now (a .chunk)) (now (a .out)) (ap (turnOf plugin) (c .before .enum-told3 .given .1)) refl)),
+          c .leave .ensures .0 plugin (now (a .slots)) (now (a .header-slots)) (now (a .input)) b (now (a .out)) ∙ sym (chunk-refused plugin i b 13 (now (a .chunk)) (now (a .out)) (ap (turnOf plugin) (c .before .enum-told3 .given .1)) refl)),
       (
         stored-own plugin (a .session) (now (a .slots)) (now (a .header-slots)) (now (a .input)) ∙ sym (ap (λ (o : Outcome). storedIn (o .intake) (now (a .input))) (c .leave .ensures .0 plugin (now (a .slots)) (now (a .header-slots)) (now (a .input)) (buffersOf (one.buffersOf [] [] [] []) none) (now (a .out)))),
         c .leave .ensures .1,
@@ -106,7 +106,7 @@ returns-5 c =
     let a = c .before .before .before .before .before .before .before .before .before .args in
     let i = intakeOf plugin (a .session) (now (a .slots)) (now (a .header-slots)) (now (a .input)) in (
       (λ d. let b = buffersOf (one.buffersOf (now (a .recipients)) (now (a .identities)) (now (a .keys)) (now (a .headers))) d in
-      c .leave2 .ensures .0 plugin (now (a .slots)) (now (a .header-slots)) (now (a .input)) b (now (a .out)) ∙ sym (chunk-refused plugin i b 13 (now (a .chunk)) (now (a .out)) (ap (turnOf plugin) (c .before .enum-told4 .given .1)) refl)),
+          c .leave2 .ensures .0 plugin (now (a .slots)) (now (a .header-slots)) (now (a .input)) b (now (a .out)) ∙ sym (chunk-refused plugin i b 13 (now (a .chunk)) (now (a .out)) (ap (turnOf plugin) (c .before .enum-told4 .given .1)) refl)),
       (
         stored-own plugin (a .session) (now (a .slots)) (now (a .header-slots)) (now (a .input)) ∙ sym (ap (λ (o : Outcome). storedIn (o .intake) (now (a .input))) (c .leave2 .ensures .0 plugin (now (a .slots)) (now (a .header-slots)) (now (a .input)) (buffersOf (one.buffersOf [] [] [] []) none) (now (a .out)))),
         c .leave2 .ensures .1,
