@@ -9,6 +9,7 @@ ghost use Rattle.session.specs.declared.phases.Phase.the-variants.{Two};
 ghost use Rattle.phase_one.specs.PhaseOne.{BuffersOne};
 ghost use Rattle.chunks.specs.Taking.{client, awaitedBehind};
 ghost use Rattle.chunks.specs.Chunks.{isHeld};
+ghost use Rattle.chunks.specs.Uncut.{isWaiting};
 ghost use Rattle.client_room.specs.Room.{stanzaAhead};
 ghost use Rattle.client_receiving.specs.Texts.{lent, behindAnswer, MayTake, Answers};
 use crate::stanzas::receive_stanza;
@@ -162,6 +163,19 @@ pub(crate) fn take_text(
     }
 }
 
+// Whether the host's reply is due.
+fn is_waiting(phase: Phase) -> bool
+    ensures { λ r. ⌜ r ≡ isWaiting client phase ⌝ }
+{
+    match phase {
+        Phase::One => false,
+        Phase::Two => false,
+        Phase::Awaiting(_) => true,
+        Phase::Ended => false,
+        Phase::Closed => false,
+    }
+}
+
 // A text that is taken as one stanza, and the text behind it.
 pub(crate) fn take_front(
     session: Session,
@@ -214,9 +228,8 @@ pub(crate) fn take_front(
                 Taking::Command(word, _, size) => {
                     let done = go_on(begun, word, size, after);
                     let phase = after.phase;
-                    let turn = intake::turn_client(phase);
-                    if let Turn::KeepsBack = turn {
-                        return intake::settle(done, turn, front, text, input);
+                    if is_waiting(phase) {
+                        return intake::settle(done, Turn::KeepsBack, front, text, input);
                     }
                     take_text(
                         done,

@@ -28,7 +28,7 @@ use Rattle.chunks.proofs.Laws.Short.{read-number}
 use Rattle.chunks.proofs.Laws.Texts.{stanzaTaken}
 use Rattle.client_room.proofs.Laws.Stanzas.{lineOf, bodyBehind, stanza-call, fault-call}
 
-filled-front : (x o : List ℕ) → length x ≤ length o → filled x o ≡ x ++ drop (length x) o
+pub filled-front : (x o : List ℕ) → length x ≤ length o → filled x o ≡ x ++ drop (length x) o
 filled-front x o l = ap (λ f. pick f o (x ++ drop (length x) o)) (le-ltb (length o) (length x) l)
 
 module _ (s : Session) (b : BuffersTwo) (line body : List ℕ) (k : ℕ) where

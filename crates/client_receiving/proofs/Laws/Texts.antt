@@ -66,7 +66,7 @@ awaited-short (Awaiting w) a = omega arith
 awaited-short Ended a = omega arith
 awaited-short Closed a = omega arith
 
-awaited-none : (p : Phase) (a : List ℕ) → (turnAt client p ≡ keeps-back → ⊥) → awaitedBehind client p a ≡ []
+pub awaited-none : (p : Phase) (a : List ℕ) → (turnAt client p ≡ keeps-back → ⊥) → awaitedBehind client p a ≡ []
 awaited-none One a h = refl
 awaited-none Two a h = refl
 awaited-none (Awaiting w) a h = absurd (h refl)
@@ -192,7 +192,7 @@ module _ (n : ℕ) (g : Last) (wr : ℕ) (out : List ℕ) (fit : wr ≤ length o
 -- ---- the loop's invariant
 
 -- phase one's buffers do not matter
-none-lent : BuffersOne
+pub none-lent : BuffersOne
 none-lent = one.buffersOf [] [] [] []
 
 -- behind the stanzas up to `at`, of which the last begins at `begun`
@@ -342,10 +342,10 @@ module _ (r₀ : CodeReceived) (xs₀ hs : List (List ℕ)) (e₀ s₀ d₀ text
           let part = take (length out - r .written) (drop (r .written) out) in
           let u = takenText client now (lent b e s d) awaited (drop at text) in
           let v = leb-true (length (take (r .written) out ++ u .written)) (length out₀)
-              (and-true (leb (length (take (r .written) out ++ u .written)) (length out₀)) (leb (length (u .intake .kept)) 8192) (held-on b) .0) in
+          (and-true (leb (length (take (r .written) out ++ u .written)) (length out₀)) (leb (length (u .intake .kept)) 8192) (held-on b) .0) in
           let t = declined-is now (lent b e s d) rest l m k part (reads-two (r .session .phase) turn) first
-              (stepSaid y xs′ hs e′ s′ d′ o′) q (take k rest) (drop k rest) (numberOf n) z
-              (omega (arith, v, length-append (take (r .written) out) (takenText client now (lent b e s d) awaited (drop at text) .written), length-take-le (r .written) out (g .room), ap length (part-rest (r .written) out), length-drop (r .written) out, ap (λ u. length (u .written)) (ahead-is b), g .size)) in
+          (stepSaid y xs′ hs e′ s′ d′ o′) q (take k rest) (drop k rest) (numberOf n) z
+          (omega (arith, v, length-append (take (r .written) out) (takenText client now (lent b e s d) awaited (drop at text) .written), length-take-le (r .written) out (g .room), ap length (part-rest (r .written) out), length-drop (r .written) out, ap (λ u. length (u .written)) (ahead-is b), g .size)) in
           let p : take (r .written) out ++ (o′ ++ drop (length out - r .written) (drop (r .written) out)) ≡ out = put-same (r .count) (lastSaid (r .last)) (r .written) out (g .room) o′ (t .output) in
           subst (λ o. Answers x xs′ hs input input (lent b e′ s′ d′) out₀ o (behindAnswer r₀ xs₀ hs (lent b e₀ s₀ d₀) [] text out₀)) (sym p)
           (subst (λ x. Answers x xs′ hs input input (lent b e′ s′ d′) out₀ out (behindAnswer r₀ xs₀ hs (lent b e₀ s₀ d₀) [] text out₀)) (sym xz)

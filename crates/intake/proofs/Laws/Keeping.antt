@@ -1,18 +1,17 @@
 -- What is kept in the lent input, and read back from it.
 use Prim.Native.Nat.{ℕ, _+_, _≤_, _<_, min}
-use mathlib.Core.Path.{_≡_, refl, sym, ap, _∙_}
+use mathlib.Core.Path.{_≡_, refl, sym, ap, _∙_, subst}
 use mathlib.Core.Bool.{false}
 use mathlib.Core.List.{List, [], _∷_, _++_, append-assoc, append-nil}
-use lib.ListN.{length, take, drop, take-append-drop, length-append, length-take, length-drop, drop-of-length-le}
-use lib.Seq.{take-at, drop-at, take-all, take-add, drop-length, drop-drop, take-append-seam, drop-append-seam, length-take-le}
-use native.Mathlib.Decide.{decLe}
+use lib.ListN.{length, take, drop, length-append, length-drop, drop-of-length-le, take-append-drop}
+use lib.Seq.{take-at, drop-at, take-all, take-add, drop-drop, take-append-seam, drop-append-seam, length-take-le}
 use native.Mathlib.Omega.{arith}
 use borrow.Author.Tests.{lt-ltb, le-ltb}
 use Rattle.refusal.specs.Output.{filled}
 use Rattle.session.specs.declared.phases.Phase.the-variants.{Closed}
+use Rattle.session.specs.declared.sessions.Session.{Session as CodeSession}
 use Rattle.chunks.specs.Taking.{End, client, plugin}
 use Rattle.chunks.specs.Uncut.{isWaiting}
-use Rattle.session.specs.declared.sessions.Session.{Session as CodeSession}
 use Rattle.intake.specs.Intake.{awaitedSize, keptSize, intakeOf, storedIn}
 
 -- no command waits in a closed session
@@ -72,21 +71,16 @@ kept-back a k o h j m =
     rw (filled-whole (a ++ k) o (rw (length-append a k) (omega arith)), append-assoc a k (drop (length (a ++ k)) o), drop-at a (k ++ drop (length (a ++ k)) o) (min (length a) 8192) (omega arith))
     (take-at k (drop (length (a ++ k)) o) (min (length k) 8192) (omega arith))
 
--- ---- what is kept already
+-- ---- stored where it lies
 
--- a front of some bytes, written over them
-filled-own : (m : ℕ) (o : List ℕ) → filled (take m o) o ≡ o
-filled-own m o =
-    let n : length (take m o) ≡ min m (length o) = length-take m o in
-    filled-whole (take m o) o (omega (arith, n))
-    ∙ elim (decLe m (length o)) [
-      | yes h ↦ (let k : length (take m o) ≡ m = omega (arith, n) in rw k (take-append-drop m o))
-      | no h ↦ (let k : length (take m o) ≡ length o = omega (arith, n) in rw (k, take-all m o (omega arith), drop-length o, append-nil))
-    ]
+-- a text's own first bytes, in two parts
+own-parts : (a k : ℕ) (x : List ℕ) → filled (take a x ++ take k (drop a x)) x ≡ x
+own-parts a k x =
+    let t = take (a + k) x in
+    let r = drop (a + k) x in
+    ap (λ t. filled t x) (sym (take-add a k x))
+    ∙ subst (λ y. filled t y ≡ y) (take-append-drop (a + k) x) (filled-whole t (t ++ r) (simp length-append (omega arith)) ∙ ap (λ y. t ++ y) (drop-append-seam t r))
 
--- the input has what its session keeps
-pub stored-own : (e : End) (s : CodeSession) (xs hs : List (List ℕ)) (input : List ℕ) → input ≡ storedIn (intakeOf e s xs hs input) input
-stored-own e s xs hs input =
-    let a = awaitedSize e s in
-    let k = keptSize e s in
-    sym (ap (λ x. filled x input) (sym (take-add a k input)) ∙ filled-own (a + k) input)
+-- what an end keeps, by its own input
+pub stored-own : (e : End) (s : CodeSession) (xs hs : List (List ℕ)) (x : List ℕ) → storedIn (intakeOf e s xs hs x) x ≡ x
+stored-own e s xs hs x = own-parts (awaitedSize e s) (keptSize e s) x

@@ -132,7 +132,7 @@ returns c =
       (λ b.
           let may = going-settles (a .so-far) (now (a .slots)) (now (a .header-slots)) (now (a .errors)) (now (a .stanzas)) (now (a .returned)) (now (a .text)) (now (a .out)) (q .done) (q .slots) (q .errors) (q .stanzas) (q .returned) (q .out) (q .begun) (q .at) (q .inv .1) held b (turnSaid (c .before .before .before .before .before .before .before .turn-client .result)) (q .input) (numberOf (c .before .before .before .before .before .before .before .before .enum-told .given .0 .0)) (c .before .before .before .before .before .before .before .turn-client .ensures) h (omega (arith, c .before .before .before .before .before .before .before .before .before .before .before .before .before .before .before .before .before .before .before .before .pre .long, ap length (q .inv .0))) in
           let says = y .ensures .0 client (q .slots) (now (a .header-slots)) (take (q .done .written) (q .out)) (lent b (q .errors) (q .stanzas) (q .returned))
-              (subst (λ v. MaySettle client (q .done .session .phase) (turnSaid (c .before .before .before .before .before .before .before .turn-client .result)) v (take (length (now (a .text)) - q .at) (drop (q .at) (now (a .text)))) (q .input)) (sym aw) may) in
+          (subst (λ v. MaySettle client (q .done .session .phase) (turnSaid (c .before .before .before .before .before .before .before .turn-client .result)) v (take (length (now (a .text)) - q .at) (drop (q .at) (now (a .text)))) (q .input)) (sym aw) may) in
           subst (λ i. Answers (y .result) (q .slots) (now (a .header-slots)) i (y .last .1 .1 .1 .1 .0) (lent b (q .errors) (q .stanzas) (q .returned)) (now (a .out)) (q .out)
           (behindAnswer (a .so-far) (now (a .slots)) (now (a .header-slots)) (lent b (now (a .errors)) (now (a .stanzas)) (now (a .returned))) [] (now (a .text)) (now (a .out)))) (q .inv .0)
           (going-settled (a .so-far) (now (a .slots)) (now (a .header-slots)) (now (a .errors)) (now (a .stanzas)) (now (a .returned)) (now (a .text)) (now (a .out)) (q .done) (q .slots) (q .errors) (q .stanzas) (q .returned) (q .out) (q .begun) (q .at) (q .inv .1) held b (y .result) (q .input) (y .last .1 .1 .1 .1 .0)

@@ -96,7 +96,7 @@ returns-4 c =
       (λ d. let b = buffersOf (one.buffersOf (now (a .recipients)) (now (a .identities)) (now (a .keys)) (now (a .headers))) d in
           c .leave .ensures .0 plugin (now (a .slots)) (now (a .header-slots)) (now (a .input)) b (now (a .out)) ∙ sym (chunk-refused plugin i b 13 (now (a .chunk)) (now (a .out)) (ap (turnOf plugin) (c .before .enum-told3 .given .1)) refl)),
       (
-        stored-own plugin (a .session) (now (a .slots)) (now (a .header-slots)) (now (a .input)) ∙ sym (ap (λ (o : Outcome). storedIn (o .intake) (now (a .input))) (c .leave .ensures .0 plugin (now (a .slots)) (now (a .header-slots)) (now (a .input)) (buffersOf (one.buffersOf [] [] [] []) none) (now (a .out)))),
+        sym (stored-own plugin (a .session) (now (a .slots)) (now (a .header-slots)) (now (a .input))) ∙ sym (ap (λ (o : Outcome). storedIn (o .intake) (now (a .input))) (c .leave .ensures .0 plugin (now (a .slots)) (now (a .header-slots)) (now (a .input)) (buffersOf (one.buffersOf [] [] [] []) none) (now (a .out)))),
         c .leave .ensures .1,
       ),
     )
@@ -108,7 +108,7 @@ returns-5 c =
       (λ d. let b = buffersOf (one.buffersOf (now (a .recipients)) (now (a .identities)) (now (a .keys)) (now (a .headers))) d in
           c .leave2 .ensures .0 plugin (now (a .slots)) (now (a .header-slots)) (now (a .input)) b (now (a .out)) ∙ sym (chunk-refused plugin i b 13 (now (a .chunk)) (now (a .out)) (ap (turnOf plugin) (c .before .enum-told4 .given .1)) refl)),
       (
-        stored-own plugin (a .session) (now (a .slots)) (now (a .header-slots)) (now (a .input)) ∙ sym (ap (λ (o : Outcome). storedIn (o .intake) (now (a .input))) (c .leave2 .ensures .0 plugin (now (a .slots)) (now (a .header-slots)) (now (a .input)) (buffersOf (one.buffersOf [] [] [] []) none) (now (a .out)))),
+        sym (stored-own plugin (a .session) (now (a .slots)) (now (a .header-slots)) (now (a .input))) ∙ sym (ap (λ (o : Outcome). storedIn (o .intake) (now (a .input))) (c .leave2 .ensures .0 plugin (now (a .slots)) (now (a .header-slots)) (now (a .input)) (buffersOf (one.buffersOf [] [] [] []) none) (now (a .out)))),
         c .leave2 .ensures .1,
       ),
     )
