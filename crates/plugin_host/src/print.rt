@@ -15,11 +15,11 @@ pub fn print_number(label: &[u8], n: usize) {
     io::write_all(STDOUT_FILENO, b"\n");
 }
 
-// The first bytes, as many as were written.
+// As many of the first bytes as were written, or the refusal.
 pub fn print_written(label: &[u8], written: Written, bytes: &[u8]) {
     match written {
         Written::Bytes(n) => print(label, plugin::front(bytes, n)),
-        Written::Refused(r) => print_number(label, plugin::number(r) as usize),
+        Written::Refused(r) => print_number(b"refused: ", plugin::number(r) as usize),
     }
 }
 
