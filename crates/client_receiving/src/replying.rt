@@ -192,9 +192,9 @@ fn reply_back(
     )
 }
 
-// The host's reply to the command that awaits it, with a body where the response has one. The response is written to the front of `out`, and what was kept back is
-// received behind it: how many of its commands were taken and which was the last, how many bytes were written in all, and the session. 13, 14, 12, 17 or 15 where
-// the reply is refused: then nothing changes. Else a number is that of what was kept back, and the reply stands.
+// The host's reply to the command that awaits it, with a body where the response has one. The response is written to the front of `out`, and what was kept
+// back is received behind it: how many of its commands were taken and which was the last, how many bytes were written in all, and the session. 13, 14, 12, 17
+// or 15 where the reply is refused: then nothing changes. Else a number is that of what was kept back, and the reply stands.
 pub fn reply(
     session: Session,
     response: Response,
