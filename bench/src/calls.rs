@@ -23,8 +23,8 @@ pub enum Call {
     },
     /// All arguments, the command first, and the body.
     Send(String, Vec<u8>),
-    Receive(Vec<u8>),
-    Response(Vec<u8>),
+    /// A piece of the end's input.
+    Chunk(Vec<u8>),
     Reply(Response),
 }
 
@@ -42,8 +42,7 @@ impl Call {
                 let (command, rest) = arguments.split_once(' ').unwrap_or((arguments, ""));
                 format!("send {command} {} {} {LIMIT}\n", word(rest.as_bytes()), word(body))
             }
-            Call::Receive(text) => format!("receive {} {LIMIT}\n", word(text)),
-            Call::Response(text) => format!("response {} {LIMIT}\n", word(text)),
+            Call::Chunk(bytes) => format!("chunk {} {LIMIT}\n", word(bytes)),
             Call::Reply(response) => {
                 format!("reply {} \\e {LIMIT}\n", format!("{response:?}").to_lowercase())
             }
@@ -68,7 +67,8 @@ fn word(bytes: &[u8]) -> String {
     String::from_utf8(word).expect("escapes are ASCII")
 }
 
-/// A program that makes the calls in this process. Each call gives how many bytes it took or wrote, and none may be refused.
+/// A program that makes the calls in this process. Each call gives how many bytes it took or wrote, and none may be refused. Plain C takes one
+/// whole stanza a chunk.
 #[derive(Clone, Copy, Debug, PartialEq, Eq)]
 pub enum Within {
     Second,
@@ -112,16 +112,15 @@ fn second(opened: &mut Option<Opened>, call: &Call, buffers: &mut Buffers, out: 
         (Call::Send(arguments, body), Some(Opened::Plugin(plugin))) => {
             plugin.send(arguments.as_bytes(), body, buffers, out)
         }
-        (Call::Receive(text), Some(Opened::Client(client))) => {
-            client.receive(text, buffers, out).map(|heard| heard.taken)
+        (Call::Chunk(bytes), Some(Opened::Client(client))) => {
+            client.chunk(bytes, buffers, out).accepted().map(|_| bytes.len())
         }
-        (Call::Receive(text), Some(Opened::Plugin(plugin))) => {
-            plugin.receive(text, buffers).map(|received| received.taken)
+        (Call::Chunk(bytes), Some(Opened::Plugin(plugin))) => {
+            plugin.chunk(bytes, buffers, out).accepted().map(|_| bytes.len())
         }
-        (Call::Response(text), Some(Opened::Plugin(plugin))) => {
-            plugin.response(text, out).map(|responded| responded.taken)
+        (Call::Reply(response), Some(Opened::Client(client))) => {
+            client.reply(*response, b"", buffers, out).accepted().map(|replied| replied.written)
         }
-        (Call::Reply(response), Some(Opened::Client(client))) => client.reply(*response, b"", out),
         _ => panic!("a call that this end does not have"),
     };
     done.expect("the second program accepts the call")
@@ -152,8 +151,8 @@ fn plain(call: &Call, out: &mut [u8]) -> usize {
             Call::Send(line, body) => {
                 plain_send(line.as_ptr(), line.len(), body.as_ptr(), body.len(), out.as_mut_ptr(), out.len())
             }
-            Call::Receive(text) => plain_receive(text.as_ptr(), text.len(), out.as_mut_ptr(), out.len()),
-            Call::Response(text) => plain_response(text.as_ptr(), text.len()),
+            Call::Chunk(text) if text.starts_with(b"-> ok") => plain_response(text.as_ptr(), text.len()),
+            Call::Chunk(text) => plain_receive(text.as_ptr(), text.len(), out.as_mut_ptr(), out.len()),
             Call::Reply(_) => panic!("plain C has no replies"),
         }
     };

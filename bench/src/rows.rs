@@ -21,6 +21,8 @@ pub enum Aim {
     AtMost(f64),
     /// Fewer than the second program's.
     BelowSecond,
+    /// At most so many times the library's own figure of the row before.
+    TimesBefore(f64),
 }
 
 /// A row of the report.
@@ -113,9 +115,10 @@ fn plugin_rows() -> Vec<Row> {
     let two = [&one[..], &many(&recipient), &many(&identity), &[key.clone(), done.clone()]].concat();
     let two_identity = [&one_identity[..], &[header.clone(), done.clone()]].concat();
     let whole = [many(&recipient), many(&key), vec![done.clone()]].concat();
+    let long = long_recipients();
     let [msg, confirm] = asking().map(|(arguments, body)| Call::Send(arguments, body));
     let send = |arguments: &str, body: &[u8]| [Call::Send(arguments.to_owned(), body.to_vec())];
-    let response = Call::Response(text("ok", b""));
+    let response = received("ok", b"");
     let msg_awaits = [&two[..], from_ref(&msg)].concat();
     let pairs = vec![[msg.clone(), response.clone()]; TIMES].concat();
     let mut rows = vec![
@@ -139,6 +142,12 @@ fn plugin_rows() -> Vec<Row> {
             times: 1,
             aim: Some(Aim::BelowSecond),
             ..Row::new("receive 64 recipients, 64 file keys and done", &one, &whole).beside_plain_c()
+        },
+        Row { times: 1, ..Row::new("receive 64,000 bytes of long recipients in one chunk", &one, &[long.clone()]) },
+        Row {
+            times: 1,
+            aim: Some(Aim::TimesBefore(10.0)),
+            ..Row::new("receive the same in single bytes", &one, &in_single_bytes(&long))
         },
         Row::new("send msg", &two, &[msg]).beside_plain_c(),
         Row::new("send confirm", &two, &[confirm]),
@@ -187,7 +196,23 @@ fn stanza_of(file: usize) -> String {
 }
 
 fn received(arguments: &str, body: &[u8]) -> Call {
-    Call::Receive(text(arguments, body))
+    Call::Chunk(text(arguments, body))
+}
+
+/// 62 recipients of 1,010 characters, one behind the other.
+fn long_recipients() -> Call {
+    let recipient = written(|out| bech32::write(Kind::Recipient, NAME.as_bytes(), &bytes(620), out).ok());
+    let recipient = String::from_utf8(recipient).expect("Bech32 is ASCII");
+    assert_eq!(recipient.len(), 1_010);
+    Call::Chunk(text(&format!("add-recipient {recipient}"), b"").repeat(62))
+}
+
+/// A chunk for each byte of a chunk.
+fn in_single_bytes(call: &Call) -> Vec<Call> {
+    match call {
+        Call::Chunk(bytes) => bytes.iter().map(|byte| Call::Chunk(vec![*byte])).collect(),
+        _ => panic!("a chunk"),
+    }
 }
 
 /// A stanza.

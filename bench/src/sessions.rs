@@ -36,6 +36,7 @@ pub fn report() {
         "{:<58} {:>5} {:>8} {:>8} {:>6} {:>8} {:>6}",
         "call", "times", "library", "second", "ratio", "plain C", "ratio"
     );
+    let mut row_before = 0.0;
     for (number, row) in rows().iter().enumerate() {
         let library = library(row);
         let second = within(Within::Second, number, row);
@@ -51,8 +52,13 @@ pub fn report() {
         match row.aim {
             Some(Aim::AtMost(most)) => println!("  aim: at most {most}, {}", said(library <= most)),
             Some(Aim::BelowSecond) => println!("  aim: ratio below 1, {}", said(library < second)),
+            Some(Aim::TimesBefore(most)) => {
+                let times = library / row_before;
+                println!("  {times:.1} times the row before, aim: at most {most}, {}", said(times <= most));
+            }
             None => println!(),
         }
+        row_before = library;
     }
 }
 

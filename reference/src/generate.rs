@@ -3,6 +3,7 @@
 //! The same script comes out every time: the seed is fixed and nothing else decides.
 
 mod bech32;
+mod chunks;
 mod class;
 mod commands;
 mod judge;
@@ -34,6 +35,7 @@ pub fn script() -> Vec<u8> {
     session::sections(&mut script);
     lines::sections(&mut script);
     phase_two::sections(&mut script);
+    chunks::sections(&mut script);
     class::sections(&mut script);
     script.heading("The last line lacks its LF");
     script.index(b"7");
@@ -132,10 +134,10 @@ mod tests {
     fn the_script_is_always_the_same_and_not_too_long() {
         let first = script();
         assert_eq!(first, script());
-        assert!(first.len() < 5_500_000);
+        assert!(first.len() < 7_000_000);
         assert_ne!(first.last(), Some(&b'\n'));
         let answers: usize = answered(&first).iter().map(|(_, answer)| answer.len() + 1).sum();
-        assert!(answers < 3_500_000);
+        assert!(answers < 5_000_000);
     }
 
     fn first_word(text: &str) -> &str {
@@ -168,6 +170,10 @@ mod tests {
             ("open", "bad, ok, refused 17, refused 18"),
             ("buffers", "bad, none, ok"),
             ("entry", "bad, none, ok"),
+            ("awaited", "bad, none, ok"),
+            ("finish", "bad, none, ok, refused 13, refused 2"),
+            ("receive", "bad"),
+            ("response", "bad"),
             ("show", "bad, none, phase closed, phase ended, phase one, phase two"),
         ];
         let answered = answered(&script());
@@ -176,7 +182,7 @@ mod tests {
             let found: BTreeSet<String> = of_call.map(|(_, answer)| sort(call, answer)).collect();
             assert_eq!(found.into_iter().collect::<Vec<_>>().join(", "), sorts, "{call}");
         }
-        for call in ["send", "receive", "response", "reply"] {
+        for call in ["send", "chunk", "reply"] {
             for sort in ["bad", "none", "ok"] {
                 let occurs = |(line, answer): &(String, String)| {
                     first_word(line) == call && first_word(answer) == sort
@@ -188,23 +194,52 @@ mod tests {
 
     /// The number of an answer that refuses.
     fn number(answer: &str) -> Option<u8> {
-        answer.strip_prefix("refused ")?.parse().ok()
+        answer.strip_prefix("refused ")?.split(' ').next()?.parse().ok()
     }
 
-    /// How often each number is given, by the end whose session is open and the call.
-    fn refusals(answered: &[(String, String)]) -> BTreeMap<String, BTreeMap<u8, usize>> {
-        let mut refusals = BTreeMap::<String, BTreeMap<u8, usize>>::new();
-        let mut end = "no";
-        for (line, answer) in answered {
-            match line.split(' ').nth(1) {
-                Some("client") if answer == "ok" => end = "client",
-                Some("plugin") if answer == "ok" => end = "plugin",
+    /// How many commands or responses a refused call has taken; a line without a count has none to take.
+    fn count(answer: &str) -> usize {
+        answer.split(' ').nth(2).and_then(|count| count.parse().ok()).unwrap_or(0)
+    }
+
+    /// A line's call, and the end whose session is open; at the plugin end a chunk is a response where one is
+    /// due.
+    #[derive(Default)]
+    struct Caller {
+        end: &'static str,
+        is_due: bool,
+    }
+
+    impl Caller {
+        fn name(&self, line: &str) -> String {
+            match (self.end, first_word(line), self.is_due) {
+                ("plugin", "chunk", true) => "plugin response".to_string(),
+                (end, call, _) => format!("{end} {call}"),
+            }
+        }
+
+        fn note(&mut self, line: &str, answer: &str) {
+            let accepted = answer.starts_with("ok");
+            match (first_word(line), line.split(' ').nth(1)) {
+                ("open", Some("client")) if accepted => *self = Caller { end: "client", is_due: false },
+                ("open", Some("plugin")) if accepted => *self = Caller { end: "plugin", is_due: false },
+                ("send", word) if accepted => self.is_due = word != Some("done"),
+                ("chunk", _) => self.is_due &= answer.starts_with("ok 0 ") || number(answer) == Some(15),
                 _ => {}
             }
+        }
+    }
+
+    /// How often each number is given by each call, to one that has taken something or nothing.
+    fn refusals(answered: &[(String, String)]) -> BTreeMap<(String, bool), BTreeMap<u8, usize>> {
+        let mut refusals = BTreeMap::<(String, bool), BTreeMap<u8, usize>>::new();
+        let mut caller = Caller::default();
+        for (line, answer) in answered {
             if let Some(number) = number(answer) {
-                let call = format!("{end} {}", first_word(line));
+                let call = (caller.name(line), count(answer) > 0);
                 *refusals.entry(call).or_default().entry(number).or_default() += 1;
             }
+            caller.note(line, answer);
         }
         refusals
     }
@@ -212,26 +247,52 @@ mod tests {
     /// Each call of a session gives exactly the numbers that the papers list for it, each of them often.
     #[test]
     fn every_refusal_of_every_call_occurs() {
-        let expected: [(&str, &[u8]); 6] = [
+        let expected: [(&str, &[u8]); 8] = [
             ("client send", &[4, 5, 7, 8, 13, 14, 15, 17]),
-            ("client receive", &[1, 2, 3, 4, 5, 6, 8, 9, 10, 11, 13, 14, 15]),
-            ("client reply", &[12, 13, 14, 15, 17]),
-            ("plugin receive", &[1, 2, 3, 4, 5, 7, 8, 13, 14]),
+            ("client chunk", &[1, 3, 4, 5, 6, 8, 9, 10, 11, 13, 14, 15]),
+            ("client reply", &[1, 3, 4, 5, 6, 8, 9, 10, 11, 12, 13, 14, 15, 17]),
+            ("client finish", &[2, 13]),
+            ("plugin chunk", &[1, 3, 4, 5, 7, 8, 13, 14]),
             ("plugin send", &[4, 5, 6, 8, 9, 10, 11, 13, 14, 15, 17, 19]),
-            ("plugin response", &[1, 2, 3, 12, 13, 14, 15]),
+            ("plugin response", &[1, 3, 12, 15]),
+            ("plugin finish", &[2, 13]),
         ];
         let refusals = refusals(&answered(&script()));
         for (call, numbers) in expected {
-            let counts = &refusals[call];
+            let counts = &refusals[&(call.to_string(), false)];
             assert_eq!(counts.keys().copied().collect::<Vec<_>>(), numbers, "{call}");
             for (number, &count) in counts {
-                // Stanzas of more than 8,192 bytes take much of the script.
-                let least = if matches!(number, 3 | 17) { 2 } else { 15 };
+                let least = match (call, number) {
+                    // Stanzas of more than 8,192 bytes take much of the script.
+                    (_, 3 | 17) => 2,
+                    // Most often something stands before the fault.
+                    ("client reply", 1..=11) => 2,
+                    _ => 15,
+                };
                 assert!(count >= least, "{call} refused {number}: {count}");
             }
         }
         let all: BTreeSet<u8> = refusals.values().flat_map(|counts| counts.keys().copied()).collect();
         assert_eq!(all.into_iter().collect::<Vec<_>>(), (1..=19).collect::<Vec<_>>());
+    }
+
+    /// So it is with calls that have taken something before the fault: all numbers but those that are for the
+    /// call, and 15, which undoes it.
+    #[test]
+    fn every_refusal_in_mid_chunk_occurs() {
+        let expected: [(&str, &[u8]); 4] = [
+            ("client chunk", &[1, 3, 4, 5, 6, 8, 9, 10, 11, 13]),
+            // What is kept back is at most 8,192 bytes, so 3 comes for its first stanza only.
+            ("client reply", &[1, 4, 5, 6, 8, 9, 10, 11, 13]),
+            ("plugin chunk", &[1, 3, 4, 5, 7, 8, 14]),
+            ("plugin response", &[14]),
+        ];
+        let refusals = refusals(&answered(&script()));
+        for (call, numbers) in expected {
+            let counts = &refusals[&(call.to_string(), true)];
+            assert_eq!(counts.keys().copied().collect::<Vec<_>>(), numbers, "{call}");
+            assert!(counts.values().all(|&count| count >= 2), "{call} {counts:?}");
+        }
     }
 
     fn session_answers() -> Vec<(String, String)> {

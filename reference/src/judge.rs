@@ -1,7 +1,8 @@
-//! The judging program (document 01): a recorded phase one of recipient-v1, received command by command.
+//! The judging program (document 01): a recorded phase one of recipient-v1, received in chunks.
 
-use crate::session::phase_one::Command;
-use crate::session::{Buffers, Kind, Plugin, KINDS};
+use std::io::{self, ErrorKind, Read};
+
+use crate::session::{Buffers, Kind, Phase, Plugin, KINDS};
 
 /// The machine whose recordings are judged.
 const MACHINE: &[u8] = b"recipient-v1";
@@ -12,6 +13,9 @@ const PLUGIN: &[u8] = b"judge";
 /// The lengths of the buffers for recipients, identities and file keys; header stanzas, and all that
 /// belongs to phase two, have none.
 const LENGTHS: [usize; KINDS] = [16_384, 16_384, 1_024, 0, 0, 0, 0];
+
+/// How much of the input is read at once. It can't show: however it is cut, the verdict is the same.
+const CHUNK: usize = 4_096;
 
 /// How many entries of each kind were kept, and the number of the refusal that ended it, or 0.
 #[derive(Clone, Copy, Debug, PartialEq, Eq)]
@@ -34,29 +38,64 @@ impl Verdict {
     }
 }
 
-/// Receives the text up to done or the first refusal; what is behind that is not looked at.
+/// Judges a text.
 #[must_use]
 pub fn judge(text: &[u8]) -> Verdict {
-    let mut plugin = Plugin::open(MACHINE, PLUGIN).expect("a machine's name and a plugin's");
-    let mut buffers = Buffers::zeros(LENGTHS);
-    let answer = receive_all(&mut plugin, text, &mut buffers);
-    let count = |kind| plugin.session().tables().of(kind).len();
-    Verdict {
-        recipients: count(Kind::Recipient),
-        identities: count(Kind::Identity),
-        file_keys: count(Kind::FileKey),
-        header_stanzas: count(Kind::Header),
-        answer,
+    let mut judge = Judge::new();
+    let decided = judge.chunk(text);
+    judge.verdict(decided)
+}
+
+/// Judges what the input has, up to done or the first refusal.
+pub fn judge_input(mut input: impl Read) -> io::Result<Verdict> {
+    let mut judge = Judge::new();
+    let mut chunk = [0; CHUNK];
+    loop {
+        let len = match input.read(&mut chunk) {
+            Ok(len) => len,
+            Err(error) if error.kind() == ErrorKind::Interrupted => continue,
+            Err(error) => return Err(error),
+        };
+        let decided = judge.chunk(&chunk[..len]);
+        if len == 0 || decided.is_some() {
+            return Ok(judge.verdict(decided));
+        }
     }
 }
 
-/// The number of the first refusal, or 0 if done comes first.
-fn receive_all(plugin: &mut Plugin, mut text: &[u8], buffers: &mut Buffers) -> u8 {
-    loop {
-        match plugin.receive(text, buffers) {
-            Ok(received) if received.command == Command::Done => return 0,
-            Ok(received) => text = &text[received.taken..],
-            Err(refusal) => return refusal.number(),
+/// A session that receives a recording.
+struct Judge {
+    plugin: Plugin,
+    buffers: Buffers,
+}
+
+impl Judge {
+    fn new() -> Self {
+        let plugin = Plugin::open(MACHINE, PLUGIN).expect("a machine's name and a plugin's");
+        Judge { plugin, buffers: Buffers::zeros(LENGTHS) }
+    }
+
+    /// The answer, if this chunk decides it: 0 once done was taken, whatever follows it (the session says 14
+    /// to that), else the number of the refusal.
+    fn chunk(&mut self, chunk: &[u8]) -> Option<u8> {
+        let received = self.plugin.chunk(chunk, &mut self.buffers, &mut []);
+        match self.plugin.session().phase() {
+            Phase::Two => Some(0),
+            _ => received.refusal.map(|refusal| refusal.number()),
+        }
+    }
+
+    /// What was kept, and the answer; input that ends before anything is decided has not ended (2).
+    fn verdict(&self, decided: Option<u8>) -> Verdict {
+        let session = self.plugin.session();
+        let at_the_end = || session.finish().map_or_else(|refusal| refusal.number(), |()| 0);
+        let count = |kind| session.tables().of(kind).len();
+        Verdict {
+            recipients: count(Kind::Recipient),
+            identities: count(Kind::Identity),
+            file_keys: count(Kind::FileKey),
+            header_stanzas: count(Kind::Header),
+            answer: decided.unwrap_or_else(at_the_end),
         }
     }
 }
@@ -95,6 +134,20 @@ mod tests {
             numbers(&EXAMPLE.replace("-> add-recipient baz", "-> add-recipient baz ")),
             [1, 1, 1, 0, 1]
         );
+    }
+
+    /// Whole, in single bytes, and with bytes behind done in a chunk of their own or in done's.
+    #[test]
+    fn however_the_input_comes() {
+        let good = format!("{EXAMPLE}\rrest");
+        let bad = EXAMPLE.replace("add-identity bar", "add-identity bar baz");
+        for text in [&good, &bad, &EXAMPLE[..90], "", &"-> grease\n\n".repeat(2_000)] {
+            let verdict = judge(text.as_bytes());
+            assert_eq!(judge_input(text.as_bytes()).unwrap(), verdict);
+            let mut bytes = Judge::new();
+            let decided = text.bytes().find_map(|byte| bytes.chunk(&[byte]));
+            assert_eq!(bytes.verdict(decided), verdict);
+        }
     }
 
     #[test]

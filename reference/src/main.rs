@@ -1,7 +1,7 @@
 //! `reference replay` answers the script on standard input; `reference generate` prints the test script;
 //! `reference judge` judges a recorded phase one on standard input.
 
-use std::io::{self, BufWriter, Read, Write};
+use std::io::{self, BufWriter, Write};
 use std::process::ExitCode;
 
 use reference::{generate, judge, replay};
@@ -36,7 +36,6 @@ fn print_answers() -> io::Result<()> {
 }
 
 fn print_verdict() -> io::Result<()> {
-    let mut text = Vec::new();
-    io::stdin().lock().read_to_end(&mut text)?;
-    io::stdout().lock().write_all(judge::judge(&text).report().as_bytes())
+    let verdict = judge::judge_input(io::stdin().lock())?;
+    io::stdout().lock().write_all(verdict.report().as_bytes())
 }

@@ -6,7 +6,7 @@
 pub enum Refusal {
     /// Not a stanza.
     NotAStanza = 1,
-    /// Stanza not ended.
+    /// Stanza not ended; of a session: the input was declared ended before the conversation has.
     NotEnded = 2,
     /// More than 8,192 bytes.
     TooLong = 3,
@@ -32,7 +32,7 @@ pub enum Refusal {
     SessionOver = 13,
     /// A command while an answer is due, an answer while none is, or a call of the other phase.
     OutOfTurn = 14,
-    /// Output longer than the lent buffer.
+    /// Output longer than the lent buffer, or more than 8,192 bytes to be kept back.
     OutputTooShort = 15,
     /// Text isn't a recipient (or identity).
     NotAnEntry = 16,

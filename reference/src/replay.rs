@@ -47,7 +47,7 @@ impl Replay {
         }
         let answer = match self.call(line) {
             None => Answer::words("bad line").number(self.lines),
-            Some(Err(refusal)) => Answer::words("refused").number(refusal.number().into()),
+            Some(Err(refusal)) => Answer::refused(refusal),
             Some(Ok(answer)) => answer,
         };
         Some(answer.ended())
@@ -174,6 +174,11 @@ impl Answer {
     /// Begins a line with plain words.
     fn words(words: &str) -> Self {
         Answer(words.as_bytes().to_vec())
+    }
+
+    /// Begins the line of a refused call.
+    fn refused(refusal: Refusal) -> Self {
+        Answer::words("refused").number(refusal.number().into())
     }
 
     /// Goes on with another line, which begins with plain words.

@@ -1,6 +1,7 @@
 //! Both ends of a conversation: opening, whose turn it is, look-ups (document 01, "Phase one", "Phase two" and
-//! "Numbers given back"). `client` and `plugin` have the calls of each end.
+//! "Numbers given back"). `client` and `plugin` have the calls of each end, `chunk` what both have in receiving.
 
+mod chunk;
 mod client;
 pub mod phase_one;
 pub mod phase_two;
@@ -8,9 +9,11 @@ mod plugin;
 mod response;
 mod tables;
 
-pub use client::{Client, Heard};
-pub use plugin::{Plugin, Received, Responded};
+pub use chunk::{Received, KEPT_BACK_LIMIT};
+pub use client::Client;
+pub use plugin::{Plugin, What};
 pub use response::Response;
+use tables::Payload;
 pub use tables::{Buffers, Cause, Detail, Entry, Kind, Tables, KINDS};
 
 use crate::bech32;
@@ -62,6 +65,9 @@ pub struct Session {
     /// client's. None in every other phase.
     awaits: Option<phase_two::Command>,
     tables: Tables,
+    /// What is kept of the input from call to call: while a host's reply is due, what was kept back behind its
+    /// command; else the front of a stanza that has not ended.
+    kept: Vec<u8>,
 }
 
 impl Session {
@@ -71,8 +77,8 @@ impl Session {
         if !bech32::is_name(plugin) {
             return Err(Refusal::Unwritable);
         }
-        let (phase, awaits, tables) = (Phase::One, None, Tables::default());
-        Ok(Session { machine, plugin: plugin.to_vec(), phase, awaits, tables })
+        let (phase, awaits, tables, kept) = (Phase::One, None, Tables::default(), Vec::new());
+        Ok(Session { machine, plugin: plugin.to_vec(), phase, awaits, tables, kept })
     }
 
     #[must_use]
@@ -91,6 +97,16 @@ impl Session {
         &self.tables
     }
 
+    /// Declares the input ended: 13 if the session is closed, 2 if the conversation has not ended. It changes
+    /// nothing and is not remembered.
+    pub fn finish(&self) -> Result<(), Refusal> {
+        match self.phase {
+            Phase::Ended => Ok(()),
+            Phase::Closed => Err(Refusal::SessionOver),
+            Phase::One | Phase::Two => Err(Refusal::NotEnded),
+        }
+    }
+
     /// The text of a recipient or an identity, as a part of its buffer; empty if there is none or the
     /// buffer is too short for it. This works in every state.
     #[must_use]
@@ -98,13 +114,21 @@ impl Session {
         self.tables.payload(kind.into(), number, buffers)
     }
 
-    /// 13 if the session is over, 14 if it is in the other phase.
-    fn in_phase(&self, phase: Phase) -> Result<(), Refusal> {
+    /// 13 if the session is closed or ended.
+    fn not_over(&self) -> Result<(), Refusal> {
         match self.phase {
             Phase::Ended | Phase::Closed => Err(Refusal::SessionOver),
-            now if now == phase => Ok(()),
-            _ => Err(Refusal::OutOfTurn),
+            Phase::One | Phase::Two => Ok(()),
         }
+    }
+
+    /// 13 if the session is over, 14 if it is in the other phase.
+    fn in_phase(&self, phase: Phase) -> Result<(), Refusal> {
+        self.not_over()?;
+        if self.phase != phase {
+            return Err(Refusal::OutOfTurn);
+        }
+        Ok(())
     }
 
     /// Whether a command of phase two may come: 13, then 14 in phase one or while an answer is due.
@@ -117,46 +141,40 @@ impl Session {
     }
 
     /// The command whose answer may come: 13, then 14 in phase one or while none is due.
-    fn awaited(&self) -> Result<phase_two::Command, Refusal> {
+    fn due(&self) -> Result<phase_two::Command, Refusal> {
         self.in_phase(Phase::Two)?;
         self.awaits.ok_or(Refusal::OutOfTurn)
     }
 
-    /// Does what an accepted command of phase one does.
-    fn apply_phase_one(&mut self, step: &phase_one::Step, buffers: &mut Buffers) {
-        if let Some(addition) = &step.addition {
-            self.tables.keep(addition, buffers);
-        }
+    /// Does what an accepted command of phase one does; gives the payload that belongs in a buffer.
+    fn apply_phase_one(&mut self, step: phase_one::Step) -> Option<Payload> {
         if step.command == phase_one::Command::Done {
             self.phase = Phase::Two;
         }
+        step.addition.map(|addition| self.tables.keep(addition))
     }
 
-    /// Does what an accepted command of phase two does; whether it waits is the end's to say.
-    fn apply_phase_two(&mut self, step: &phase_two::Step, buffers: &mut Buffers) {
-        if let Some(addition) = &step.addition {
-            self.tables.keep(addition, buffers);
-        }
+    /// Does what an accepted command of phase two does; gives the payload that belongs in a buffer. Whether it
+    /// waits is the end's to say.
+    fn apply_phase_two(&mut self, step: phase_two::Step) -> Option<Payload> {
         if step.command == phase_two::Command::Done {
             self.phase = Phase::Ended;
         }
+        step.addition.map(|addition| self.tables.keep(addition))
     }
 
-    /// Hands on what a call that receives came to. A refusal of the other end's making closes the session,
-    /// and then nothing is awaited any more.
-    fn received<T>(&mut self, received: Result<T, Refusal>) -> Result<T, Refusal> {
-        if received.as_ref().is_err_and(|&refusal| closes(refusal)) {
-            self.phase = Phase::Closed;
-            self.awaits = None;
-        }
-        received
+    /// The other end has made a fault: nothing is awaited any more, and nothing kept of the input.
+    fn close(&mut self) {
+        self.phase = Phase::Closed;
+        self.awaits = None;
+        self.kept.clear();
     }
 }
 
 /// Whether a refusal in receiving closes the session.
 fn closes(refusal: Refusal) -> bool {
-    use Refusal::{NotEnded, OutOfTurn, OutputTooShort, SessionOver};
-    !matches!(refusal, NotEnded | SessionOver | OutOfTurn | OutputTooShort)
+    use Refusal::{OutOfTurn, OutputTooShort, SessionOver};
+    !matches!(refusal, SessionOver | OutOfTurn | OutputTooShort)
 }
 
 /// The text of a stanza; 17 if there is none.

@@ -39,13 +39,19 @@ impl<'a> Stanza<'a> {
         &self.text[self.argument_range()]
     }
 
+    /// The whole stanza.
+    #[must_use]
+    pub fn text(&self) -> &'a [u8] {
+        self.text
+    }
+
     /// How many bytes the decoded body has.
     #[must_use]
     pub fn body_len(&self) -> usize {
         self.body_len
     }
 
-    /// How many bytes of the text the stanza is; the rest waits for another call.
+    /// How many bytes of the text the stanza is.
     #[must_use]
     pub fn taken(&self) -> usize {
         self.text.len()

@@ -283,7 +283,8 @@ pub(crate) fn alphabet_characters() -> [u8; 64]
     CHARACTERS
 }
 
-pub(crate) fn is_character(b: u8) -> bool
+// Whether a byte is a character of the alphabet.
+pub fn is_character(b: u8) -> bool
     ensures { λ r. ⌜ r ≡ isCharacter b ⌝ }
 {
     ((b'A' <= b) & (b <= b'Z'))

@@ -6,8 +6,12 @@ ghost use mathlib.Core.List.{_++_};
 ghost use Rattle.base64.specs.Alphabet.{valueOf};
 ghost use Rattle.base64.specs.Code.{decoded, measured, sizeSaid};
 ghost use Rattle.base64.specs.Tables.{Values, decodedSize};
+ghost use Rattle.refusal.specs.Output.{said, answered, filled};
 use crate::alphabet::characters;
 use crate::alphabet::ends_well;
+use crate::alphabet::values;
+use refusal::Refusal;
+use refusal::Written;
 
 // How many bytes a text decodes to, if it is base64.
 pub enum Size {
@@ -30,6 +34,20 @@ pub fn measure(text: &[u8]) -> Size
         return Size::Bytes(n / 4 * 3 + n % 4 * 3 / 4);
     }
     Size::NotBase64
+}
+
+// The bytes of a text at the front of `out`: how many, or 15 and nothing written. Of a text that is no base64 it makes what the definition says.
+pub fn decode(text: &[u8], out: &mut [u8]) -> Written
+    ensures answer { λ r. ⌜ said r ≡ answered (decoded (now (text .entry))) (now (out .entry)) ⌝ }
+    ensures buffer { λ r. ⌜ now (out .exit) ≡ filled (decoded (now (text .entry))) (now (out .entry)) ⌝ }
+{
+    let n = text.len() / 4 * 3 + text.len() % 4 * 3 / 4;
+    if out.len() < n {
+        return Written::Refused(Refusal::ShortOutput);
+    }
+    let table = values();
+    decode_into(&table, text, out);
+    Written::Bytes(n)
 }
 
 fn wide(b: u8) -> usize

@@ -8,7 +8,9 @@ mod lines;
 
 pub use alphabet::characters;
 pub use alphabet::ends_well;
+pub use alphabet::is_character;
 pub use decoding::Size;
+pub use decoding::decode;
 pub use decoding::measure;
 pub use lines::LINE_CHARACTERS;
 pub use lines::LINE_LENGTH;

@@ -1,9 +1,9 @@
--- The user's three demands (document 00), stated over the definitions that the public contracts cite. `outcome` is what a call of either end does to a session and
--- its buffers: `client` (send, receive, reply) and `plugin` (receive, send, receive_response) are proved equal to it, for every session value.
+-- The user's three demands (document 00), with input in chunks (document 02, No. 1), stated over the definitions that the public contracts cite. `outcome` is what a
+-- call of one stanza does to a session and its buffers, a sending among them; `chunked`, `replied` and `finished`, what a chunk, a reply and the input's end do.
 use Prim.Native.Nat.{ℕ, _<_, _≤_}
 use mathlib.Core.Path.{_≡_, ap, _∙_}
 use mathlib.Core.Bool.{Bool, true, false}
-use mathlib.Core.Logic.{_↔_}
+use mathlib.Core.Logic.{_⊎_, _↔_}
 use mathlib.Core.List.{List, [], _∷_, _++_, map}
 use lib.Dec.{ltb}
 use lib.ListN.{length, take, drop}
@@ -41,17 +41,17 @@ use Rattle.phase_one.specs.Views.{KindOne}
 use Rattle.phase_one.specs.Turns.{turnOne}
 use Rattle.session.specs.declared.opening.Machine.{Machine}
 use Rattle.session.specs.declared.phases.Phase.{Phase as SessionPhase}
-use Rattle.session.specs.declared.phases.Phase.the-variants.{One, Two, Ended}
+use Rattle.session.specs.declared.phases.Phase.the-variants.{One, Two, Awaiting, Ended, Closed}
 use Rattle.conversation.specs.Agreement.{Alike, Agreed, SameViews}
 use Rattle.conversation.specs.Allowed.{Allowed, AllowedTwo, Exchange, isDoneSent, sendingCalls, AllowedSent, leftOf, capacityOf}
 use Rattle.conversation.specs.Answers.{events, Paired}
-use Rattle.conversation.specs.Calls.{Call, receive, send, receive-two, reply, send-two, isClient, outcome, writtenBy, State, stateOf, after, broughtBy, rowsBrought, acceptedRows, Accepted, Refused}
+use Rattle.conversation.specs.Calls.{Call, receive, send, receive-two, reply, send-two, isClient, outcome, writtenBy, State, stateOf, after, broughtBy, rowsBrought, acceptedRows, AllZero, Accepted, Refused}
 use Rattle.conversation.specs.CommandsTwo.{lineSent, commandTwo, wordTwo, textOfWord}
 use Rattle.conversation.specs.Given.{GivenBack}
 use Rattle.conversation.specs.Kinds.{AnyKind, Buffers, tableOf, viewOf, ofFile}
 use Rattle.conversation.specs.Numbers.{Condition, orderOf, FirstOf, bufferFor}
 use Rattle.conversation.specs.PhaseTwo.{stanzasFor, hasKey, isHeldBack}
-use Rattle.conversation.specs.Phases.{All, Part, one-part, two-part, Phase, blocksOf, IsPhase, Supply, callsOf, LongEnough, Starts, JustDone, JustReceived, SameStart, Rearranged, SameOutcome, commandIn, textsOf, CallWith, afterEach}
+use Rattle.conversation.specs.Phases.{All, Part, one-part, two-part, Phase, blocksOf, IsPhase, Supply, callsOf, LongEnough, Starts, JustDone, JustReceived, SameStart, Rearranged, SameTables, SameOutcome, commandIn, textsOf, CallWith, afterEach, Whole}
 use Rattle.conversation.specs.ReceivingTwo.{writes, atOnce}
 use Rattle.conversation.specs.Receiving.{received}
 use Rattle.conversation.specs.Sending.{sent, shortness}
@@ -66,6 +66,19 @@ use Rattle.session.specs.Session.{Session, openedSession, moved, opened}
 use Rattle.look_up.specs.ErrorNames.{namesIn, nameAt}
 use Rattle.look_up.specs.LookUp.{entryText, errorNamed, messageOf, stanzaOf, keyOf, LookedOf, Told}
 use Rattle.conversation.specs.WrittenRead.{OneReadsBack, TwoReadsBack, ResponseReadsBack, ReceivedAgain}
+use Rattle.conversation.specs.Replying.{numberReplied}
+use Rattle.conversation.specs.TurnsTwo.{undue, dueIn, answered as behindReply}
+use Rattle.conversation.specs.WrittenRead.{ReadsBack}
+use Rattle.chunks.specs.Taking.{End, client, plugin, ample, Intake, no-stanza, emptied, joined}
+use Rattle.chunks.specs.Chunks.{RestStays, untaken, isHeld, taken, turnOf, chunked, replyAhead, takenBack, repliedBy, replied, finished}
+use Rattle.chunks.specs.Uncut as chunk-lists
+use Rattle.chunks.specs.Uncut.{Piece, isClosed, NoneHeldUp, isWaiting, alone, partedChunk, partedBack, uncut, textIn, stanzasIn, IsUncut, SameRun, Together, Prefix}
+use Rattle.chunks.specs.Calls as chunk-calls
+use Rattle.chunks.specs.Calls.{callsFor, lastFrom, AsCalls}
+use Rattle.chunks.specs.Reached.{AnyCall, sends-one, Has, intakeAfter, AnyWith, intakeAfterAll, Bounded, isIdle}
+use Rattle.chunks.specs.Orders.{uncutCalls, amples, IsCut, endOf, OneByOne, AllTaken, SameCuts}
+use Rattle.chunks.specs.AnyCalls.{afterAny, numbersAny, InTurn, callsAll, ComesTo}
+use Rattle.chunks.specs.Sent.{sentAny, OfBytes, textSent, stanzasSent, textsSent}
 use Rattle.refusal.proofs.Laws.Output as outputs
 use Rattle.base64.proofs.Laws.Lines as lines
 use Rattle.base64.proofs.Laws.RoundTrip as base64-both
@@ -96,6 +109,20 @@ use Rattle.conversation.proofs.Laws.ShapesSent as sent-shaped
 use Rattle.conversation.proofs.Laws.ShapesTwo as two-shaped
 use Rattle.conversation.proofs.Laws.Tables as tables
 use Rattle.conversation.proofs.Laws.WrittenRead as written-read
+use Rattle.chunks.proofs.Laws.AnyAccepted as any-accepted
+use Rattle.chunks.proofs.Laws.AnyCalls as any-calls
+use Rattle.chunks.proofs.Laws.Calls as chunks-called
+use Rattle.chunks.proofs.Laws.Cut as cutting
+use Rattle.chunks.proofs.Laws.Finish as finishing
+use Rattle.chunks.proofs.Laws.Itself as itself
+use Rattle.chunks.proofs.Laws.Last as last-taken
+use Rattle.chunks.proofs.Laws.Orders as orders-of-cuts
+use Rattle.chunks.proofs.Laws.Prefix as prefixes
+use Rattle.chunks.proofs.Laws.Reached as reaching
+use Rattle.chunks.proofs.Laws.Sent as sending-over
+use Rattle.chunks.proofs.Laws.Short as too-short
+use Rattle.chunks.proofs.Laws.Together as chunks-together
+use Rattle.chunks.proofs.Laws.Written as chunks-read
 use Rattle.look_up.proofs.Laws.ErrorNames as error-names
 use Rattle.look_up.proofs.Laws.LookUp as looking-up
 
@@ -111,6 +138,84 @@ demand-1 = refusals.refusal
 pub demand-1-number : (machine name : List ℕ) (screen : Bool) (cs : List CallWith) (b : Buffers) (c : Call) →
     let s = afterEach (opened machine name screen .session) cs in FirstOf (Condition s b c) (orderOf c) (outcome s b c .number)
 demand-1-number = numbering.number-after
+
+-- ---- Demand 1 with chunks, "Commands before a fault in one piece stand, with their responses; demand 1 is read so .. a call refused with 15 takes nothing"
+
+-- what an end keeps behind any calls from an opening, refused ones included, each lent buffers of its own
+abbrev kept : (e : End) → List ℕ → List ℕ → Bool → List (AnyWith e) → Intake
+kept e machine name screen before = intakeAfterAll e (emptied (opened machine name screen .session) []) before
+
+-- 15: a chunk so refused leaves session, kept bytes, buffers and output as they were, and nothing counts as taken
+pub demand-1-chunk-short : (e : End) (i : Intake) (b : Buffers) (bytes out : List ℕ) → chunked e i b bytes out .number ≡ 15 → chunked e i b bytes out ≡ untaken 15 i b out
+demand-1-chunk-short = too-short.chunk-short
+
+-- .. exactly where it is the chunk's turn, and what it would write is longer than the output buffer or what it would keep longer than 8,192 bytes
+pub demand-1-chunk-short-iff : (e : End) (i : Intake) (b : Buffers) (bytes out : List ℕ) →
+    (chunked e i b bytes out .number ≡ 15) ↔ ((turnOf e (i .session .phase) ≡ 0) × (isHeld (taken e i b bytes) out ≡ false))
+demand-1-chunk-short-iff = too-short.chunk-short-iff
+
+-- .. a reply: the command waits on and the kept-back bytes stay
+pub demand-1-reply-short : (i : Intake) (b : Buffers) (r : Response) (body out : List ℕ) → replied i b r body out .number ≡ 15 → replied i b r body out ≡ untaken 15 i b out
+demand-1-reply-short = too-short.reply-short
+
+pub demand-1-reply-short-iff : (i : Intake) (b : Buffers) (r : Response) (body out : List ℕ) →
+    (replied i b r body out .number ≡ 15) ↔
+    ((w : WordTwo) × (i .session .phase ≡ Awaiting w) × (numberReplied w r body ≡ 0) × (isHeld (replyAhead (stanzaText (responseLine r) body) (takenBack i b)) out ≡ false))
+demand-1-reply-short-iff = too-short.reply-short-iff
+
+-- any other number: tables, buffers and output are as the calls for the stanzas before the fault leave them; the session is closed, or for 13 and 14 as it was after
+-- them; the rest is dropped. The number is the one that the fault has in a call of its own
+pub demand-1-chunk : (e : End) (machine name : List ℕ) (screen : Bool) (before : List (AnyWith e)) (b : Buffers) (bytes out : List ℕ) → let i = kept e machine name screen before in
+    let o = chunked e i b bytes out in turnOf e (i .session .phase) ≡ 0 → (o .number ≡ 0 → ⊥) → (o .number ≡ 15 → ⊥) →
+    Prefix e i b (i .kept ++ bytes) o (map alone (take (o .count) (partedChunk e i b bytes .received)))
+demand-1-chunk e machine name screen before b bytes out = prefixes.prefix-chunk e (kept e machine name screen before) b bytes out (reaching.reached-bounded e machine name screen before)
+
+-- .. and where the phase alone refuses it, closed or ended 13, the client's phase one or waiting 14, nothing is taken and nothing of the chunk is kept
+pub demand-1-chunk-turn : (e : End) (i : Intake) (b : Buffers) (bytes out : List ℕ) (n : ℕ) → turnOf e (i .session .phase) ≡ n → (n ≡ 0 → ⊥) → chunked e i b bytes out ≡ untaken n i b out
+demand-1-chunk-turn = prefixes.prefix-turn
+
+-- a reply that is taken stands, and behind it the stanzas that were kept back, as far as the fault
+pub demand-1-reply : (i : Intake) (b : Buffers) (r : Response) (body out : List ℕ) (w : WordTwo) → let o = replied i b r body out in i .session .phase ≡ Awaiting w → numberReplied w r body ≡ 0 →
+    (o .number ≡ 0 → ⊥) → (o .number ≡ 15 → ⊥) → Prefix client i b (i .kept) o (chunk-lists.reply r body ample ∷ map alone (take (o .count) (partedBack i b .received)))
+demand-1-reply = prefixes.prefix-reply
+
+-- .. 12 and 17 leave the command waiting and the kept-back bytes; 13 and 14, where none waits, leave everything
+pub demand-1-reply-unfit : (i : Intake) (b : Buffers) (r : Response) (body out : List ℕ) (w : WordTwo) → i .session .phase ≡ Awaiting w → (numberReplied w r body ≡ 0 → ⊥) →
+    replied i b r body out ≡ untaken (numberReplied w r body) i b out
+demand-1-reply-unfit = prefixes.prefix-unfit
+
+pub demand-1-reply-undue : (i : Intake) (b : Buffers) (r : Response) (body out : List ℕ) (n : ℕ) → dueIn (i .session .phase) ≡ undue n → replied i b r body out ≡ untaken n i b out
+demand-1-reply-undue i b r body out n h = ap (λ d. repliedBy d i b r body out) h
+
+-- accepted or refused, what a call writes stands at the front of the output buffer and the bytes behind it stay
+pub demand-1-output : (e : End) (i : Intake) (b : Buffers) (bytes out : List ℕ) (r : Response) (body : List ℕ) → RestStays (chunked e i b bytes out) out × RestStays (replied i b r body out) out
+demand-1-output e i b bytes out r body = (too-short.chunk-stays e i b bytes out, too-short.reply-stays i b r body out)
+
+-- "A session then gives 2 only when the input is declared ended before the conversation has": no chunk and no reply gives 2, the input's end does exactly in phases
+-- one and two
+pub demand-1-chunk-two : (e : End) (machine name : List ℕ) (screen : Bool) (before : List (AnyWith e)) (b : Buffers) (bytes out : List ℕ) → chunked e (kept e machine name screen before) b bytes out .number ≡ 2 → ⊥
+demand-1-chunk-two = reaching.reached-not-two
+
+pub demand-1-reply-two : (i : Intake) (b : Buffers) (r : Response) (body out : List ℕ) → replied i b r body out .number ≡ 2 → ⊥
+demand-1-reply-two = finishing.reply-not-two
+
+pub demand-1-finish : (p : SessionPhase) → (finished p ≡ 2) ↔ ((p ≡ One) ⊎ ((p ≡ Two) ⊎ ((w : WordTwo) × (p ≡ Awaiting w))))
+demand-1-finish = finishing.finished-two
+
+-- .. it is accepted exactly in a session that has ended, and 13 in a closed one
+pub demand-1-finish-ended : (p : SessionPhase) → ((finished p ≡ 0) ↔ (p ≡ Ended)) × ((finished p ≡ 13) ↔ (p ≡ Closed))
+demand-1-finish-ended p = (finishing.finished-zero p, finishing.finished-closed p)
+
+-- "keep at most 8,192 bytes of an unfinished stanza": behind any calls the kept bytes are at most 8,192; where nothing waits they are the front of a stanza that is
+-- longer, and at most 8,191
+pub demand-1-bounds : (e : End) (machine name : List ℕ) (screen : Bool) (before : List (AnyWith e)) → let i = kept e machine name screen before in
+    Bounded e i × (isWaiting e (i .session .phase) ≡ false → Begins (i .kept))
+demand-1-bounds e machine name screen before = (reaching.reached-bounded e machine name screen before, reaching.reached-begins e machine name screen before)
+
+-- .. and there are none in the client's phase one, at the plugin end in phase two with nothing due, in a session that has ended and in a closed one
+pub demand-1-bounds-idle : (e : End) (machine name : List ℕ) (screen : Bool) (before : List (AnyWith e)) → let i = kept e machine name screen before in
+    isIdle e (i .session .phase) ≡ true → i ≡ emptied (i .session) []
+demand-1-bounds-idle = reaching.reached-empty
 
 -- ---- Demand 1, "Outside a session: 18, then 1 to 3, 16 or 17, then 15 .. A refusal writes nothing". 1 to 3 and 5: below, with stanza text
 
@@ -411,10 +516,149 @@ demand-2-word-two = words-two.word-text
 pub demand-2-response : (line : List ℕ) (r : Response) → (responseOf line ≡ response r) ↔ (line ≡ responseLine r)
 demand-2-response line r = (response-texts.line-read line r, λ e. ap responseOf e ∙ response-texts.read-line r)
 
+-- ---- Input in chunks: "However a conversation is cut .. responses, tables and the closing number are those of the uncut one"
+
+-- its core: chunk x and then chunk y is chunk x ++ y in state, and in output x's followed by y's, behind any calls, if none of the three is refused with 14 or 15 and
+-- the client does not wait in between
+pub chunks-joined : (e : End) (machine name : List ℕ) (screen : Bool) (before : List (AnyWith e)) (b : Buffers) (x y first-out second-out whole-out : List ℕ) →
+    let i = kept e machine name screen before in let first = chunked e i b x first-out in let second = chunked e (first .intake) (first .buffers) y second-out in
+    let whole = chunked e i b (x ++ y) whole-out in ((first .number ≡ 14 → ⊥) × (first .number ≡ 15 → ⊥)) → ((second .number ≡ 14 → ⊥) × (second .number ≡ 15 → ⊥)) →
+    ((whole .number ≡ 14 → ⊥) × (whole .number ≡ 15 → ⊥)) → isWaiting e (first .intake .session .phase) ≡ false → Together first second whole
+chunks-joined e machine name screen before b x y first-out second-out whole-out =
+    chunks-together.together e (kept e machine name screen before) b x y first-out second-out whole-out (reaching.reached-bounded e machine name screen before)
+
+-- the cut theorem: for both ends, every start that is not closed and keeps nothing, and every list of chunks and replies of which no call is refused with 14 or
+-- 15: no call of its uncut list is; outputs, tables, buffers, phase, waiting command and closing number are equal
+pub chunks-cut : (e : End) (s : Session) (b : Buffers) (cs : List Piece) → isClosed (s .phase) ≡ false → NoneHeldUp (chunk-lists.numbers e (emptied s []) b cs) →
+    SameRun e s b (uncut e (emptied s []) b [] cs) cs
+chunks-cut = cutting.cut-theorem
+
+-- .. and that list is uncut: each stanza in a chunk of its own, each reply directly behind the command that waited when it was made
+pub chunks-uncut : (e : End) (s : Session) (b : Buffers) (cs : List Piece) → NoneHeldUp (chunk-lists.numbers e (emptied s []) b cs) → IsUncut e s b (uncut e (emptied s []) b [] cs) cs
+chunks-uncut = cutting.uncut-theorem
+
+-- such starts are a plugin session just opened, and a client session that has just sent done, whatever its calls before: it keeps nothing
+pub chunks-start : (machine name : List ℕ) (screen : Bool) (before : List (AnyWith client)) (b : Buffers) (word : WordOne) (arguments body out : List ℕ) → let i = kept client machine name screen before in
+    outcome (i .session) b (send word arguments body out) .number ≡ 0 → intakeAfter client i b (sends-one word arguments body out) ≡ emptied (outcome (i .session) b (send word arguments body out) .session) []
+chunks-start machine name screen before b word arguments body out = reaching.sent-empty (kept client machine name screen before) b word arguments body out (reaching.reached-keeps client machine name screen before .settled)
+
+-- so such a list does what calls of one stanza do, those of its uncut list
+pub chunks-calls : (e : End) (s : Session) (b : Buffers) (cs : List Piece) → isClosed (s .phase) ≡ false → NoneHeldUp (chunk-lists.numbers e (emptied s []) b cs) → AsCalls e s b cs (callsFor e s b cs)
+chunks-calls = chunks-called.calls-theorem
+
+-- .. and its tables are those of the accepted commands, in order
+pub chunks-tables : (k : AnyKind) (e : End) (s : Session) (b : Buffers) (cs : List Piece) → ReachedSession s → isClosed (s .phase) ≡ false → NoneHeldUp (chunk-lists.numbers e (emptied s []) b cs) →
+    let x = chunk-lists.after e (emptied s []) b cs in viewOf k (x .intake .session .tables) (x .buffers) ≡ viewOf k (s .tables) b ++ acceptedRows k s b (callsFor e s b cs)
+chunks-tables = chunks-called.chunks-tables
+
+-- .. and each phase-two command but done is answered exactly once if it is accepted and its phase ends, behind any calls xs from an opening
+pub chunks-answers : (e : End) (s : Session) (b : Buffers) (xs : List Call) (cs : List Piece) → let z = after s b xs in s .phase ≡ One → isClosed (z .session .phase) ≡ false →
+    NoneHeldUp (chunk-lists.numbers e (emptied (z .session) []) (z .buffers) cs) → chunk-lists.after e (emptied (z .session) []) (z .buffers) cs .intake .session .phase ≡ Ended →
+    Paired (events s b (xs ++ callsFor e (z .session) (z .buffers) cs))
+chunks-answers = chunks-called.chunks-answers
+
+-- "The transcripts allowed are the ones accepted", however they are cut: phase one
+pub chunks-phase-one : (x : State) (p : Phase) (cs : List Piece) → Starts one-part (x .session) → IsPhase one-part p → IsCut plugin (x .session) (x .buffers) cs (blocksOf p) →
+    AllTaken plugin x cs ↔ Allowed (x .session .machine) (x .session .name) (x .buffers .first) (textsOf p)
+chunks-phase-one = orders-of-cuts.cut-allowed-one
+
+-- .. phase two
+pub chunks-client : (x : State) (p : Phase) (cs : List Piece) → Starts two-part (x .session) → IsPhase two-part p → IsCut client (x .session) (x .buffers) cs (blocksOf p) →
+    AllTaken client x cs ↔ AllowedTwo (x .session .machine) (x .session .screen) (leftOf x) (capacityOf (x .buffers)) (blocksOf p)
+chunks-client = orders-of-cuts.cut-allowed-two
+
+-- ---- Any calls of an end, chunks, replies and commands sent, refused with whatever number: they come to calls of one stanza, for which the demands stand above
+
+-- .. behind any calls that were each lent buffers of their own
+pub any-calls-come-to : (e : End) (machine name : List ℕ) (screen : Bool) (before : List (AnyWith e)) (b : Buffers) (cs : List AnyCall) → All (Has e) cs →
+    let i = kept e machine name screen before in ComesTo e i b cs (callsAll e i b cs)
+any-calls-come-to e machine name screen before b cs h = any-calls.any-calls e (kept e machine name screen before) b cs (reaching.reached-keeps e machine name screen before) h
+
+-- tables: of any calls from an opening, each kind's table is exactly the accepted commands of that kind, in order
+pub any-calls-tables : (e : End) (machine name : List ℕ) (screen : Bool) (b : Buffers) (cs : List AnyCall) → All (Has e) cs → (k : AnyKind) →
+    let s = opened machine name screen .session in let z = afterAny e (emptied s []) b cs in
+    viewOf k (z .intake .session .tables) (z .buffers) ≡ acceptedRows k s b (callsAll e (emptied s []) b cs)
+any-calls-tables = any-calls.any-tables
+
+-- answers: commands and responses pair one to one and in order, where the conversation has ended
+pub any-calls-answers : (e : End) (machine name : List ℕ) (screen : Bool) (b : Buffers) (cs : List AnyCall) → All (Has e) cs → let s = opened machine name screen .session in
+    afterAny e (emptied s []) b cs .intake .session .phase ≡ Ended → Paired (events s b (callsAll e (emptied s []) b cs))
+any-calls-answers = any-calls.any-answers
+
+-- what an error names
+pub any-calls-errors : (e : End) (machine name : List ℕ) (screen : Bool) (b : Buffers) (cs : List AnyCall) → All (Has e) cs → (k : ℕ) → let s = opened machine name screen .session in
+    errorNamed (afterAny e (emptied s []) b cs .intake .session .tables) k ≡ nameAt (namesIn s b (callsAll e (emptied s []) b cs)) k
+any-calls-errors e machine name screen b cs h k =
+    let s = opened machine name screen .session in
+    ap (λ (s : Session). errorNamed (s .tables) k) (any-calls.any-calls e (emptied s []) b cs (reaching.opened-keeps e machine name screen) h .session) ∙ error-names.names-opened machine name screen b (callsAll e (emptied s []) b cs) k
+
+-- "The transcripts allowed are the ones accepted": phase two at the plugin end, its commands sent and the responses in chunks, by a session that has just received
+-- done, where no call is out of turn, too long for its output buffer or the end of the input: accepted to the end of the phase exactly those that have its shape
+-- and are allowed
+pub any-calls-plugin : (s : Session) (b : Buffers) → JustReceived s → (cs : List AnyCall) → All (Has plugin) cs → let i = emptied s [] in let ds = callsAll plugin i b cs in
+    InTurn (numbersAny plugin i b cs) → LongEnough s b ds → (AllZero (numbersAny plugin i b cs) × (afterAny plugin i b cs .intake .session .phase ≡ Ended))
+    ↔ ((p : ShapedSent ds) × AllowedSent (s .machine) (leftOf (stateOf s b)) (capacityOf b) (p .ahead ++ (p .last ∷ [])))
+any-calls-plugin = any-accepted.plugin-exact
+
+-- .. and accepted but not to its end, exactly those cut before done that are allowed so far
+pub any-calls-plugin-so-far : (s : Session) (b : Buffers) → JustReceived s → (cs : List AnyCall) → All (Has plugin) cs → let i = emptied s [] in let ds = callsAll plugin i b cs in
+    InTurn (numbersAny plugin i b cs) → LongEnough s b ds → (q : SessionPhase) → (q ≡ Ended → ⊥) → (AllZero (numbersAny plugin i b cs) × (afterAny plugin i b cs .intake .session .phase ≡ q))
+    ↔ ((p : FrontSent ds) × AllowedSentSoFar (s .machine) (leftOf (stateOf s b)) (capacityOf b) q (p .exchanges))
+any-calls-plugin-so-far = any-accepted.plugin-so-far
+
+-- "gives back which it was": a chunk the last of the stanzas that it took, a reply the last of those that were kept back
+pub chunks-last : (e : End) (i : Intake) (b : Buffers) (bytes out : List ℕ) → let o = chunked e i b bytes out in
+    o .last ≡ lastFrom no-stanza (i .session) b (chunk-calls.callsOf e (i .session) b (map alone (take (o .count) (partedChunk e i b bytes .received))))
+chunks-last = last-taken.chunk-last
+
+pub chunks-reply-last : (i : Intake) (b : Buffers) (r : Response) (body out : List ℕ) → let o = replied i b r body out in let s = behindReply (i .session) in
+    o .last ≡ lastFrom no-stanza s b (chunk-calls.callsOf client s b (map alone (take (o .count) (partedBack i b .received))))
+chunks-reply-last = last-taken.reply-last
+
+-- "What is written reads back": what any calls of an end send, behind any calls, is the texts of the stanzas that were sent, and each reads back
+pub any-calls-sent : (e : End) (machine name : List ℕ) (screen : Bool) (before : List (AnyWith e)) (b : Buffers) (cs : List AnyCall) → All (Has e) cs → All OfBytes cs →
+    let i = kept e machine name screen before in let ds = callsAll e i b cs in
+    (sentAny e i b cs ≡ joined (textsSent (i .session) b ds) []) × All (λ x. ReadsBack (x .line) (x .body) (textSent x)) (stanzasSent (i .session) b ds)
+any-calls-sent e machine name screen before b cs h y =
+    let i = kept e machine name screen before in
+    let k = reaching.reached-keeps e machine name screen before in
+    (sending-over.sent-texts e i b cs k h y, sending-over.sent-read e i b cs k h y)
+
+-- .. and however it is cut, the other end takes it as the stanzas that were sent, each by itself and in order, where nothing is kept back at the end
+pub any-calls-received : (e : End) (machine name : List ℕ) (screen : Bool) (before : List (AnyWith e)) (b : Buffers) (cs : List AnyCall) → All (Has e) cs → All OfBytes cs →
+    (other : End) (s : Session) (b′ : Buffers) (ds : List Piece) → let i = kept e machine name screen before in
+    textIn ds ≡ sentAny e i b cs → NoneHeldUp (chunk-lists.numbers other (emptied s []) b′ ds) → isWaiting other (chunk-lists.after other (emptied s []) b′ ds .intake .session .phase) ≡ false →
+    stanzasIn (uncut other (emptied s []) b′ [] ds) ≡ textsSent (i .session) b (callsAll e i b cs)
+any-calls-received e machine name screen before b cs h y = sending-over.sent-received e (kept e machine name screen before) b cs (reaching.reached-keeps e machine name screen before) h y
+
+-- .. as it takes any whole stanzas
+pub chunks-written : (e : End) (s : Session) (b : Buffers) (cs : List Piece) (ts : List (List ℕ)) → All Whole ts → textIn cs ≡ joined ts [] → NoneHeldUp (chunk-lists.numbers e (emptied s []) b cs) →
+    isWaiting e (chunk-lists.after e (emptied s []) b cs .intake .session .phase) ≡ false → stanzasIn (uncut e (emptied s []) b [] cs) ≡ ts
+chunks-written = chunks-read.chunks-written
+
 -- ---- Demand 3: "Order between strangers means nothing." One theorem about two lists of calls, for both phases and both machines
 
+-- "for any cut of either order whose last piece holds done's last byte, where each command that waits gets its host answers while it waits, at least one, and no call
+-- is refused with 14 or 15": each list amounts to its phase with a stanza to a call and each reply directly behind its command
 pub demand-3 : (part : Part) (x y : State) → Starts part (x .session) → Starts part (y .session) → SameStart part x y → (p q : Phase) → IsPhase part p → IsPhase part q →
+    Rearranged part (x .session .machine) (x .session .name) p q → (cs ds : List Piece) →
+    IsCut (endOf part) (x .session) (x .buffers) cs (blocksOf p) → IsCut (endOf part) (y .session) (y .buffers) ds (blocksOf q) → SameCuts part x y p q cs ds
+demand-3 = orders-of-cuts.order-of-cuts
+
+-- a stanza to a call is the instance with one stanza to a chunk: so received, a phase's blocks are a cut of themselves
+pub demand-3-itself : (part : Part) (x : State) (p : Phase) → Starts part (x .session) → IsPhase part p → OneByOne part x p → IsCut (endOf part) (x .session) (x .buffers) (uncutCalls (blocksOf p)) (blocksOf p)
+demand-3-itself part x p st ph h = itself.blocks-cut part (x .session) (x .buffers) p st ph (h .none-held-up) (h .none-behind)
+
+-- .. and demand 3 of two such lists follows from it
+pub demand-3-stanzas : (part : Part) (x y : State) → Starts part (x .session) → Starts part (y .session) → SameStart part x y → (p q : Phase) → IsPhase part p → IsPhase part q →
+    Rearranged part (x .session .machine) (x .session .name) p q → OneByOne part x p → OneByOne part y q →
+    let cs = callsOf part amples (blocksOf p) in let ds = callsOf part amples (blocksOf q) in (Accepted (x .session) (x .buffers) cs ↔ Accepted (y .session) (y .buffers) ds)
+    × (Accepted (x .session) (x .buffers) cs → SameTables (after (x .session) (x .buffers) cs) (after (y .session) (y .buffers) ds))
+demand-3-stanzas = itself.order-of-stanzas
+
+-- what both rest on, as demand 3 was read before: a stanza to a call, of any output buffers that are long enough, calls refused with 14 among the others
+pub demand-3-calls : (part : Part) (x y : State) → Starts part (x .session) → Starts part (y .session) → SameStart part x y → (p q : Phase) → IsPhase part p → IsPhase part q →
     Rearranged part (x .session .machine) (x .session .name) p q → (outs outs′ : Supply) →
     LongEnough (x .session) (x .buffers) (callsOf part outs (blocksOf p)) → LongEnough (y .session) (y .buffers) (callsOf part outs′ (blocksOf q)) →
     SameOutcome part x y p q outs outs′
-demand-3 = ordering.order
+demand-3-calls = ordering.order

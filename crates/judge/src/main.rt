@@ -3,37 +3,31 @@
 mod input;
 mod output;
 
-use input::keep_rest;
-use input::read_behind;
+use input::read_chunk;
 use judging::Judged;
 use judging::Judging;
 use judging::Progress;
 use libc::STDERR_FILENO;
 use output::print;
 use session::Session;
-ghost use Prim.Native.Nat.{_<_, _≤_};
-ghost use mathlib.Core.Path.{_≡_};
-ghost use mathlib.Core.Bool.{true};
-ghost use lib.ListN.{length, take, drop};
-ghost use Rattle.judging.specs.Windows.{Cut};
-ghost use Rattle.judging.specs.Said.{buffersIn, standingOf, turnSaid};
 
-// Where the run stands: whether it goes on, and how many bytes at the front of the window are still to be judged.
+// Where the run stands, and whether it goes on.
 struct State {
     judging: Judging,
-    left: usize,
     more: bool,
 }
 
 fn main() {
-    let mut window = io::large_buffer();
+    let mut chunk = io::large_buffer();
+    let mut input = [0u8; Session::PLUGIN_INPUT];
+    let mut slots = Session::open_slots();
+    let mut header_slots = Session::open_header_slots();
     let mut recipients = [0u8; 16384];
     let mut identities = [0u8; 16384];
     let mut keys = [0u8; 1024];
-    let mut slots = Session::open_slots();
-    let mut header_slots = Session::open_header_slots();
     let judged = run(
-        &mut window,
+        &mut chunk,
+        &mut input,
         &mut slots,
         &mut header_slots,
         &mut recipients,
@@ -48,95 +42,70 @@ fn main() {
 // Reads up to done, a refusal or the end of the input. A proved loop has to end, and nothing says that the input does, so the turns are counted down from a
 // number that no run uses up.
 fn run(
-    window: &mut [u8],
+    chunk: &mut [u8],
+    input: &mut [u8; Session::PLUGIN_INPUT],
     slots: &mut [[usize; 4]; Session::OTHER_SLOTS],
     header_slots: &mut [[usize; 4]; Session::HEADER_STANZAS],
     recipients: &mut [u8],
     identities: &mut [u8],
     keys: &mut [u8],
-) -> Judged
-    requires { ⌜ 8192 ≤ length (now window) ⌝ }
-{
+) -> Judged {
     let mut s = State {
         judging: Judging::open(),
-        left: 0,
         more: true,
     };
     let mut turns = u64::MAX;
     while turns > 0 && s.more {
-        s = run_turn(s, window, slots, header_slots, recipients, identities, keys);
+        s = run_turn(
+            s.judging,
+            chunk,
+            input,
+            slots,
+            header_slots,
+            recipients,
+            identities,
+            keys,
+        );
         turns -= 1;
     }
     s.judging.numbers()
 }
 
-// Reads once, behind what is left, and judges. There is space to read to, so where nothing more came the input has ended.
+// Reads once, and judges what came; where nothing came the input has ended.
 fn run_turn(
-    s: State,
-    window: &mut [u8],
-    slots: &mut [[usize; 4]; Session::OTHER_SLOTS],
-    header_slots: &mut [[usize; 4]; Session::HEADER_STANZAS],
-    recipients: &mut [u8],
-    identities: &mut [u8],
-    keys: &mut [u8],
-) -> State
-    requires { ⌜ s .left < length (now window) ⌝ }
-    ensures { λ r. ⌜ (r .more ≡ true → r .left < 8192) ⌝ }
-{
-    let left = s.left;
-    let end = read_behind(window, left);
-    judge_chunk(
-        s.judging,
-        window,
-        end,
-        end == left,
-        slots,
-        header_slots,
-        recipients,
-        identities,
-        keys,
-    )
-}
-
-// Judges the first `end` bytes of the window, and moves to its front what is left of them.
-fn judge_chunk(
     judging: Judging,
-    window: &mut [u8],
-    end: usize,
-    last: bool,
+    chunk: &mut [u8],
+    input: &mut [u8; Session::PLUGIN_INPUT],
     slots: &mut [[usize; 4]; Session::OTHER_SLOTS],
     header_slots: &mut [[usize; 4]; Session::HEADER_STANZAS],
     recipients: &mut [u8],
     identities: &mut [u8],
     keys: &mut [u8],
-) -> State
-    requires { ⌜ end ≤ length (now window) ⌝ }
-    ensures cut { λ r. ⌜ Cut last (standingOf judging (now (slots .entry)) (now («header_slots» .entry)))
-        (buffersIn (now (recipients .entry)) (now (identities .entry)) (now (keys .entry))) (take end (now (window .entry)))
-        (turnSaid (r .judging) (now (slots .exit)) (now («header_slots» .exit)) (now (recipients .exit)) (now (identities .exit)) (now (keys .exit))) ⌝ }
-    ensures rest { λ r. ⌜ take (r .left) (now (window .exit)) ≡ drop (r .judging .taken) (take end (now (window .entry))) ⌝ }
-    ensures short { λ r. ⌜ (r .left ≤ end) × (r .more ≡ true → r .left < 8192) ⌝ }
-{
-    let j = judging.judge_window(
-        &window[..end],
-        last,
+) -> State {
+    let n = read_chunk(chunk);
+    if n == 0 {
+        return State {
+            judging: judging,
+            more: false,
+        };
+    }
+    let after = judging.judge_chunk(
+        &chunk[..n],
+        input,
         slots,
         header_slots,
         recipients,
         identities,
         keys,
     );
-    let left = keep_rest(window, j.taken, end);
-    let progress = j.progress;
+    let progress = after.progress;
     match progress {
         Progress::GoesOn => State {
-            judging: j,
-            left: left,
+            judging: after,
             more: true,
         },
         Progress::Stopped(_) => State {
-            judging: j,
-            left: left,
+            judging: after,
             more: false,
         },
     }

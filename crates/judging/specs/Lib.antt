@@ -1,4 +1,3 @@
 -- The judging program's verdict on a recorded phase one.
 pub mod Judging
-pub mod Windows
 pub mod Said

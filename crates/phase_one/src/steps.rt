@@ -14,7 +14,7 @@ ghost use Rattle.tables.specs.Bodies.{bodyFrom};
 ghost use Rattle.tables.specs.Slots.{areApart, slotsOf};
 ghost use Rattle.tables.specs.declared.slots.Span.{Span as AnySpan};
 ghost use Rattle.tables.specs.Tables.{tableIn, storing, entered, kept};
-ghost use Rattle.session.specs.Tables.{spanOf, tablesIn};
+ghost use Rattle.session.specs.Tables.{spanOf, tablesIn, withTable};
 ghost use Rattle.phase_one.specs.Commands.{findingMark, commandSaid, restOf};
 ghost use Rattle.phase_one.specs.PhaseOne.{falls, buffersOf, commandIn, numberOne, tablesOne, buffersOne};
 use crate::commands::CommandOne;
@@ -166,111 +166,15 @@ pub struct StepOne {
 }
 
 // What a command came to, by what storing it came to: its kind's table has changed, and no other.
-fn stepped_recipients(command: CommandOne, tables: Tables, stored: Stored) -> StepOne
-    ensures { λ r. ⌜ r ≡
-        record {
-          command = command;
-          verdict = stored .verdict;
-          tables = record {
-            recipients = stored .table;
-            identities = tables .identities;
-            keys = tables .keys;
-            headers = tables .headers;
-            errors = tables .errors;
-            stanzas = tables .stanzas;
-            returned = tables .returned;
-          };
-        } ⌝ }
+fn stepped(command: CommandOne, tables: Tables, kind: Kind, stored: Stored) -> StepOne
+    ensures { λ r. ⌜ r ≡ record { command = command; verdict = stored .verdict; tables = withTable tables kind (stored .table) } ⌝ }
 {
     let verdict = stored.verdict;
     let after = stored.table;
-    let mut all = tables;
-    all.recipients = after;
     StepOne {
         command: command,
         verdict: verdict,
-        tables: all,
-    }
-}
-
-fn stepped_identities(command: CommandOne, tables: Tables, stored: Stored) -> StepOne
-    ensures { λ r. ⌜ r ≡
-        record {
-          command = command;
-          verdict = stored .verdict;
-          tables = record {
-            recipients = tables .recipients;
-            identities = stored .table;
-            keys = tables .keys;
-            headers = tables .headers;
-            errors = tables .errors;
-            stanzas = tables .stanzas;
-            returned = tables .returned;
-          };
-        } ⌝ }
-{
-    let verdict = stored.verdict;
-    let after = stored.table;
-    let mut all = tables;
-    all.identities = after;
-    StepOne {
-        command: command,
-        verdict: verdict,
-        tables: all,
-    }
-}
-
-fn stepped_keys(command: CommandOne, tables: Tables, stored: Stored) -> StepOne
-    ensures { λ r. ⌜ r ≡
-        record {
-          command = command;
-          verdict = stored .verdict;
-          tables = record {
-            recipients = tables .recipients;
-            identities = tables .identities;
-            keys = stored .table;
-            headers = tables .headers;
-            errors = tables .errors;
-            stanzas = tables .stanzas;
-            returned = tables .returned;
-          };
-        } ⌝ }
-{
-    let verdict = stored.verdict;
-    let after = stored.table;
-    let mut all = tables;
-    all.keys = after;
-    StepOne {
-        command: command,
-        verdict: verdict,
-        tables: all,
-    }
-}
-
-fn stepped_headers(command: CommandOne, tables: Tables, stored: Stored) -> StepOne
-    ensures { λ r. ⌜ r ≡
-        record {
-          command = command;
-          verdict = stored .verdict;
-          tables = record {
-            recipients = tables .recipients;
-            identities = tables .identities;
-            keys = tables .keys;
-            headers = stored .table;
-            errors = tables .errors;
-            stanzas = tables .stanzas;
-            returned = tables .returned;
-          };
-        } ⌝ }
-{
-    let verdict = stored.verdict;
-    let after = stored.table;
-    let mut all = tables;
-    all.headers = after;
-    StepOne {
-        command: command,
-        verdict: verdict,
-        tables: all,
+        tables: tables.with(kind, after),
     }
 }
 
@@ -322,7 +226,7 @@ pub fn step_one(
                 slots,
                 recipients,
             );
-            stepped_recipients(command, tables, stored)
+            stepped(command, tables, Kind::Recipients, stored)
         }
         CommandOne::Identity => {
             let t = tables.identities;
@@ -337,13 +241,13 @@ pub fn step_one(
                 slots,
                 identities,
             );
-            stepped_identities(command, tables, stored)
+            stepped(command, tables, Kind::Identities, stored)
         }
         CommandOne::Key => {
             let t = tables.keys;
             let span = span_of(Kind::Keys);
             let stored = t.store(span, late, coding, source, 0, Mark::NONE, slots, keys);
-            stepped_keys(command, tables, stored)
+            stepped(command, tables, Kind::Keys, stored)
         }
         CommandOne::Header(index) => {
             let t = tables.headers;
@@ -359,7 +263,7 @@ pub fn step_one(
                 header_slots,
                 headers,
             );
-            stepped_headers(command, tables, stored)
+            stepped(command, tables, Kind::Headers, stored)
         }
         CommandOne::Done => StepOne {
             command: command,

@@ -11,7 +11,7 @@ ghost use Rattle.tables.specs.Bodies.{bodyFrom};
 ghost use Rattle.tables.specs.Slots.{areApart, slotsOf};
 ghost use Rattle.tables.specs.declared.slots.Span.{Span as AnySpan};
 ghost use Rattle.tables.specs.Tables.{tableIn, storing, entered, kept};
-ghost use Rattle.session.specs.Tables.{spanOf, tablesIn};
+ghost use Rattle.session.specs.Tables.{spanOf, tablesIn, withTable};
 ghost use Rattle.phase_one.specs.Commands.{restOf};
 ghost use Rattle.conversation.specs.CommandsTwo.{payloadOf};
 ghost use Rattle.conversation.specs.PhaseTwo.{buffersOf, applied, filledBy, markOf, indexOf};
@@ -31,7 +31,7 @@ use tables::Stored;
 use tables::Table;
 
 // An error's mark: what it names.
-fn mark_of(named: Named) -> usize
+pub(crate) fn mark_of(named: Named) -> usize
     ensures { λ r. ⌜ r ≡ markOf (namedSaid named) ⌝ }
 {
     match named {
@@ -43,7 +43,7 @@ fn mark_of(named: Named) -> usize
 }
 
 // An error's index: the number that it names.
-fn index_of(named: Named) -> usize
+pub(crate) fn index_of(named: Named) -> usize
     ensures { λ r. ⌜ r ≡ indexOf (namedSaid named) ⌝ }
 {
     match named {
@@ -165,78 +165,14 @@ fn keep_error(
 }
 
 // What a command came to, by what storing it came to: its kind's table has changed, and no other.
-fn stepped_errors(tables: Tables, stored: Stored) -> StepTwo
-    ensures { λ r. ⌜ r ≡
-        record {
-          verdict = stored .verdict;
-          tables = record {
-            recipients = tables .recipients;
-            identities = tables .identities;
-            keys = tables .keys;
-            headers = tables .headers;
-            errors = stored .table;
-            stanzas = tables .stanzas;
-            returned = tables .returned;
-          };
-        } ⌝ }
+pub(crate) fn stepped(tables: Tables, kind: Kind, stored: Stored) -> StepTwo
+    ensures { λ r. ⌜ r ≡ record { verdict = stored .verdict; tables = withTable tables kind (stored .table) } ⌝ }
 {
     let verdict = stored.verdict;
     let after = stored.table;
-    let mut all = tables;
-    all.errors = after;
     StepTwo {
         verdict: verdict,
-        tables: all,
-    }
-}
-
-fn stepped_stanzas(tables: Tables, stored: Stored) -> StepTwo
-    ensures { λ r. ⌜ r ≡
-        record {
-          verdict = stored .verdict;
-          tables = record {
-            recipients = tables .recipients;
-            identities = tables .identities;
-            keys = tables .keys;
-            headers = tables .headers;
-            errors = tables .errors;
-            stanzas = stored .table;
-            returned = tables .returned;
-          };
-        } ⌝ }
-{
-    let verdict = stored.verdict;
-    let after = stored.table;
-    let mut all = tables;
-    all.stanzas = after;
-    StepTwo {
-        verdict: verdict,
-        tables: all,
-    }
-}
-
-fn stepped_returned(tables: Tables, stored: Stored) -> StepTwo
-    ensures { λ r. ⌜ r ≡
-        record {
-          verdict = stored .verdict;
-          tables = record {
-            recipients = tables .recipients;
-            identities = tables .identities;
-            keys = tables .keys;
-            headers = tables .headers;
-            errors = tables .errors;
-            stanzas = tables .stanzas;
-            returned = stored .table;
-          };
-        } ⌝ }
-{
-    let verdict = stored.verdict;
-    let after = stored.table;
-    let mut all = tables;
-    all.returned = after;
-    StepTwo {
-        verdict: verdict,
-        tables: all,
+        tables: tables.with(kind, after),
     }
 }
 
@@ -327,17 +263,17 @@ fn keep(
         CommandTwo::Stanza(file) => {
             let t = tables.stanzas;
             let stored = keep_stanza(t, late, line, coding, source, file, slots, stanzas);
-            stepped_stanzas(tables, stored)
+            stepped(tables, Kind::Stanzas, stored)
         }
         CommandTwo::Key(file) => {
             let t = tables.returned;
             let stored = keep_key(t, late, coding, source, file, slots, returned);
-            stepped_returned(tables, stored)
+            stepped(tables, Kind::Returned, stored)
         }
         CommandTwo::Error(named) => {
             let t = tables.errors;
             let stored = keep_error(t, late, coding, source, named, slots, errors);
-            stepped_errors(tables, stored)
+            stepped(tables, Kind::Errors, stored)
         }
         CommandTwo::Ask(_) => StepTwo {
             verdict: late,

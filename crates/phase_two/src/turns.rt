@@ -4,11 +4,10 @@ ghost use lib.Dec.{eqb};
 ghost use Rattle.refusal.specs.Pick.{pick};
 ghost use Rattle.refusal.specs.Verdict.{verdictSaid};
 ghost use Rattle.session.specs.Phases.{phaseRefused};
-ghost use Rattle.conversation.specs.TurnsTwo.{turnTwo, dueIn};
+ghost use Rattle.conversation.specs.TurnsTwo.{turnTwo};
 ghost use Rattle.conversation.specs.ReceivingTwo.{phaseReceived};
 ghost use Rattle.conversation.specs.SendingTwo.{phaseSent};
 ghost use Rattle.phase_two_commands.specs.Commands.{commandSaid};
-ghost use Rattle.phase_two.specs.Turns.{dueSaid};
 use phase_two_commands::CommandTwo;
 use refusal::Refusal;
 use refusal::Verdict;
@@ -86,23 +85,5 @@ pub fn phase_sent_two(phase: Phase, verdict: Verdict, command: CommandTwo) -> Ph
     match verdict {
         Verdict::Accepted => phase_spoken(command),
         Verdict::Refused(_) => phase,
-    }
-}
-
-// Whether an answer is due: the command that awaits it; or 13 where the session is closed or has ended, 14 where nothing is awaited.
-pub enum Due {
-    Command(WordTwo),
-    Refused(Refusal),
-}
-
-pub fn answer_due(phase: Phase) -> Due
-    ensures { λ r. ⌜ dueSaid r ≡ dueIn phase ⌝ }
-{
-    match phase {
-        Phase::One => Due::Refused(Refusal::OutOfTurn),
-        Phase::Two => Due::Refused(Refusal::OutOfTurn),
-        Phase::Awaiting(word) => Due::Command(word),
-        Phase::Ended => Due::Refused(Refusal::SessionOver),
-        Phase::Closed => Due::Refused(Refusal::SessionOver),
     }
 }

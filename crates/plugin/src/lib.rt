@@ -1,14 +1,24 @@
-// The plugin end: phase one received; phase two sent, and the client's responses. Its session is opened by `session::Session`; payloads and entries are kept in
-// buffers and slots that each call is lent.
-mod receiving;
-mod responding;
-mod sending;
-
-pub use receiving::Received;
-pub use receiving::Taking;
-pub use receiving::receive;
-pub use responding::Answering;
-pub use responding::Responded;
-pub use responding::receive_response;
-pub use sending::Sent;
-pub use sending::send;
+// The plugin end, for its host: all that it names, by one `use`. It receives phase one and sends phase two.
+pub use bech32::TextKind;
+pub use intake::Last;
+pub use intake::Received;
+pub use intake::finish;
+pub use look_up::entry;
+pub use look_up::find;
+pub use phase_one::WordOne;
+pub use plugin_receiving::receive;
+pub use plugin_sending::Sent;
+pub use plugin_sending::send;
+pub use refusal::Refusal;
+pub use refusal::Verdict;
+pub use refusal::Written;
+pub use refusal::number;
+pub use responses::Response;
+pub use session::Kind;
+pub use session::Mark;
+pub use session::Opening;
+pub use session::Phase;
+pub use session::Session;
+pub use session::WordTwo;
+pub use session::front;
+pub use tables::Found;

@@ -2,26 +2,31 @@
 use crate::parts::front;
 use crate::print::Output;
 use crate::print::print_bytes;
-use crate::print::print_end;
-use crate::print::print_last;
 use crate::print::print_number;
-use crate::print::print_ok;
-use crate::print::print_words;
+use crate::print::print_row;
+use crate::print::print_word;
+use crate::print::put_number;
+use intake::Last;
+use intake::Received;
 use judging::Judged;
 use phase_one::WordOne;
 use refusal::Refusal;
+use refusal::Verdict;
 use refusal::Written;
 use responses::Response;
 use session::WordTwo;
 
-// The words of the commands and the responses that are received, which number them.
-pub const NAMES: [u8; 152] =
-    *b"add-recipient add-identity wrap-file-key recipient-stanza done other msg confirm request-public request-secret file-key error ok yes no fail unsupported";
+// The words of the commands and the responses that are received, which number them; the last is that of none.
+pub const NAMES: [u8; 154] =
+    *b"add-recipient add-identity wrap-file-key recipient-stanza done other msg confirm request-public request-secret file-key error ok yes no fail unsupported -";
+
+// The number of the last.
+pub const NO_NAME: usize = 17;
 
 // The answer is printed already, up to some byte of the output buffer; the line is no call; no session is open for it, or the end that is open
 // does not have it; it is refused; or it is accepted: with nothing to tell, one of a few words, a number, a text of some bytes at the front of
-// the buffer lent, a command or a response received (the number of its word, how many bytes it took, and how many stand at the front of the
-// buffer lent), or a verdict.
+// the buffer lent, or a verdict. Of what was received: the refusal's number, 0 where there is none, how many stanzas were taken, the number of
+// the last one's word, and how many bytes stand at the front of the buffer lent.
 pub enum Answer {
     Printed(usize),
     Bad,
@@ -31,7 +36,7 @@ pub enum Answer {
     Finding(usize),
     Number(u64),
     Text(usize),
-    Received(usize, usize, usize),
+    Received(u8, usize, usize, usize),
     Judged(Judged),
 }
 
@@ -44,7 +49,7 @@ pub fn answer_of(written: Written) -> Answer {
 }
 
 // The number of the word of a command of phase one.
-pub fn number_one(word: WordOne) -> usize {
+fn number_one(word: WordOne) -> usize {
     match word {
         WordOne::AddRecipient => 0,
         WordOne::AddIdentity => 1,
@@ -71,13 +76,51 @@ pub fn number_two(word: WordTwo) -> usize {
 }
 
 // The number of a response's word.
-pub fn number_response(response: Response) -> usize {
+fn number_response(response: Response) -> usize {
     match response {
         Response::Ok => 12,
         Response::Yes => 13,
         Response::No => 14,
         Response::Fail => 15,
         Response::Unsupported => 16,
+    }
+}
+
+// The number of the last word received.
+fn number_last(last: Last) -> usize {
+    match last {
+        Last::CommandOne(word) => number_one(word),
+        Last::CommandTwo(word) => number_two(word),
+        Last::Response(response) => number_response(response),
+        Last::Nothing => NO_NAME,
+    }
+}
+
+// The number of a refusal, 0 where there is none.
+fn number_verdict(verdict: Verdict) -> u8 {
+    match verdict {
+        Verdict::Accepted => 0,
+        Verdict::Refused(r) => refusal::number(r),
+    }
+}
+
+// The answer of a call that received.
+pub fn answer_received(received: Received) -> Answer {
+    let verdict = received.verdict;
+    let last = received.last;
+    Answer::Received(
+        number_verdict(verdict),
+        received.count,
+        number_last(last),
+        received.written,
+    )
+}
+
+// The answer of a call that is accepted with nothing to tell, or refused.
+pub fn answer_verdict(verdict: Verdict) -> Answer {
+    match verdict {
+        Verdict::Accepted => Answer::Accepted,
+        Verdict::Refused(r) => Answer::Refused(r),
     }
 }
 
@@ -98,45 +141,42 @@ pub fn print_answer(
     }
     match answer {
         Answer::Printed(next) => next,
-        Answer::Bad => print_numbered(b"bad line", number, out, at),
+        Answer::Bad => print_number(b"bad line", number, out, at),
         Answer::Missing => print_bytes(b"none\n", out, at),
-        Answer::Refused(r) => print_numbered(b"refused", refusal::number(r) as u64, out, at),
+        Answer::Refused(r) => print_number(b"refused", refusal::number(r) as u64, out, at),
         Answer::Accepted => print_bytes(b"ok\n", out, at),
-        Answer::Finding(k) => print_text(stanza::argument(&FINDINGS, k), out, at),
-        Answer::Number(n) => print_numbered(b"ok", n, out, at),
-        Answer::Text(n) => print_text(front(buffer, n), out, at),
-        Answer::Received(k, taken, n) => print_received(k, taken as u64, front(buffer, n), out, at),
+        Answer::Finding(k) => print_word(b"ok", stanza::argument(&FINDINGS, k), out, at),
+        Answer::Number(n) => print_number(b"ok", n, out, at),
+        Answer::Text(n) => print_word(b"ok", front(buffer, n), out, at),
+        Answer::Received(r, count, last, n) => {
+            print_received(r, count, last, front(buffer, n), out, at)
+        }
         Answer::Judged(judged) => print_judged(judged, out, at),
     }
 }
 
-// Some words and a number.
-fn print_numbered(words: &[u8], number: u64, out: &mut Output, at: usize) -> usize {
-    let a = print_bytes(words, out, at);
-    let b = print_number(number, out, a);
-    print_end(out, b)
-}
-
-// A byte string.
-pub fn print_text(bytes: &[u8], out: &mut Output, at: usize) -> usize {
-    let next = print_ok(out, at);
-    print_last(bytes, out, next)
-}
-
-// A command or a response that was received: the number of its word, how many bytes it took, and what was answered at once, or its body.
-fn print_received(k: usize, taken: u64, bytes: &[u8], out: &mut Output, at: usize) -> usize {
-    let a = print_ok(out, at);
-    let b = print_number(taken, out, a);
-    print_words(stanza::argument(&NAMES, k), bytes, out, b)
+// What was received: whether it was refused, how many stanzas were taken, the last one's word, and what was written.
+fn print_received(
+    refused: u8,
+    count: usize,
+    last: usize,
+    bytes: &[u8],
+    out: &mut Output,
+    at: usize,
+) -> usize {
+    let word = stanza::argument(&NAMES, last);
+    if refused == 0 {
+        return print_row(b"ok", count, word, bytes, b"", out, at);
+    }
+    let next = put_number(b"refused", refused as usize, out, at);
+    print_row(b"", count, word, bytes, b"", out, next)
 }
 
 // The judging program's verdict.
 fn print_judged(judged: Judged, out: &mut Output, at: usize) -> usize {
-    let a = print_ok(out, at);
-    let b = print_number(judged.recipients as u64, out, a);
-    let c = print_number(judged.identities as u64, out, b);
-    let d = print_number(judged.keys as u64, out, c);
-    let e = print_number(judged.headers as u64, out, d);
-    let f = print_number(judged.answer as u64, out, e);
-    print_end(out, f)
+    let a = put_number(b"ok", judged.recipients, out, at);
+    let b = put_number(b"", judged.identities, out, a);
+    let c = put_number(b"", judged.keys, out, b);
+    let d = put_number(b"", judged.headers, out, c);
+    print_number(b"", judged.answer as u64, out, d)
 }

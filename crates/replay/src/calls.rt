@@ -1,14 +1,18 @@
 // The calls that need no session, a function for each: it judges the words of the line and makes the call.
 use crate::answers::Answer;
 use crate::answers::answer_of;
+use crate::host::Host;
+use crate::host::Turn;
+use crate::host::answered;
 use crate::parts::Buffer;
 use crate::parts::LONGEST;
 use crate::parts::cut;
 use crate::parts::front;
 use crate::print::Output;
-use crate::print::print_number;
-use crate::print::print_ok;
-use crate::print::print_words;
+use crate::print::print_bytes;
+use crate::print::print_row;
+use crate::print::print_word;
+use crate::requests::Request;
 use crate::words::Words;
 use crate::words::last_word;
 use crate::words::word;
@@ -22,8 +26,26 @@ use stanza::First;
 use stanza::Index;
 use stanza::Stanza;
 
-// Makes the call of a line.
+// A line that needs no session, that no session takes, or that is no call.
 pub fn call_plain(
+    request: Request,
+    text: &[u8],
+    w: Words,
+    host: Host,
+    buffer: &mut Buffer,
+    out: &mut Output,
+    at: usize,
+) -> Turn {
+    let answer = match request {
+        Request::Plain(call) => call_words(call, text, w, buffer, out, at),
+        Request::Missing => Answer::Missing,
+        _ => Answer::Bad,
+    };
+    answered(answer, host)
+}
+
+// Makes a call that needs no session.
+fn call_words(
     call: Call,
     text: &[u8],
     w: Words,
@@ -100,10 +122,8 @@ fn print_stanza(
     let body = stanza::body_of(text, s, buffer);
     match body {
         Written::Bytes(n) => {
-            let a = print_ok(out, at);
-            let b = print_number(s.taken as u64, out, a);
             let line = stanza::arguments_of(text, s);
-            Answer::Printed(print_words(line, front(buffer, n), out, b))
+            Answer::Printed(print_row(b"ok", s.taken, line, front(buffer, n), b"", out, at))
         }
         Written::Refused(r) => Answer::Refused(r),
     }
@@ -193,8 +213,9 @@ fn print_reading(reading: ReadText, buffer: &[u8], out: &mut Output, at: usize) 
     let bytes = name.bytes;
     match answer {
         Written::Bytes(n) => {
-            let a = print_ok(out, at);
-            Answer::Printed(print_words(front(&bytes, name.length), front(buffer, n), out, a))
+            let next = print_bytes(b"ok ", out, at);
+            let a = print_bytes(front(&bytes, name.length), out, next);
+            Answer::Printed(print_word(b"", front(buffer, n), out, a))
         }
         Written::Refused(r) => Answer::Refused(r),
     }

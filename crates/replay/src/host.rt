@@ -7,6 +7,11 @@ pub type HeaderSlots = [[usize; 4]; Session::HEADER_STANZAS];
 
 pub type Slots = [[usize; 4]; Session::OTHER_SLOTS];
 
+// What each end keeps of its input.
+pub type ClientInput = [u8; Session::CLIENT_INPUT];
+
+pub type PluginInput = [u8; Session::PLUGIN_INPUT];
+
 // Which end is open.
 pub enum End {
     Nothing,

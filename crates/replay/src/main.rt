@@ -2,27 +2,29 @@
 // answered by its number, and the run goes on.
 mod answers;
 mod calls;
-mod first_phase;
+mod commands;
 mod host;
 mod lines;
 mod parts;
 mod print;
 mod requests;
 mod returned;
-mod second_phase;
 mod settings;
 mod show;
 mod turns;
 mod words;
 
 use answers::print_answer;
+use host::ClientInput;
 use host::HeaderSlots;
+use host::PluginInput;
 use host::Slots;
 use host::no_session;
 use lines::Line;
 use lines::advance;
 use lines::start;
 use parts::Buffer;
+use parts::Store;
 use parts::front;
 use print::Output;
 use print::flush;
@@ -30,37 +32,36 @@ use session::Session;
 use turns::make_call;
 use words::read_line;
 
-// The last seven buffers are those of the session's kinds.
+// The last four arrays are the stores of the session's buffers: recipients and errors, identities and returned stanzas, file keys and returned
+// keys, and header stanzas alone.
 fn main() {
     let mut chunk = io::large_buffer();
     let mut line = [0u8; 65537];
     let mut text = io::large_buffer();
     let mut buffer = io::large_buffer();
-    let mut out = [0u8; 131072];
+    let mut out = [0u8; 524288];
+    let mut client_input = [0u8; Session::CLIENT_INPUT];
+    let mut plugin_input = [0u8; Session::PLUGIN_INPUT];
     let mut slots = Session::open_slots();
     let mut header_slots = Session::open_header_slots();
-    let mut recipients = [0u8; 65536];
-    let mut identities = [0u8; 65536];
-    let mut keys = [0u8; 65536];
-    let mut headers = [0u8; 65536];
-    let mut errors = [0u8; 65536];
-    let mut stanzas = [0u8; 65536];
-    let mut returned = [0u8; 65536];
+    let mut recipients = [0u8; 131072];
+    let mut identities = [0u8; 131072];
+    let mut keys = [0u8; 131072];
+    let mut headers = [0u8; 131072];
     run(
         &mut chunk,
         &mut line,
         &mut text,
         &mut buffer,
         &mut out,
+        &mut client_input,
+        &mut plugin_input,
         &mut slots,
         &mut header_slots,
         &mut recipients,
         &mut identities,
         &mut keys,
         &mut headers,
-        &mut errors,
-        &mut stanzas,
-        &mut returned,
     );
 }
 
@@ -72,15 +73,14 @@ fn run(
     text: &mut Buffer,
     buffer: &mut Buffer,
     out: &mut Output,
+    client_input: &mut ClientInput,
+    plugin_input: &mut PluginInput,
     slots: &mut Slots,
     header_slots: &mut HeaderSlots,
-    recipients: &mut Buffer,
-    identities: &mut Buffer,
-    keys: &mut Buffer,
-    headers: &mut Buffer,
-    errors: &mut Buffer,
-    stanzas: &mut Buffer,
-    returned: &mut Buffer,
+    recipients: &mut Store,
+    identities: &mut Store,
+    keys: &mut Store,
+    headers: &mut Store,
 ) {
     let mut s = start();
     let mut host = no_session();
@@ -95,15 +95,14 @@ fn run(
             out,
             s.at,
             host,
+            client_input,
+            plugin_input,
             slots,
             header_slots,
             recipients,
             identities,
             keys,
             headers,
-            errors,
-            stanzas,
-            returned,
         );
         let answer = t.answer;
         s.at = print_answer(answer, w.skipped, s.lines, buffer, out, s.at);

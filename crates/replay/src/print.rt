@@ -1,19 +1,12 @@
-// Printing to a buffer of which the first `at` bytes are in use. Each function answers the next `at`; where its bytes do not fit behind
-// those in use, these are written to standard output first.
-ghost use Prim.Native.Nat.{_≤_};
-ghost use lib.ListN.{length};
-use crate::parts::append;
+// The output buffer, of which the first `at` bytes are in use, written to standard output before a piece might not fit behind them.
 use crate::parts::front;
-use crate::parts::least;
 use libc::STDERR_FILENO;
 use libc::STDOUT_FILENO;
-use refusal::Written;
 
-// The output buffer.
-pub type Output = [u8; 131072];
+// The longest piece, 65,536 bytes with four for each, fits behind the bytes that may be in use when its line is begun.
+pub type Output = [u8; 524288];
 
-// A byte string is printed in pieces of this many bytes, each of which is printed by at most four.
-const PIECE: usize = 16384;
+const MOST_USED: usize = 131072;
 
 // Writes the first `at` bytes to standard output.
 pub fn flush(out: &[u8], at: usize) {
@@ -22,14 +15,10 @@ pub fn flush(out: &[u8], at: usize) {
     }
 }
 
-// Where n more bytes go.
-fn make_space(out: &[u8], at: usize, n: usize) -> usize
-    ensures { λ r. ⌜ r ≤ length (now (out .entry)) ⌝ }
-{
-    if at <= out.len() {
-        if n <= out.len() - at {
-            return at;
-        }
+// Where the next piece goes.
+fn make_space(out: &[u8], at: usize) -> usize {
+    if at <= MOST_USED {
+        return at;
     }
     flush(out, at);
     0
@@ -37,67 +26,38 @@ fn make_space(out: &[u8], at: usize, n: usize) -> usize
 
 // Some bytes as they are.
 pub fn print_bytes(bytes: &[u8], out: &mut Output, at: usize) -> usize {
-    let from = make_space(out, at, bytes.len());
-    append(bytes, out, from)
+    let from = make_space(out, at);
+    printing::put(bytes, out, from)
 }
 
-// A number in decimal.
-pub fn print_decimal(n: u64, out: &mut Output, at: usize) -> usize {
-    let mut text = [0u8; 20];
-    let k = io::decimal(n, &mut text);
-    print_bytes(&text[..k], out, at)
+// Some bytes, and a number at the end of the line.
+pub fn print_number(head: &[u8], n: u64, out: &mut Output, at: usize) -> usize {
+    let from = make_space(out, at);
+    printing::print_number(head, n, out, from)
 }
 
-// A space and a number.
-pub fn print_number(n: u64, out: &mut Output, at: usize) -> usize {
-    let next = print_bytes(b" ", out, at);
-    print_decimal(n, out, next)
+// Some bytes, and a word at the end of the line.
+pub fn print_word(head: &[u8], word: &[u8], out: &mut Output, at: usize) -> usize {
+    let from = make_space(out, at);
+    printing::print_word(head, word, out, from)
 }
 
-// A piece of a byte string with its escapes; it is not empty.
-fn print_piece(piece: &[u8], out: &mut [u8], at: usize) -> usize {
-    let from = make_space(out, at, 4 * PIECE);
-    let w = script::escape(piece, &mut out[from..]);
-    match w {
-        Written::Bytes(n) => from + n,
-        Written::Refused(_) => from,
-    }
+// A line that begins with some bytes and a number, as that of an entry of a table.
+pub fn print_row(
+    head: &[u8],
+    n: usize,
+    second: &[u8],
+    payload: &[u8],
+    tail: &[u8],
+    out: &mut Output,
+    at: usize,
+) -> usize {
+    let from = make_space(out, at);
+    printing::print_row(head, n as u64, second, payload, tail, out, from)
 }
 
-// A space and a byte string as a word.
-pub fn print_word(bytes: &[u8], out: &mut Output, at: usize) -> usize {
-    if bytes.len() == 0 {
-        return print_bytes(b" \\e", out, at);
-    }
-    let mut next = print_bytes(b" ", out, at);
-    let mut i: usize = 0;
-    while i < bytes.len() {
-        let n = least(PIECE, bytes.len() - i);
-        let end = i + n;
-        next = print_piece(&bytes[i..end], out, next);
-        i = end;
-    }
-    next
-}
-
-// "ok".
-pub fn print_ok(out: &mut Output, at: usize) -> usize {
-    print_bytes(b"ok", out, at)
-}
-
-// The end of a line.
-pub fn print_end(out: &mut Output, at: usize) -> usize {
-    print_bytes(b"\n", out, at)
-}
-
-// The last word of a line.
-pub fn print_last(bytes: &[u8], out: &mut Output, at: usize) -> usize {
-    let next = print_word(bytes, out, at);
-    print_end(out, next)
-}
-
-// The last two words of a line.
-pub fn print_words(first: &[u8], second: &[u8], out: &mut Output, at: usize) -> usize {
-    let next = print_word(first, out, at);
-    print_last(second, out, next)
+// Some bytes, a space and a number.
+pub fn put_number(head: &[u8], n: usize, out: &mut [u8], at: usize) -> usize {
+    let next = printing::put(head, out, at);
+    printing::put_number(n as u64, out, next)
 }

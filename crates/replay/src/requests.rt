@@ -11,32 +11,37 @@ use script::KindChoice;
 use script::Number;
 use script::ReplyChoice;
 
-// A call that needs no session; one that opens a session or sets the lengths of its buffers; one of phase one or of phase two; an entry by
-// kind and number; all tables; one that no open session takes; or no call.
+// A call that needs no session; one that opens a session or sets the lengths of its buffers; one that keeps what phase one or phase two says,
+// lent an output buffer of some length; one that looks into the session; one that no open session takes; or no call.
 pub enum Request {
     Plain(Call),
     Setting(Call),
-    PhaseOne(TalkOne),
-    PhaseTwo(TalkTwo),
-    Entry(TextKind, usize),
-    Show,
+    PhaseOne(TalkOne, usize),
+    PhaseTwo(TalkTwo, usize),
+    Look(Look),
     Missing,
     Bad,
 }
 
-// The client end sends, lent an output buffer of some length, or the plugin end receives.
+// An entry by kind and number, all tables, the text that awaits an answer, or the end of the input.
+pub enum Look {
+    Entry(TextKind, usize),
+    Show,
+    Awaited,
+    Finish,
+}
+
+// The client end sends, or the plugin end receives a chunk.
 pub enum TalkOne {
-    Send(usize),
+    Send,
     Receive,
 }
 
-// The plugin end sends, the client end receives, the client's host replies, or the plugin end receives a response, each lent an output
-// buffer of some length.
+// The plugin end sends, the client end receives a chunk, or its host replies.
 pub enum TalkTwo {
-    Send(usize),
-    Receive(usize),
-    Reply(Response, usize),
-    Response(usize),
+    Send,
+    Receive,
+    Reply(Response),
 }
 
 // What a line asks for, by its words and by the end that is open.
@@ -46,11 +51,12 @@ pub fn read_request(end: End, text: &[u8], w: Words) -> Request {
         Call::Open => Request::Setting(call),
         Call::Buffers => Request::Setting(call),
         Call::Send => send_at(end, read_out(5, text, w)),
-        Call::Receive => receive_at(end, read_out(3, text, w)),
-        Call::Response => response_at(end, read_out(3, text, w)),
-        Call::Reply => reply_at(end, read_reply(text, w)),
-        Call::Entry => look_at(end, read_entry(text, w)),
-        Call::Show => look_at(end, read_show(w)),
+        Call::Chunk => receive_at(end, read_out(3, text, w)),
+        Call::Reply => client_at(end, read_reply(text, w)),
+        Call::Awaited => client_at(end, read_alone(Look::Awaited, w)),
+        Call::Finish => session_at(end, read_alone(Look::Finish, w)),
+        Call::Entry => session_at(end, read_entry(text, w)),
+        Call::Show => session_at(end, read_alone(Look::Show, w)),
         _ => Request::Plain(call),
     }
 }
@@ -70,31 +76,20 @@ fn send_at(end: End, out: Number) -> Request {
     };
     match end {
         End::Nothing => Request::Missing,
-        End::Client => Request::PhaseOne(TalkOne::Send(n as usize)),
-        End::Plugin => Request::PhaseTwo(TalkTwo::Send(n as usize)),
+        End::Client => Request::PhaseOne(TalkOne::Send, n as usize),
+        End::Plugin => Request::PhaseTwo(TalkTwo::Send, n as usize),
     }
 }
 
-// receive TEXT OUT: each end receives in the other's phase.
+// chunk BYTES OUT
 fn receive_at(end: End, out: Number) -> Request {
     let Number::Value(n) = out else {
         return Request::Bad;
     };
     match end {
         End::Nothing => Request::Missing,
-        End::Client => Request::PhaseTwo(TalkTwo::Receive(n as usize)),
-        End::Plugin => Request::PhaseOne(TalkOne::Receive),
-    }
-}
-
-// response TEXT OUT, which the client end does not have
-fn response_at(end: End, out: Number) -> Request {
-    let Number::Value(n) = out else {
-        return Request::Bad;
-    };
-    match end {
-        End::Plugin => Request::PhaseTwo(TalkTwo::Response(n as usize)),
-        _ => Request::Missing,
+        End::Client => Request::PhaseTwo(TalkTwo::Receive, n as usize),
+        End::Plugin => Request::PhaseOne(TalkOne::Receive, n as usize),
     }
 }
 
@@ -107,24 +102,24 @@ fn read_reply(text: &[u8], w: Words) -> Request {
     let n = v as usize;
     let reply = script::choose_reply(word(text, w, 1));
     match reply {
-        ReplyChoice::Ok => Request::PhaseTwo(TalkTwo::Reply(Response::Ok, n)),
-        ReplyChoice::Yes => Request::PhaseTwo(TalkTwo::Reply(Response::Yes, n)),
-        ReplyChoice::No => Request::PhaseTwo(TalkTwo::Reply(Response::No, n)),
-        ReplyChoice::Fail => Request::PhaseTwo(TalkTwo::Reply(Response::Fail, n)),
-        ReplyChoice::Unsupported => Request::PhaseTwo(TalkTwo::Reply(Response::Unsupported, n)),
+        ReplyChoice::Ok => Request::PhaseTwo(TalkTwo::Reply(Response::Ok), n),
+        ReplyChoice::Yes => Request::PhaseTwo(TalkTwo::Reply(Response::Yes), n),
+        ReplyChoice::No => Request::PhaseTwo(TalkTwo::Reply(Response::No), n),
+        ReplyChoice::Fail => Request::PhaseTwo(TalkTwo::Reply(Response::Fail), n),
+        ReplyChoice::Unsupported => Request::PhaseTwo(TalkTwo::Reply(Response::Unsupported), n),
         ReplyChoice::Other => Request::Bad,
     }
 }
 
-// A reply at the end that is open; the plugin end does not have it.
-fn reply_at(end: End, request: Request) -> Request {
-    let Request::PhaseTwo(reply) = request else {
-        return request;
-    };
-    match end {
-        End::Client => Request::PhaseTwo(reply),
-        _ => Request::Missing,
+// A call that the client end alone has.
+fn client_at(end: End, request: Request) -> Request {
+    if let Request::Bad = request {
+        return Request::Bad;
     }
+    if let End::Client = end {
+        return request;
+    }
+    Request::Missing
 }
 
 // entry recipient N, entry identity N
@@ -138,22 +133,22 @@ fn read_entry(text: &[u8], w: Words) -> Request {
     };
     let kind = script::choose_kind(word(text, w, 1));
     match kind {
-        KindChoice::Recipient => Request::Entry(TextKind::Recipient, n as usize),
-        KindChoice::Identity => Request::Entry(TextKind::Identity, n as usize),
+        KindChoice::Recipient => Request::Look(Look::Entry(TextKind::Recipient, n as usize)),
+        KindChoice::Identity => Request::Look(Look::Entry(TextKind::Identity, n as usize)),
         KindChoice::Other => Request::Bad,
     }
 }
 
-// show
-fn read_show(w: Words) -> Request {
+// show, awaited, finish
+fn read_alone(look: Look, w: Words) -> Request {
     if w.count != 1 {
         return Request::Bad;
     }
-    Request::Show
+    Request::Look(look)
 }
 
-// A look at the end that is open.
-fn look_at(end: End, request: Request) -> Request {
+// A call that both ends have.
+fn session_at(end: End, request: Request) -> Request {
     if let Request::Bad = request {
         return Request::Bad;
     }

@@ -1,14 +1,11 @@
 // What `show` prints of phase two, by the library's look-ups: the errors, and the stanzas and keys that were returned, file by file.
 use crate::host::HeaderSlots;
-use crate::host::Lengths;
 use crate::host::Slots;
-use crate::parts::Buffer;
+use crate::parts::append;
 use crate::parts::front;
 use crate::print::Output;
-use crate::print::print_bytes;
-use crate::print::print_decimal;
-use crate::print::print_last;
-use crate::print::print_number;
+use crate::print::print_row;
+use crate::print::put_number;
 use look_up::ErrorNamed;
 use session::Kind;
 use session::Session;
@@ -18,40 +15,8 @@ use tables::Found;
 // No file has this number: a file's has 32 bits.
 const NO_FILE: usize = usize::MAX;
 
-// The tables of phase two.
-pub fn print_returned(
-    tables: Tables,
-    lengths: Lengths,
-    slots: &Slots,
-    header_slots: &HeaderSlots,
-    errors: &Buffer,
-    stanzas: &Buffer,
-    returned: &Buffer,
-    out: &mut Output,
-    at: usize,
-) -> usize {
-    let a = print_errors(
-        tables,
-        slots,
-        header_slots,
-        front(errors, lengths.errors),
-        out,
-        at,
-    );
-    let b = print_stanzas(tables, slots, front(stanzas, lengths.stanzas), out, a);
-    let c = print_keys(
-        tables,
-        slots,
-        header_slots,
-        front(returned, lengths.returned),
-        out,
-        b,
-    );
-    print_bytes(b"end\n", out, c)
-}
-
 // The errors.
-fn print_errors(
+pub fn print_errors(
     tables: Tables,
     slots: &Slots,
     header_slots: &HeaderSlots,
@@ -78,35 +43,27 @@ fn print_errors(
 
 // The line of an error.
 fn print_error(n: usize, named: ErrorNamed, message: &[u8], out: &mut Output, at: usize) -> usize {
-    let a = print_bytes(b"error", out, at);
-    let b = print_number(n as u64, out, a);
-    let c = print_named(named, out, b);
-    print_last(message, out, c)
+    let mut what = [0u8; 64];
+    let k = put_named(named, &mut what);
+    print_row(b"error", n, front(&what, k), message, b"", out, at)
 }
 
 // What an error names, as one word: its kind, the file of a header stanza, and the index.
-fn print_named(named: ErrorNamed, out: &mut Output, at: usize) -> usize {
+fn put_named(named: ErrorNamed, what: &mut [u8]) -> usize {
     match named {
-        ErrorNamed::Internal => print_bytes(b" internal", out, at),
-        ErrorNamed::Identity(i) => print_index(b" identity", i, out, at),
-        ErrorNamed::Recipient(i) => print_index(b" recipient", i, out, at),
+        ErrorNamed::Internal => append(b"internal", what, 0),
+        ErrorNamed::Identity(i) => put_number(b"identity", i, what, 0),
+        ErrorNamed::Recipient(i) => put_number(b"recipient", i, what, 0),
         ErrorNamed::Header(file, i) => {
-            let next = print_index(b" stanza", file, out, at);
-            print_index(b"", i, out, next)
+            let next = put_number(b"stanza", file, what, 0);
+            put_number(b"", i, what, next)
         }
-        ErrorNamed::Nothing => print_bytes(b" -", out, at),
+        ErrorNamed::Nothing => append(b"-", what, 0),
     }
 }
 
-// Some bytes, an escaped space and an index.
-fn print_index(bytes: &[u8], index: usize, out: &mut Output, at: usize) -> usize {
-    let a = print_bytes(bytes, out, at);
-    let b = print_bytes(b"\\s", out, a);
-    print_decimal(index as u64, out, b)
-}
-
 // The stanzas of each file; the files are those of the file keys.
-fn print_stanzas(
+pub fn print_stanzas(
     tables: Tables,
     slots: &Slots,
     stanzas: &[u8],
@@ -150,14 +107,13 @@ fn print_file(
 
 // The line of a stanza.
 fn print_stanza(file: usize, k: usize, payload: &[u8], out: &mut Output, at: usize) -> usize {
-    let a = print_bytes(b"stanza", out, at);
-    let b = print_number(file as u64, out, a);
-    let c = print_number(k as u64, out, b);
-    print_last(payload, out, c)
+    let mut text = [0u8; 20];
+    let n = io::decimal(k as u64, &mut text);
+    print_row(b"stanza", file, &text[..n], payload, b"", out, at)
 }
 
 // The key of each file; the files are those that header stanzas name, whose numbers never fall.
-fn print_keys(
+pub fn print_keys(
     tables: Tables,
     slots: &Slots,
     header_slots: &HeaderSlots,
@@ -192,9 +148,8 @@ fn print_key(
     at: usize,
 ) -> usize {
     if due & look_up::has_key(tables, file, slots) {
-        let a = print_bytes(b"key", out, at);
-        let b = print_number(file as u64, out, a);
-        return print_last(look_up::key_of(tables, file, slots, returned), out, b);
+        let payload = look_up::key_of(tables, file, slots, returned);
+        return print_row(b"key", file, b"", payload, b"", out, at);
     }
     at
 }

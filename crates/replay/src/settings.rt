@@ -5,9 +5,9 @@ use crate::host::Host;
 use crate::host::Lengths;
 use crate::host::Turn;
 use crate::host::lengths_of;
-use crate::parts::Buffer;
 use crate::parts::LONGEST;
-use crate::parts::clear;
+use crate::parts::Store;
+use crate::parts::clear_store;
 use crate::words::Words;
 use crate::words::word;
 use refusal::Verdict;
@@ -31,36 +31,23 @@ enum Given {
     Bad,
 }
 
-// The session that a line opens, if its words are good.
-enum Opens {
-    Client(ScreenChoice),
-    Plugin,
-    Bad,
-}
-
 // A line that opens a session or sets the lengths of its buffers.
 pub fn set(
     call: Call,
     text: &[u8],
     w: Words,
     host: Host,
-    recipients: &mut Buffer,
-    identities: &mut Buffer,
-    keys: &mut Buffer,
-    headers: &mut Buffer,
-    errors: &mut Buffer,
-    stanzas: &mut Buffer,
-    returned: &mut Buffer,
+    recipients: &mut Store,
+    identities: &mut Store,
+    keys: &mut Store,
+    headers: &mut Store,
 ) -> Turn {
     let s = set_host(call, text, w, host);
     let kept = s.kept;
-    clear(recipients, kept.recipients);
-    clear(identities, kept.identities);
-    clear(keys, kept.keys);
-    clear(headers, kept.headers);
-    clear(errors, kept.errors);
-    clear(stanzas, kept.stanzas);
-    clear(returned, kept.returned);
+    clear_store(recipients, kept.recipients, kept.errors);
+    clear_store(identities, kept.identities, kept.stanzas);
+    clear_store(keys, kept.keys, kept.returned);
+    clear_store(headers, kept.headers, 0);
     let answer = s.answer;
     let after = s.host;
     Turn {
@@ -126,66 +113,40 @@ fn set_lengths(count: usize, given: Lengths, mut host: Host) -> Setting {
 
 // open client .., open plugin ..
 fn open(text: &[u8], w: Words, given: Lengths, host: Host) -> Setting {
-    let opens = read_opening(text, w);
-    if let Opens::Bad = opens {
-        return unchanged(Answer::Bad, host);
-    }
-    let opening = open_session(opens, word(text, w, 2), word(text, w, 3));
-    opened(end_of(opens), opening, given, host)
-}
-
-// open client MACHINE NAME SCREEN R I K H E S F, open plugin MACHINE NAME R I K H E S F
-fn read_opening(text: &[u8], w: Words) -> Opens {
     let end = script::choose_end(word(text, w, 1));
     match end {
-        EndChoice::Client => {
-            if w.count != 12 {
-                return Opens::Bad;
-            }
-            screen_opening(script::choose_screen(word(text, w, 4)))
-        }
-        EndChoice::Plugin => {
-            if w.count != 11 {
-                return Opens::Bad;
-            }
-            Opens::Plugin
-        }
-        EndChoice::Other => Opens::Bad,
+        EndChoice::Client => open_client(text, w, given, host),
+        EndChoice::Plugin => open_plugin(text, w, given, host),
+        EndChoice::Other => unchanged(Answer::Bad, host),
     }
 }
 
-// The client end is told of a screen, or left to its default.
-fn screen_opening(screen: ScreenChoice) -> Opens {
-    if let ScreenChoice::Other = screen {
-        return Opens::Bad;
+// open client MACHINE NAME SCREEN R I K H E S F: the client end is told of a screen, or left to its default.
+fn open_client(text: &[u8], w: Words, given: Lengths, host: Host) -> Setting {
+    if w.count != 12 {
+        return unchanged(Answer::Bad, host);
     }
-    Opens::Client(screen)
-}
-
-// The end that is opened.
-fn end_of(opens: Opens) -> End {
-    match opens {
-        Opens::Client(_) => End::Client,
-        Opens::Plugin => End::Plugin,
-        Opens::Bad => End::Nothing,
-    }
-}
-
-// A session of either end.
-fn open_session(opens: Opens, machine: &[u8], name: &[u8]) -> Opening {
-    match opens {
-        Opens::Client(screen) => open_client(screen, machine, name),
-        _ => Session::open_plugin(machine, name),
-    }
-}
-
-// A session of the client end.
-fn open_client(screen: ScreenChoice, machine: &[u8], name: &[u8]) -> Opening {
-    match screen {
+    let machine = word(text, w, 2);
+    let name = word(text, w, 3);
+    let screen = script::choose_screen(word(text, w, 4));
+    let opening = match screen {
         ScreenChoice::Shown => Session::open_with(machine, name, true),
         ScreenChoice::Missing => Session::open_with(machine, name, false),
-        _ => Session::open(machine, name),
+        ScreenChoice::Default => Session::open(machine, name),
+        ScreenChoice::Other => {
+            return unchanged(Answer::Bad, host);
+        }
+    };
+    opened(End::Client, opening, given, host)
+}
+
+// open plugin MACHINE NAME R I K H E S F
+fn open_plugin(text: &[u8], w: Words, given: Lengths, host: Host) -> Setting {
+    if w.count != 11 {
+        return unchanged(Answer::Bad, host);
     }
+    let opening = Session::open_plugin(word(text, w, 2), word(text, w, 3));
+    opened(End::Plugin, opening, given, host)
 }
 
 // What an opening came to. The buffers of a session that is opened are zeros.

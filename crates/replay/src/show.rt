@@ -1,21 +1,26 @@
 // What the lines `entry` and `show` print: texts and tables as the buffers lent now show them; those of phase two have a file of their own.
 use crate::answers::Answer;
 use crate::answers::NAMES;
+use crate::answers::NO_NAME;
+use crate::answers::answer_verdict;
 use crate::answers::number_two;
-use crate::answers::print_text;
+use crate::host::ClientInput;
 use crate::host::HeaderSlots;
 use crate::host::Host;
-use crate::host::Lengths;
 use crate::host::Slots;
-use crate::parts::Buffer;
+use crate::host::Turn;
+use crate::host::answered;
 use crate::parts::front;
 use crate::parts::least;
+use crate::parts::rear;
 use crate::print::Output;
 use crate::print::print_bytes;
-use crate::print::print_end;
-use crate::print::print_number;
+use crate::print::print_row;
 use crate::print::print_word;
-use crate::returned::print_returned;
+use crate::requests::Look;
+use crate::returned::print_errors;
+use crate::returned::print_keys;
+use crate::returned::print_stanzas;
 use bech32::TextKind;
 use look_up::Awaited;
 use session::Kind;
@@ -32,93 +37,131 @@ const KINDS: [u8; 34] = *b"recipient identity file-key header";
 
 const MARKS: [u8; 46] = *b"valid invalid conforming nonconforming unknown";
 
+// No mark has this number.
+const NO_MARK: usize = 5;
+
 // The kinds that are told by their numbers: a file key has no mark, and a header stanza has an index.
 const FILE_KEY: usize = 2;
 
 const HEADER: usize = 3;
 
+// A line that looks into a session.
+pub fn look<'a>(
+    what: Look,
+    host: Host,
+    input: &ClientInput,
+    slots: &Slots,
+    header_slots: &HeaderSlots,
+    recipients: &'a [u8],
+    identities: &'a [u8],
+    keys: &[u8],
+    headers: &[u8],
+    out: &mut Output,
+    at: usize,
+) -> Turn {
+    let answer = match what {
+        Look::Entry(kind, n) => {
+            Answer::Printed(look_up_entry(kind, n, host, slots, recipients, identities, out, at))
+        }
+        Look::Awaited => {
+            Answer::Printed(print_word(b"ok", awaited::awaited_text(host.session, input), out, at))
+        }
+        Look::Show => Answer::Printed(show(
+            host,
+            slots,
+            header_slots,
+            recipients,
+            identities,
+            keys,
+            headers,
+            out,
+            at,
+        )),
+        Look::Finish => answer_verdict(intake::finish(host.session)),
+    };
+    answered(answer, host)
+}
+
 // entry recipient N, entry identity N
-pub fn look_up<'a>(
+fn look_up_entry<'a>(
     kind: TextKind,
     n: usize,
     host: Host,
     slots: &Slots,
-    recipients: &'a Buffer,
-    identities: &'a Buffer,
+    recipients: &'a [u8],
+    identities: &'a [u8],
     out: &mut Output,
     at: usize,
-) -> Answer {
+) -> usize {
     let lengths = host.lengths;
     let session = host.session;
     let r = front(recipients, lengths.recipients);
     let i = front(identities, lengths.identities);
-    Answer::Printed(print_text(
+    print_word(
+        b"ok",
         look_up::entry(session.tables, kind, n, slots, r, i),
         out,
         at,
-    ))
+    )
 }
 
-// show
-pub fn show(
+// show: the phase, then the tables, of which each store shows two
+fn show(
     host: Host,
     slots: &Slots,
     header_slots: &HeaderSlots,
-    recipients: &Buffer,
-    identities: &Buffer,
-    keys: &Buffer,
-    headers: &Buffer,
-    errors: &Buffer,
-    stanzas: &Buffer,
-    returned: &Buffer,
+    recipients: &[u8],
+    identities: &[u8],
+    keys: &[u8],
+    headers: &[u8],
     out: &mut Output,
     at: usize,
-) -> Answer {
+) -> usize {
     let lengths = host.lengths;
     let session = host.session;
-    let phase = session.phase;
     let tables = session.tables;
+    let r = front(recipients, lengths.recipients);
+    let i = front(identities, lengths.identities);
+    let k = front(keys, lengths.keys);
+    let h = front(headers, lengths.headers);
+    let e = rear(recipients, lengths.errors);
+    let s = rear(identities, lengths.stanzas);
+    let f = rear(keys, lengths.returned);
+    let phase = session.phase;
     let a = print_phase(phase, out, at);
-    let b = print_given(
+    let b = print_table(0, Kind::Recipients, tables, slots, header_slots, r, out, a);
+    let c = print_table(1, Kind::Identities, tables, slots, header_slots, i, out, b);
+    let d = print_table(FILE_KEY, Kind::Keys, tables, slots, header_slots, k, out, c);
+    let j = print_table(
+        HEADER,
+        Kind::Headers,
         tables,
-        lengths,
         slots,
         header_slots,
-        recipients,
-        identities,
-        keys,
-        headers,
+        h,
         out,
-        a,
+        d,
     );
-    Answer::Printed(print_returned(
-        tables,
-        lengths,
-        slots,
-        header_slots,
-        errors,
-        stanzas,
-        returned,
-        out,
-        b,
-    ))
+    let l = print_errors(tables, slots, header_slots, e, out, j);
+    let m = print_stanzas(tables, slots, s, out, l);
+    let n = print_keys(tables, slots, header_slots, f, out, m);
+    print_bytes(b"end\n", out, n)
 }
 
 // The lines of the phase, and of the command that awaits an answer.
 fn print_phase(phase: Phase, out: &mut Output, at: usize) -> usize {
-    let a = print_bytes(b"phase", out, at);
-    let b = print_word(stanza::argument(&PHASES, phase_number(phase)), out, a);
-    let c = print_bytes(b"\nawaits", out, b);
-    let d = print_awaited(phase, out, c);
-    print_end(out, d)
+    let word = stanza::argument(&PHASES, phase_number(phase));
+    let next = print_word(b"phase", word, out, at);
+    let waiting = stanza::argument(&NAMES, number_awaited(phase));
+    print_word(b"awaits", waiting, out, next)
 }
 
-// The word of the command that awaits an answer.
-fn print_awaited(phase: Phase, out: &mut Output, at: usize) -> usize {
+// The number of the word of the command that awaits an answer.
+fn number_awaited(phase: Phase) -> usize {
     let awaited = look_up::awaited_command(phase);
     match awaited {
-        Awaited::Command(word) => print_word(stanza::argument(&NAMES, number_two(word)), out, at),
-        Awaited::Nothing => print_bytes(b" -", out, at),
+        Awaited::Command(word) => number_two(word),
+        Awaited::Nothing => NO_NAME,
     }
 }
 
@@ -131,38 +174,6 @@ fn phase_number(phase: Phase) -> usize {
         Phase::Ended => 2,
         Phase::Closed => 3,
     }
-}
-
-// The tables of phase one.
-fn print_given(
-    tables: Tables,
-    lengths: Lengths,
-    slots: &Slots,
-    header_slots: &HeaderSlots,
-    recipients: &Buffer,
-    identities: &Buffer,
-    keys: &Buffer,
-    headers: &Buffer,
-    out: &mut Output,
-    at: usize,
-) -> usize {
-    let r = front(recipients, lengths.recipients);
-    let i = front(identities, lengths.identities);
-    let k = front(keys, lengths.keys);
-    let h = front(headers, lengths.headers);
-    let a = print_table(0, Kind::Recipients, tables, slots, header_slots, r, out, at);
-    let b = print_table(1, Kind::Identities, tables, slots, header_slots, i, out, a);
-    let c = print_table(FILE_KEY, Kind::Keys, tables, slots, header_slots, k, out, b);
-    print_table(
-        HEADER,
-        Kind::Headers,
-        tables,
-        slots,
-        header_slots,
-        h,
-        out,
-        c,
-    )
 }
 
 // The entries of a kind of phase one: none has more slots than the header stanzas.
@@ -202,32 +213,21 @@ fn print_slot(
     out: &mut Output,
     at: usize,
 ) -> usize {
-    let a = print_bytes(stanza::argument(&KINDS, kind), out, at);
-    let b = print_number(n as u64, out, a);
-    let c = print_index(kind, e.index, out, b);
-    let d = print_word(payload, out, c);
-    let f = print_mark(kind, e.mark, out, d);
-    print_end(out, f)
-}
-
-// The index of a header stanza.
-fn print_index(kind: usize, index: usize, out: &mut Output, at: usize) -> usize {
-    if kind == HEADER {
-        return print_number(index as u64, out, at);
+    let mark = stanza::argument(&MARKS, mark_number(kind, e.mark));
+    let head = stanza::argument(&KINDS, kind);
+    if kind != HEADER {
+        return print_row(head, n, b"", payload, mark, out, at);
     }
-    at
+    let mut text = [0u8; 20];
+    let k = io::decimal(e.index as u64, &mut text);
+    print_row(head, n, &text[..k], payload, mark, out, at)
 }
 
-// The mark of an entry, if its kind has marks.
-fn print_mark(kind: usize, mark: usize, out: &mut Output, at: usize) -> usize {
-    if kind == FILE_KEY {
-        return at;
-    }
-    print_word(stanza::argument(&MARKS, mark_number(kind, mark)), out, at)
-}
-
-// The number of a mark's word: a recipient or an identity is valid where its mark is 0; a header stanza's mark is 0, 1 or 2.
+// The number of a mark's word: a recipient or an identity is valid where its mark is 0; a header stanza's mark is 0, 1 or 2; a file key's is no word.
 fn mark_number(kind: usize, mark: usize) -> usize {
+    if kind == FILE_KEY {
+        return NO_MARK;
+    }
     if kind == HEADER {
         return 2 + least(2, mark);
     }

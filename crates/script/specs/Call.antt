@@ -3,7 +3,7 @@ use Prim.Native.Nat.{ℕ}
 use mathlib.Core.List.{List, [], _∷_}
 use Rattle.script.specs.Choice.{recipientWord, identityWord}
 use Rattle.script.specs.declared.calls.Call.{Call}
-use Rattle.script.specs.declared.calls.Call.the-variants.{Stanza, Write, Index, Checksum, Recipient, Identity, WriteRecipient, WriteIdentity, Profile, Judge, Open, Buffers, Send, Receive, Response, Reply, Entry, Show, Other}
+use Rattle.script.specs.declared.calls.Call.the-variants.{Stanza, Write, Index, Checksum, Recipient, Identity, WriteRecipient, WriteIdentity, Profile, Judge, Open, Buffers, Send, Chunk, Reply, Awaited, Finish, Entry, Show, Other}
 
 -- "stanza"
 abbrev pub stanzaWord : List ℕ
@@ -49,17 +49,21 @@ buffersWord = 98 ∷ 117 ∷ 102 ∷ 102 ∷ 101 ∷ 114 ∷ 115 ∷ []
 abbrev pub sendWord : List ℕ
 sendWord = 115 ∷ 101 ∷ 110 ∷ 100 ∷ []
 
--- "receive"
-abbrev pub receiveWord : List ℕ
-receiveWord = 114 ∷ 101 ∷ 99 ∷ 101 ∷ 105 ∷ 118 ∷ 101 ∷ []
-
--- "response"
-abbrev pub responseWord : List ℕ
-responseWord = 114 ∷ 101 ∷ 115 ∷ 112 ∷ 111 ∷ 110 ∷ 115 ∷ 101 ∷ []
+-- "chunk"
+abbrev pub chunkWord : List ℕ
+chunkWord = 99 ∷ 104 ∷ 117 ∷ 110 ∷ 107 ∷ []
 
 -- "reply"
 abbrev pub replyWord : List ℕ
 replyWord = 114 ∷ 101 ∷ 112 ∷ 108 ∷ 121 ∷ []
+
+-- "awaited"
+abbrev pub awaitedWord : List ℕ
+awaitedWord = 97 ∷ 119 ∷ 97 ∷ 105 ∷ 116 ∷ 101 ∷ 100 ∷ []
+
+-- "finish"
+abbrev pub finishWord : List ℕ
+finishWord = 102 ∷ 105 ∷ 110 ∷ 105 ∷ 115 ∷ 104 ∷ []
 
 -- "entry"
 abbrev pub entryWord : List ℕ
@@ -71,7 +75,7 @@ showWord = 115 ∷ 104 ∷ 111 ∷ 119 ∷ []
 
 -- all of them
 abbrev pub callWords : List (List ℕ)
-callWords = stanzaWord ∷ writeWord ∷ indexWord ∷ checksumWord ∷ recipientWord ∷ identityWord ∷ writeRecipientWord ∷ writeIdentityWord ∷ profileWord ∷ judgeWord ∷ openWord ∷ buffersWord ∷ sendWord ∷ receiveWord ∷ responseWord ∷ replyWord ∷ entryWord ∷ showWord ∷ []
+callWords = stanzaWord ∷ writeWord ∷ indexWord ∷ checksumWord ∷ recipientWord ∷ identityWord ∷ writeRecipientWord ∷ writeIdentityWord ∷ profileWord ∷ judgeWord ∷ openWord ∷ buffersWord ∷ sendWord ∷ chunkWord ∷ replyWord ∷ awaitedWord ∷ finishWord ∷ entryWord ∷ showWord ∷ []
 
 -- the number of the code's answer
 abbrev pub callSaid : Call → ℕ
@@ -88,9 +92,10 @@ callSaid Judge = 9
 callSaid Open = 10
 callSaid Buffers = 11
 callSaid Send = 12
-callSaid Receive = 13
-callSaid Response = 14
-callSaid Reply = 15
-callSaid Entry = 16
-callSaid Show = 17
-callSaid Other = 18
+callSaid Chunk = 13
+callSaid Reply = 14
+callSaid Awaited = 15
+callSaid Finish = 16
+callSaid Entry = 17
+callSaid Show = 18
+callSaid Other = 19

@@ -19,17 +19,18 @@ pub enum Call {
     Open,
     Buffers,
     Send,
-    Receive,
-    Response,
+    Chunk,
     Reply,
+    Awaited,
+    Finish,
     Entry,
     Show,
     Other,
 }
 
 // The words of the calls, which number them.
-const WORDS: [u8; 143] =
-    *b"stanza write index checksum recipient identity write-recipient write-identity profile judge open buffers send receive response reply entry show";
+const WORDS: [u8; 147] =
+    *b"stanza write index checksum recipient identity write-recipient write-identity profile judge open buffers send chunk reply awaited finish entry show";
 
 // The call of a first word that has been read.
 pub fn choose_call(word: &[u8]) -> Call
@@ -51,11 +52,12 @@ pub fn choose_call(word: &[u8]) -> Call
         10 => Call::Open,
         11 => Call::Buffers,
         12 => Call::Send,
-        13 => Call::Receive,
-        14 => Call::Response,
-        15 => Call::Reply,
-        16 => Call::Entry,
-        17 => Call::Show,
+        13 => Call::Chunk,
+        14 => Call::Reply,
+        15 => Call::Awaited,
+        16 => Call::Finish,
+        17 => Call::Entry,
+        18 => Call::Show,
         _ => Call::Other,
     }
 }

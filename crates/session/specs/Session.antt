@@ -2,7 +2,10 @@
 use Prim.Native.Nat.{ℕ}
 use mathlib.Core.Bool.{Bool}
 use mathlib.Core.List.{List}
+use Rattle.bech32.specs.declared.human.Name.{Name}
 use Rattle.refusal.specs.Verdict.{verdictSaid}
+use Rattle.stanza.specs.declared.places.Place.{Place}
+use Rattle.stanza.specs.declared.places.Place.the-variants.{Start}
 use Rattle.session.specs.Opening.{nameOf, settings}
 use Rattle.session.specs.Tables.{Tables, tablesIn, openedSlots, openedHeaderSlots, openedTables}
 use Rattle.session.specs.Phases.{phaseOpened}
@@ -23,6 +26,20 @@ pub record Session : Type 0 where
 -- the code's session with the slots of six kinds and those of the header stanzas
 abbrev pub sessionOf : CodeSession → List (List ℕ) → List (List ℕ) → Session
 sessionOf s xs hs = record { machine = s .machine; name = nameOf (s .name); screen = s .screen; phase = s .phase; tables = tablesIn (s .tables) xs hs }
+
+-- what the code's session holds beside that: the name's value, where the reading of an unfinished stanza stands, and how many bytes are kept and wait
+pub record Carried : Type 0 where
+  pub name : Name
+  pub reading : Place
+  pub kept : ℕ
+  pub awaited : ℕ
+
+abbrev pub carriedBy : CodeSession → Carried
+carriedBy s = record { name = s .name; reading = s .reading; kept = s .kept; awaited = s .awaited }
+
+-- nothing is kept when a session is opened
+abbrev pub carriedFirst : Name → Carried
+carriedFirst name = record { name = name; reading = Start; kept = 0; awaited = 0 }
 
 -- a session in another phase and with other tables
 abbrev pub moved : Session → Phase → Tables → Session

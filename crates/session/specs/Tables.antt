@@ -4,6 +4,7 @@ use mathlib.Core.List.{List, [], _∷_}
 use lib.ListN.{replicate}
 use Rattle.tables.specs.Tables.{Table, tableIn, opened}
 use Rattle.tables.specs.declared.slots.Span.{Span}
+use Rattle.tables.specs.declared.tables.Table.{Table as CodeTable}
 use Rattle.session.specs.declared.kinds.Kind.{Kind}
 use Rattle.session.specs.declared.kinds.Kind.the-variants as the
 use Rattle.session.specs.declared.kinds.Tables.{Tables as CodeTables}
@@ -62,3 +63,13 @@ openedTables = record {
   stanzas = opened 256;
   returned = opened 256;
 }
+
+-- the code's tables with another one of a kind
+abbrev pub withTable : CodeTables → Kind → CodeTable → CodeTables
+withTable t the.Recipients c = record { recipients = c; identities = t .identities; keys = t .keys; headers = t .headers; errors = t .errors; stanzas = t .stanzas; returned = t .returned }
+withTable t the.Identities c = record { recipients = t .recipients; identities = c; keys = t .keys; headers = t .headers; errors = t .errors; stanzas = t .stanzas; returned = t .returned }
+withTable t the.Keys c = record { recipients = t .recipients; identities = t .identities; keys = c; headers = t .headers; errors = t .errors; stanzas = t .stanzas; returned = t .returned }
+withTable t the.Headers c = record { recipients = t .recipients; identities = t .identities; keys = t .keys; headers = c; errors = t .errors; stanzas = t .stanzas; returned = t .returned }
+withTable t the.Errors c = record { recipients = t .recipients; identities = t .identities; keys = t .keys; headers = t .headers; errors = c; stanzas = t .stanzas; returned = t .returned }
+withTable t the.Stanzas c = record { recipients = t .recipients; identities = t .identities; keys = t .keys; headers = t .headers; errors = t .errors; stanzas = c; returned = t .returned }
+withTable t the.Returned c = record { recipients = t .recipients; identities = t .identities; keys = t .keys; headers = t .headers; errors = t .errors; stanzas = t .stanzas; returned = c }

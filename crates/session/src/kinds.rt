@@ -1,7 +1,7 @@
 // The seven kinds of entries: a table for each, and where its slots lie. The header stanzas' slots are an array of their own, the other kinds' lie one behind the
 // other in a second one.
 ghost use mathlib.Core.Path.{_≡_};
-ghost use Rattle.session.specs.Tables.{spanOf, openedSlots, openedHeaderSlots, tablesIn, openedTables};
+ghost use Rattle.session.specs.Tables.{spanOf, openedSlots, openedHeaderSlots, tablesIn, openedTables, withTable};
 use crate::sessions::Session;
 use tables::EMPTY;
 use tables::Span;
@@ -85,6 +85,45 @@ pub(crate) fn open_tables() -> Tables
         errors: Table::open(),
         stanzas: Table::open(),
         returned: Table::open(),
+    }
+}
+
+impl Tables {
+    // The tables with another one of a kind.
+    pub fn with(self, kind: Kind, table: Table) -> Tables
+        ensures { λ r. ⌜ r ≡ withTable self kind table ⌝ }
+    {
+        let mut all = self;
+        match kind {
+            Kind::Recipients => {
+                all.recipients = table;
+                all
+            }
+            Kind::Identities => {
+                all.identities = table;
+                all
+            }
+            Kind::Keys => {
+                all.keys = table;
+                all
+            }
+            Kind::Headers => {
+                all.headers = table;
+                all
+            }
+            Kind::Errors => {
+                all.errors = table;
+                all
+            }
+            Kind::Stanzas => {
+                all.stanzas = table;
+                all
+            }
+            Kind::Returned => {
+                all.returned = table;
+                all
+            }
+        }
     }
 }
 

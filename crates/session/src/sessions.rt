@@ -2,7 +2,7 @@
 ghost use mathlib.Core.Path.{_≡_};
 ghost use mathlib.Core.Bool.{true, false};
 ghost use Rattle.session.specs.Opening.{held};
-ghost use Rattle.session.specs.Session.{opened, openingSaid};
+ghost use Rattle.session.specs.Session.{opened, openingSaid, carriedBy, carriedFirst};
 use crate::kinds::Tables;
 use crate::kinds::open_tables;
 use crate::opening::Machine;
@@ -11,14 +11,19 @@ use crate::phases::Phase;
 use crate::phases::phase_opened;
 use bech32::Name;
 use refusal::Verdict;
+use stanza::Place;
 
-// The machine, the plugin's name, whether there is a screen (the client's alone), the phase, and the tables.
+// The machine, the plugin's name, whether there is a screen (the client's alone), the phase, and the tables. Of the input: where the reading of an unfinished
+// stanza stands, how many bytes are kept, and how many the stanza has that waits for the host's reply; the bytes lie in an array that each call is lent.
 pub struct Session {
     pub machine: Machine,
     pub phase: Phase,
     pub screen: bool,
     pub name: Name,
     pub tables: Tables,
+    pub reading: Place,
+    pub kept: usize,
+    pub awaited: usize,
 }
 
 // An opening: accepted, or 18 or 17 with a closed session.
@@ -54,10 +59,15 @@ impl Session {
         + Session::RETURNED_STANZAS
         + Session::RETURNED_KEYS;
 
+    // How many bytes of input each end is lent a place for: the front of an unfinished stanza or what was kept back, and at the client end the stanza that waits.
+    pub const PLUGIN_INPUT: usize = stanza::LONGEST;
+
+    pub const CLIENT_INPUT: usize = 2 * stanza::LONGEST;
+
     // A client session in phase one with empty tables.
     pub fn open(machine: &[u8], name: &[u8]) -> Opening
         ensures opening { λ r. ⌜ openingSaid r ≡ opened (now (machine .entry)) (now (name .entry)) true ⌝ }
-        ensures name { λ r. ⌜ r .session .name ≡ held (opened (now (machine .entry)) (now (name .entry)) true .session .name) ⌝ }
+        ensures carried { λ r. ⌜ carriedBy (r .session) ≡ carriedFirst (held (opened (now (machine .entry)) (now (name .entry)) true .session .name)) ⌝ }
     {
         Session::open_with(machine, name, Session::SCREEN)
     }
@@ -65,7 +75,7 @@ impl Session {
     // The same, told whether there is a screen.
     pub fn open_with(machine: &[u8], name: &[u8], screen: bool) -> Opening
         ensures opening { λ r. ⌜ openingSaid r ≡ opened (now (machine .entry)) (now (name .entry)) screen ⌝ }
-        ensures name { λ r. ⌜ r .session .name ≡ held (opened (now (machine .entry)) (now (name .entry)) screen .session .name) ⌝ }
+        ensures carried { λ r. ⌜ carriedBy (r .session) ≡ carriedFirst (held (opened (now (machine .entry)) (now (name .entry)) screen .session .name)) ⌝ }
     {
         let given = read_settings(machine, name);
         let verdict = given.verdict;
@@ -81,6 +91,9 @@ impl Session {
                 screen: screen,
                 name: name,
                 tables: tables,
+                reading: Place::Start,
+                kept: 0,
+                awaited: 0,
             },
         }
     }
@@ -88,23 +101,65 @@ impl Session {
     // A plugin session: it has no screen.
     pub fn open_plugin(machine: &[u8], name: &[u8]) -> Opening
         ensures opening { λ r. ⌜ openingSaid r ≡ opened (now (machine .entry)) (now (name .entry)) false ⌝ }
-        ensures name { λ r. ⌜ r .session .name ≡ held (opened (now (machine .entry)) (now (name .entry)) false .session .name) ⌝ }
+        ensures carried { λ r. ⌜ carriedBy (r .session) ≡ carriedFirst (held (opened (now (machine .entry)) (now (name .entry)) false .session .name)) ⌝ }
     {
         Session::open_with(machine, name, false)
     }
 
     // The same session in another phase and with other tables.
     pub fn moved(self, phase: Phase, tables: Tables) -> Session
-        ensures { λ r. ⌜ r ≡ record { machine = self .machine; phase = phase; screen = self .screen; name = self .name; tables = tables } ⌝ }
+        ensures { λ r. ⌜ r ≡ record {
+          machine = self .machine;
+          phase = phase;
+          screen = self .screen;
+          name = self .name;
+          tables = tables;
+          reading = self .reading;
+          kept = self .kept;
+          awaited = self .awaited;
+        } ⌝ }
     {
         let machine = self.machine;
         let name = self.name;
+        let reading = self.reading;
         Session {
             machine: machine,
             phase: phase,
             screen: self.screen,
             name: name,
             tables: tables,
+            reading: reading,
+            kept: self.kept,
+            awaited: self.awaited,
+        }
+    }
+
+    // The same session with other bytes kept and another stanza that waits.
+    pub fn keeping(self, reading: Place, kept: usize, awaited: usize) -> Session
+        ensures { λ r. ⌜ r ≡ record {
+          machine = self .machine;
+          phase = self .phase;
+          screen = self .screen;
+          name = self .name;
+          tables = self .tables;
+          reading = reading;
+          kept = kept;
+          awaited = awaited;
+        } ⌝ }
+    {
+        let machine = self.machine;
+        let phase = self.phase;
+        let name = self.name;
+        let tables = self.tables;
+        Session {
+            machine: machine,
+            phase: phase,
+            screen: self.screen,
+            name: name,
+            tables: tables,
+            reading: reading,
+            kept: kept,
+            awaited: awaited,
         }
     }
 }

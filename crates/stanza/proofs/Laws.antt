@@ -7,3 +7,4 @@ pub mod Writing
 pub mod Grammar
 pub mod Exact
 pub mod RoundTrip
+pub mod Resuming

@@ -1,7 +1,8 @@
-// Stanza text (document 01, "Stanza text"): the first stanza of a text read, its arguments and an index among them, and a stanza written.
+// Stanza text (document 01, "Stanza text"): the first stanza of a text read, also in pieces, its arguments and an index among them, and a stanza written.
 mod arguments;
 mod indices;
 mod parts;
+mod places;
 mod reading;
 mod writing;
 
@@ -13,6 +14,9 @@ pub use indices::read_index;
 pub use parts::arguments_of;
 pub use parts::body_of;
 pub use parts::lines_of;
+pub use places::Continued;
+pub use places::Place;
+pub use places::read_on;
 pub use reading::First;
 pub use reading::Stanza;
 pub use reading::read;

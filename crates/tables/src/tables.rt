@@ -76,7 +76,7 @@ impl Table {
     }
 
     // One entry more, of n bytes of a buffer of `capacity` bytes. 8 where it does not fit, then the late fault: table and slots stay as they were.
-    fn enter(
+    pub fn enter(
         self,
         span: Span,
         late: Verdict,

@@ -2,7 +2,7 @@
 
 use super::Script;
 
-const SCRIPTS: [&str; 7] = [
+const SCRIPTS: [&str; 8] = [
     include_str!("../../../scripts/ok-no.txt"),
     include_str!("../../../scripts/empty-body.txt"),
     include_str!("../../../scripts/unknown-tag.txt"),
@@ -10,6 +10,7 @@ const SCRIPTS: [&str; 7] = [
     include_str!("../../../scripts/file-key-unknown.txt"),
     include_str!("../../../scripts/conversation-recipient-v1.txt"),
     include_str!("../../../scripts/conversation-identity-v1.txt"),
+    include_str!("../../../scripts/conversation-in-chunks.txt"),
 ];
 
 pub(super) fn sections(script: &mut Script) {

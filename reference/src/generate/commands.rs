@@ -137,18 +137,19 @@ impl Script {
         self.call("send", &[word, arguments, body, out.to_string().as_bytes()]);
     }
 
-    /// Lends no output buffer: in phase one nothing is answered.
-    pub(super) fn receive(&mut self, text: &[u8]) {
-        self.call("receive", &[text, b"0"]);
+    /// The open session receives a piece of its input.
+    pub(super) fn chunk(&mut self, bytes: &[u8], out: usize) {
+        self.call("chunk", &[bytes, out.to_string().as_bytes()]);
     }
 
     /// Passes a command through the open session: the client sends it with an output buffer of just the
-    /// length, the plugin receives its stanza.
+    /// length, the plugin receives its stanza in one chunk, and without an output buffer: in phase one nothing
+    /// is answered.
     pub(super) fn pass(&mut self, end: End, command: &Command) {
         let text = command.text();
         match end {
             End::Client => self.send(command, text.len()),
-            End::Plugin => self.receive(&text),
+            End::Plugin => self.chunk(&text, 0),
         }
     }
 
@@ -164,6 +165,14 @@ impl Script {
             Kind::Identity => b"identity",
         };
         self.call("entry", &[word, number.to_string().as_bytes()]);
+    }
+
+    pub(super) fn awaited(&mut self) {
+        self.call("awaited", &[]);
+    }
+
+    pub(super) fn finish(&mut self) {
+        self.call("finish", &[]);
     }
 
     pub(super) fn show(&mut self) {

@@ -129,13 +129,15 @@ fn session_lines(script: &mut Script) {
         script,
         &[
             "\\x6fpen plu\\egin recipient\\x2dv1 \\x61 0009 9 9 9 0 0 00000000",
-            "rec\\eeive \\x2d>\\x20add-recipient\\x20abc\\x0a\\n \\x30",
-            "receive ->\\sadd-identity\\sdef\\n\\n 00065536",
+            "ch\\eunk \\x2d>\\x20add-recipient\\x20abc\\x0a\\n \\x30",
+            "chunk ->\\sadd-identity\\sdef\\n\\n 00065536",
+            "finis\\x68",
             "entry \\erecipient 00000000000000000000000000000",
             "buffers 9 9 9 9 \\x30 0 0065536",
             "\\x73how",
             "open client identity-v1 a \\x64efault 9 9 9 9 9 9 9",
             "send add\\x2didentity a\\eb \\e\\e 0020",
+            "\\x61waited",
             "show",
         ],
     );
@@ -179,14 +181,31 @@ const BAD_SESSION_LINES: &[&str] = &[
     "send done  \\e 9",
     "send done \\ \\e 9",
     "sends done \\e \\e 9",
-    "receive",
+    "chunk",
+    "chunk ->\\sdone\\n\\n",
+    "chunk ->\\sdone\\n\\n 9 9",
+    "chunk ->\\sdone\\n\\n 65537",
+    "chunk ->\\sdone\\n\\n \\e",
+    "chunk ->\\sdone\\n\\n -1",
+    "chunk -> done 9",
+    "chunk ->\\sdone\\q 9",
+    "chunk  9",
+    "Chunk ->\\sdone\\n\\n 9",
+    "chunks ->\\sdone\\n\\n 9",
+    "receive ->\\sdone\\n\\n 9",
     "receive ->\\sdone\\n\\n",
-    "receive ->\\sdone\\n\\n 9 9",
-    "receive ->\\sdone\\n\\n 65537",
-    "receive ->\\sdone\\n\\n \\e",
-    "receive ->\\sdone\\n\\n -1",
-    "receive -> done 9",
-    "receive ->\\sdone\\q 9",
+    "response ->\\sok\\n\\n 9",
+    "response",
+    "awaited 0",
+    "awaited \\e",
+    "awaited ",
+    "Awaited",
+    "awaits",
+    "finish 0",
+    "finish \\e",
+    "finish ",
+    "Finish",
+    "finished",
     "entry",
     "entry recipient",
     "entry recipient 0 0",
@@ -220,10 +239,10 @@ const BAD_SESSION_LINES: &[&str] = &[
 /// Calls of phase two, at both ends and in both phases.
 fn answers_and_commands(script: &mut Script) {
     let lines = [
-        "response ->\\sok\\n\\n 9", "response \\e 0", "reply ok \\e 9", "reply yes \\e 9",
-        "reply maybe \\e 9",
+        "chunk \\e 0", "reply ok \\e 9", "reply yes \\e 9", "reply maybe \\e 9", "awaited", "finish",
+        "response ->\\sok\\n\\n 9", "receive ->\\sdone\\n\\n 9",
     ];
-    script.heading("Responses and replies, a client that receives, a plugin that sends");
+    script.heading("Replies, a client that receives, a plugin that sends, and lines that are no longer");
     for end in ENDS {
         script.open(end, RECIPIENT, b"interop", ROOMY);
         for last in [Command::add_recipient(b"kept"), Command::done()] {

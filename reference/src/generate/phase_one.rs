@@ -51,7 +51,9 @@ pub(super) fn sections(script: &mut Script) {
         let phase = some_phase(script, machine, plugin);
         damaged_on_the_way(script, machine, plugin, &phase);
     }
-    script.heading("Random calls: buffers that change, texts with more behind them, short output buffers");
+    script.heading(
+        "Random calls: buffers that change, stanzas cut or with more behind them, short output buffers",
+    );
     for _ in 0..360 {
         random_calls(script);
     }
@@ -250,7 +252,7 @@ pub(super) fn damaged_on_the_way(script: &mut Script, machine: &str, plugin: &[u
     for (at, command) in phase.iter().enumerate() {
         let text = command.text();
         let text = if at == damaged { damaged_text(script, &text) } else { text };
-        script.receive(&text);
+        script.chunk(&text, 0);
     }
     script.show();
 }
@@ -285,15 +287,26 @@ fn random_send(script: &mut Script, command: &Command) {
     }
 }
 
-/// Receives a text that may have more behind it, or may not have ended yet.
+/// Receives a stanza that may be cut in two, and now and then has more behind it.
 fn random_receive(script: &mut Script, command: &Command) {
-    let text = command.text();
+    let mut text = command.text();
     if script.random.below(3) == 0 {
-        let len = script.random.below(text.len());
-        script.receive(&text[..len]);
+        let rest = text.split_off(script.random.below(text.len()));
+        script.chunk(&text, 0);
+        text = rest;
     }
-    let tail: &[u8] = [b"".as_slice(), b"", b"\r", b"-> done\n\n"][script.random.below(4)];
-    script.receive(&[text.as_slice(), tail].concat());
+    let tail = some_tail(script, b"-> done\n\n");
+    script.chunk(&[text.as_slice(), tail].concat(), 0);
+}
+
+/// Now and then something behind a stanza: its like, the front of another, or what is none.
+pub(super) fn some_tail(script: &mut Script, like: &'static [u8]) -> &'static [u8] {
+    match script.random.below(12) {
+        0 => like,
+        1 => &like[..4],
+        2 => b"\r",
+        _ => b"",
+    }
 }
 
 #[cfg(test)]
@@ -311,7 +324,7 @@ mod tests {
             let mut buffers = Buffers::zeros(payload_lengths(&phase));
             let mut session = Plugin::open(machine.as_bytes(), plugin).unwrap();
             for command in &phase {
-                session.receive(&command.text(), &mut buffers).unwrap();
+                session.chunk(&command.text(), &mut buffers, &mut []).accepted().unwrap();
             }
         }
     }

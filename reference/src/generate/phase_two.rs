@@ -1,12 +1,12 @@
 //! Lines for phase two: its rules, answers, limits and turns, whole conversations, and random ones.
 
 mod answers;
-mod exchanges;
-mod good;
+pub(super) mod exchanges;
+pub(super) mod good;
 mod limits;
 mod lines;
 mod order;
-mod random;
+pub(super) mod random;
 mod recordings;
 mod rules;
 mod turns;

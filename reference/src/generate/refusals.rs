@@ -115,7 +115,7 @@ fn indices(script: &mut Script) {
     }
 }
 
-/// Texts that are refused with 1 and 2, in the middle of a phase one.
+/// Texts that are no stanza, have not ended, or are more than one, in the middle of a phase one.
 fn stanza_faults(script: &mut Script) {
     script.heading("Faults of a stanza's text");
     let texts: [&[u8]; 20] = [
@@ -142,9 +142,9 @@ fn stanza_faults(script: &mut Script) {
     ];
     for text in texts {
         script.open(End::Plugin, RECIPIENT, PLUGIN, ROOMY);
-        script.receive(b"-> add-recipient a\n\n");
-        script.receive(text);
-        script.receive(b"-> add-recipient c\n\n");
+        script.chunk(b"-> add-recipient a\n\n", 0);
+        script.chunk(text, 0);
+        script.chunk(b"-> add-recipient c\n\n", 0);
         script.show();
     }
 }
@@ -277,8 +277,8 @@ fn order_of_refusals(script: &mut Script) {
     script.heading("Several faults at once: receiving");
     for (word, arguments, body) in commands {
         script.open(End::Plugin, IDENTITY, PLUGIN, [6; KINDS]);
-        script.receive(b"-> recipient-stanza 3 t\n\n");
-        script.receive(&Command::new(word, arguments, body).text());
+        script.chunk(b"-> recipient-stanza 3 t\n\n", 0);
+        script.chunk(&Command::new(word, arguments, body).text(), 0);
         script.show();
     }
     script.heading("Several faults at once: a full table and a falling index");
@@ -287,7 +287,7 @@ fn order_of_refusals(script: &mut Script) {
     script.pass_all(End::Client, &headers(&[0, 1]));
 }
 
-/// What a plugin session says after each refusal: 2 leaves it open, the others close it.
+/// What a plugin session says after each fault, each of which closes it, and after a stanza that has not ended.
 fn after_refusals(script: &mut Script) {
     let faults: [&[u8]; 8] = [
         b"x", b"-> done\n", b"-> done a\n\n", b"-> recipient-stanza 01 x\n\n",
@@ -296,18 +296,19 @@ fn after_refusals(script: &mut Script) {
     script.heading("After each refusal at the plugin end");
     for fault in faults {
         script.open(End::Plugin, IDENTITY, PLUGIN, [6; KINDS]);
-        script.receive(b"-> recipient-stanza 3 x\n\n");
-        script.receive(fault);
+        script.chunk(b"-> recipient-stanza 3 x\n\n", 0);
+        script.chunk(fault, 0);
+        script.finish();
         script.show();
         for text in [b"-> add-identity a\n\n".as_slice(), b"x", b"-> done\n\n", b"", b"-> add-identity b\n\n"]
         {
-            script.receive(text);
+            script.chunk(text, 0);
         }
         script.show();
     }
 }
 
-/// After done every call of phase one is refused with 14, whatever it says.
+/// After done every call of phase one is refused with 14, whatever it says; an empty chunk asks nothing.
 fn after_done(script: &mut Script) {
     script.heading("After done: a call of the other phase");
     for machine in MACHINES {
@@ -328,7 +329,7 @@ fn after_done(script: &mut Script) {
     for machine in MACHINES {
         script.open(End::Plugin, machine, PLUGIN, ROOMY);
         for text in [b"-> done\n\n".as_slice(), b"", b"x", b"-> done\n"] {
-            script.receive(text);
+            script.chunk(text, 0);
         }
         script.open(End::Client, machine, PLUGIN, ROOMY);
         script.send(&Command::done(), 9);

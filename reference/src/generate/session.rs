@@ -31,10 +31,10 @@ pub(super) fn sections(script: &mut Script) {
 fn no_session(script: &mut Script) {
     script.heading("No session is open");
     for line in [
-        "buffers 0 0 0 0 0 0 0", "send done \\e \\e 9", "send \\e \\e \\e 0", "receive ->\\sdone\\n\\n 9",
-        "receive \\e 65536", "entry recipient 0", "entry identity 18446744073709551615", "show",
-        "buffers 0 0 0 0 0 0 65537", "send done \\e \\e 65537", "receive \\e 65537", "entry file-key 0",
-        "show 0",
+        "buffers 0 0 0 0 0 0 0", "send done \\e \\e 9", "send \\e \\e \\e 0", "chunk ->\\sdone\\n\\n 9",
+        "chunk \\e 65536", "entry recipient 0", "entry identity 18446744073709551615", "show", "awaited",
+        "finish", "reply ok \\e 9", "buffers 0 0 0 0 0 0 65537", "send done \\e \\e 65537",
+        "chunk \\e 65537", "entry file-key 0", "show 0", "awaited 0", "finish 0",
     ] {
         script.raw(line.as_bytes());
     }
@@ -297,7 +297,7 @@ fn look_ups(script: &mut Script) {
     script.heading("Look-ups in a closed session");
     script.open(End::Plugin, RECIPIENT, PLUGIN, ROOMY);
     script.pass_all(End::Plugin, &[Command::add_recipient(b"foo"), Command::add_identity(b"bar")]);
-    script.receive(b"x");
+    script.chunk(b"x", 0);
     some_look_ups(script);
     script.show();
     script.heading("Look-ups with large numbers");
@@ -316,16 +316,11 @@ fn some_look_ups(script: &mut Script) {
 
 fn recordings(script: &mut Script) {
     for recording in &RECORDINGS {
-        script.heading(&format!("The recording {}, received command by command", recording.name));
+        script
+            .heading(&format!("The recording {}, in one chunk: behind done none is awaited", recording.name));
         script.open(End::Plugin, recording.machine, recording.plugin, ROOMY);
-        let mut text = recording.text;
-        for command in recording.phase_one() {
-            // What follows the command waits for the next call.
-            script.receive(text);
-            text = &text[command.text().len()..];
-        }
+        script.chunk(recording.text, 0);
         script.show();
-        script.receive(text);
         script.heading(&format!("The phase one of {}, sent", recording.name));
         for end in ENDS {
             script.open(end, recording.machine, recording.plugin, ROOMY);

@@ -1,11 +1,11 @@
 //! The lines that open a session and call it (REPLAY.md); `show` has a file of its own.
 
-use super::show::{phase_one_word, phase_two_word, response_word, show};
+use super::show::{phase_two_word, response_word, show, what_word};
 use super::{length, Answer};
 use crate::bech32;
 use crate::refusal::Refusal;
 use crate::script;
-use crate::session::{Buffers, Client, Plugin, Response, Session, KINDS};
+use crate::session::{Buffers, Client, Plugin, Received, Response, Session, KINDS};
 
 /// A line of REPLAY.md's table that opens a session or calls the open one.
 #[derive(Debug, PartialEq, Eq)]
@@ -42,9 +42,10 @@ enum Screen {
 pub(super) enum Call<'a> {
     Buffers { lens: [usize; KINDS] },
     Send { arguments: Vec<u8>, body: &'a [u8], out: usize },
-    Receive { text: &'a [u8], out: usize },
-    Response { text: &'a [u8], out: usize },
+    Chunk { bytes: &'a [u8], out: usize },
     Reply { reply: Response, body: &'a [u8], out: usize },
+    Awaited,
+    Finish,
     Entry { kind: bech32::Kind, number: u64 },
     Show,
 }
@@ -74,11 +75,12 @@ impl<'a> Call<'a> {
             [b"send", command, arguments, body, out] => {
                 Some(Call::Send { arguments: joined(command, arguments), body, out: length(out)? })
             }
-            [b"receive", text, out] => Some(Call::Receive { text, out: length(out)? }),
-            [b"response", text, out] => Some(Call::Response { text, out: length(out)? }),
+            [b"chunk", bytes, out] => Some(Call::Chunk { bytes, out: length(out)? }),
             [b"reply", reply, body, out] => {
                 Some(Call::Reply { reply: answer(reply)?, body, out: length(out)? })
             }
+            [b"awaited"] => Some(Call::Awaited),
+            [b"finish"] => Some(Call::Finish),
             [b"entry", kind_word, number] => {
                 Some(Call::Entry { kind: kind(kind_word)?, number: script::number(number, u64::MAX)? })
             }
@@ -186,9 +188,10 @@ impl Open {
                 Ok(Answer::words("ok"))
             }
             Call::Send { arguments, body, out } => self.send(arguments, body, *out),
-            Call::Receive { text, out } => self.receive(text, *out),
-            Call::Response { text, out } => self.response(text, *out),
-            Call::Reply { reply, body, out } => self.reply(*reply, body, *out),
+            Call::Chunk { bytes, out } => Ok(self.chunk(bytes, *out)),
+            Call::Reply { reply, body, out } => Ok(self.reply(*reply, body, *out)),
+            Call::Awaited => Ok(self.awaited()),
+            Call::Finish => self.end.session().finish().map(|()| Answer::words("ok")),
             Call::Entry { kind, number } => {
                 Ok(Answer::words("ok").bytes(self.end.session().entry(*kind, *number, &self.buffers)))
             }
@@ -206,42 +209,43 @@ impl Open {
         Ok(Answer::words("ok").bytes(&out[..len]))
     }
 
-    /// `ok TAKEN WHAT TEXT`. The plugin receives phase one, which is not answered.
-    fn receive(&mut self, text: &[u8], out: usize) -> Result<Answer, Refusal> {
+    fn chunk(&mut self, bytes: &[u8], out: usize) -> Answer {
         let mut out = vec![0; out];
-        let (taken, what, len) = match &mut self.end {
+        match &mut self.end {
             End::Client(client) => {
-                let heard = client.receive(text, &mut self.buffers, &mut out)?;
-                (heard.taken, phase_two_word(heard.command), heard.written)
+                received(client.chunk(bytes, &mut self.buffers, &mut out), phase_two_word, &out)
             }
             End::Plugin(plugin) => {
-                let received = plugin.receive(text, &mut self.buffers)?;
-                (received.taken, phase_one_word(received.command), 0)
+                received(plugin.chunk(bytes, &mut self.buffers, &mut out), what_word, &out)
             }
-        };
-        Ok(Answer::words("ok").number(taken as u64).word(what).bytes(&out[..len]))
+        }
     }
 
-    /// `ok TAKEN WHAT BODY`.
-    fn response(&mut self, text: &[u8], out: usize) -> Result<Answer, Refusal> {
-        let End::Plugin(plugin) = &mut self.end else {
-            return Ok(Answer::words("none"));
+    fn reply(&mut self, reply: Response, body: &[u8], out: usize) -> Answer {
+        let End::Client(client) = &mut self.end else {
+            return Answer::words("none");
         };
         let mut out = vec![0; out];
-        let responded = plugin.response(text, &mut out)?;
-        let what = response_word(responded.response);
-        Ok(Answer::words("ok").number(responded.taken as u64).word(what).bytes(&out[..responded.body_len]))
+        received(client.reply(reply, body, &mut self.buffers, &mut out), phase_two_word, &out)
     }
 
     /// `ok TEXT`.
-    fn reply(&mut self, reply: Response, body: &[u8], out: usize) -> Result<Answer, Refusal> {
-        let End::Client(client) = &mut self.end else {
-            return Ok(Answer::words("none"));
-        };
-        let mut out = vec![0; out];
-        let len = client.reply(reply, body, &mut out)?;
-        Ok(Answer::words("ok").bytes(&out[..len]))
+    fn awaited(&self) -> Answer {
+        match &self.end {
+            End::Client(client) => Answer::words("ok").bytes(client.awaited()),
+            End::Plugin(_) => Answer::words("none"),
+        }
     }
+}
+
+/// `ok COUNT LAST TEXT` or `refused N COUNT LAST TEXT`.
+fn received<T>(received: Received<T>, word: impl Fn(T) -> &'static str, out: &[u8]) -> Answer {
+    let answer = match received.refusal {
+        Some(refusal) => Answer::refused(refusal),
+        None => Answer::words("ok"),
+    };
+    let last = received.last.map_or("-", word);
+    answer.number(received.count as u64).word(last).bytes(&out[..received.written])
 }
 
 #[cfg(test)]
@@ -260,8 +264,8 @@ mod tests {
     #[test]
     fn with_no_session_open() {
         for line in [
-            "buffers 0 0 0 0 0 0 0", "send a b c 1", "receive a 0", "receive \\e 65536", "entry recipient 0",
-            "entry identity 18446744073709551615", "show", "response a 0", "reply no \\e 0",
+            "buffers 0 0 0 0 0 0 0", "send a b c 1", "chunk a 0", "chunk \\e 65536", "entry recipient 0",
+            "entry identity 18446744073709551615", "show", "reply no \\e 0", "awaited", "finish",
         ] {
             assert_eq!(answers(&[line]), ["none"], "{line}");
         }
@@ -276,10 +280,10 @@ mod tests {
             "send a b c",
             "send a b c 65537",
             "send a b c 1 2",
-            "receive a",
-            "receive a 65537",
-            "receive a \\e",
-            "receive a 1 2",
+            "chunk a",
+            "chunk a 65537",
+            "chunk a \\e",
+            "chunk a 1 2",
             "entry recipient",
             "entry recipient -1",
             "entry file-key 0",
@@ -296,11 +300,14 @@ mod tests {
             "open client recipient-v1 a Screen 0 0 0 0 0 0 0",
             "open host recipient-v1 a 0 0 0 0 0 0 0",
             "open client recipient-v1 a screen 0 0 0 0 0 0 65537",
-            "response",
-            "response a",
-            "response a 65537",
-            "response a 1 2",
-            "response  1",
+            "chunk",
+            "chunk  1",
+            "receive ->\\sdone\\n\\n 0",
+            "response ->\\sok\\n\\n 0",
+            "awaited 1",
+            "awaited \\e",
+            "finish 1",
+            "finish \\e",
             "reply ok \\e",
             "reply ok \\e x",
             "reply ok \\e 65537",
@@ -318,28 +325,28 @@ mod tests {
 
     #[test]
     fn calls_that_an_end_does_not_have() {
-        assert_eq!(answers(&[PLUGIN, "reply ok \\e 9", "reply yes a 0"])[1..], ["none", "none"]);
-        assert_eq!(answers(&[CLIENT, "response ->\\sok\\n\\n 9", "response \\e 0"])[1..], ["none", "none"]);
+        assert_eq!(answers(&[PLUGIN, "reply ok \\e 9", "reply yes a 0", "awaited"])[1..], ["none"; 3]);
     }
 
     #[test]
     fn a_phase_one_received() {
         let answers = answers(&[
             PLUGIN,
-            "receive ->\\sadd-recipient\\sage1interop1qyqszqg83syvs\\n\\nrest 0",
-            "receive ->\\sadd-identity\\sx\\\\y\\n\\n 0",
-            "receive ->\\srecipient-stanza\\s01\\n\\n 0",
-            "receive ->\\swrap-file-key\\nMDEyMzQ1Njc4OWFiY2RlZg\\n 0",
-            "receive ->\\sdone\\n 0",
-            "receive ->\\sdone\\n\\n 0",
-            "receive \\e 0",
+            "chunk ->\\sadd-recipient\\sage1interop1qyqszqg83syvs\\n\\n->\\sadd-id 0",
+            "chunk entity\\sx\\\\y\\n\\n->\\srecipient-stanza\\s01\\n\\n 0",
+            "chunk ->\\swrap-file-key\\nMDEyMzQ1Njc4OWFiY2RlZg 0",
+            "chunk \\n->\\sdone\\n 0",
+            "finish",
+            "chunk \\nrest 0",
+            "chunk \\e 0",
+            "chunk rest 0",
             "entry recipient 0",
             "entry recipient 1",
             "show",
         ]);
         let expected = [
-            "ok", "ok 44 add-recipient \\e", "ok 21 add-identity \\e", "ok 24 other \\e",
-            "ok 40 wrap-file-key \\e", "refused 2", "ok 9 done \\e", "refused 14",
+            "ok", "ok 1 add-recipient \\e", "ok 2 other \\e", "ok 0 - \\e", "ok 1 wrap-file-key \\e",
+            "refused 2", "refused 14 1 done \\e", "ok 0 - \\e", "refused 14 0 - \\e",
             "ok age1interop1qyqszqg83syvs", "ok \\e", "phase two", "awaits -",
             "recipient 0 age1interop1qyqszqg83syvs valid", "identity 0 x\\\\y invalid",
             "file-key 0 0123456789abcdef", "end",
@@ -375,19 +382,19 @@ mod tests {
     fn buffers_that_change() {
         let answers = answers(&[
             "open plugin recipient-v1 interop 5 0 0 0 0 0 0",
-            "receive ->\\sadd-recipient\\sabc\\n\\n 0",
-            "receive ->\\sadd-recipient\\sde\\n\\n 0",
+            "chunk ->\\sadd-recipient\\sabc\\n\\n 0",
+            "chunk ->\\sadd-recipient\\sde\\n\\n 0",
             "buffers 4 0 0 0 0 0 0",
             "entry recipient 0",
             "entry recipient 1",
             "buffers 9 0 0 0 0 0 0",
             "entry recipient 1",
-            "receive ->\\sadd-recipient\\sfghij\\n\\n 0",
+            "chunk ->\\sadd-recipient\\sfghij\\n\\n 0",
             "show",
         ]);
         let expected = [
-            "ok", "ok 22 add-recipient \\e", "ok 21 add-recipient \\e", "ok", "ok abc", "ok \\e", "ok",
-            "ok d\\x00", "refused 8", "phase closed", "awaits -", "recipient 0 abc invalid",
+            "ok", "ok 1 add-recipient \\e", "ok 1 add-recipient \\e", "ok", "ok abc", "ok \\e", "ok",
+            "ok d\\x00", "refused 8 0 - \\e", "phase closed", "awaits -", "recipient 0 abc invalid",
             "recipient 1 d\\x00 invalid", "end",
         ];
         assert_eq!(answers, expected);
@@ -417,30 +424,34 @@ mod tests {
             "open client identity-v1 interop screen 0 99 0 99 99 0 99",
             "send add-identity a \\e 99",
             "send recipient-stanza 7\\stag \\e 99",
-            "receive ->\\smsg\\n\\n 9",
+            "chunk ->\\smsg\\n\\n 9",
             "send done \\e \\e 9",
-            "receive ->\\sconfirm\\seWVz\\n\\nrest 0",
+            "chunk ->\\sgrease\\n\\n->\\sconfirm\\seWVz\\n\\n->\\serror\\sidentity\\s0\\nYQ 16",
+            "awaited",
             "show",
-            "receive ->\\smsg\\n\\n 9",
+            "chunk ->\\smsg\\n\\n 9",
             "reply ok \\e 9",
             "reply no \\e 9",
             "reply no \\e 10",
-            "receive ->\\serror\\sidentity\\s0\\nYQ\\n 7",
-            "receive ->\\sfile-key\\s7\\nMDEyMzQ1Njc4OWFiY2RlZg\\n 6",
-            "receive ->\\sfile-key\\s7\\nMDEyMzQ1Njc4OWFiY2RlZg\\n 7",
-            "receive ->\\srecipient-stanza\\n\\n 99",
-            "receive ->\\sdone\\n\\n 0",
+            "awaited",
+            "chunk \\n 7",
+            "chunk ->\\sfile-key\\s7\\nMDEyMzQ1Njc4OWFiY2RlZg\\n 6",
+            "chunk ->\\sfile-key\\s7\\nMDEyMzQ1Njc4OWFiY2RlZg\\n 7",
+            "chunk ->\\srecipient-stanza\\n\\n 99",
+            "chunk ->\\sdone\\n\\n 0",
             "show",
-            "receive \\e 0",
+            "chunk \\e 0",
+            "finish",
         ]);
         let expected = [
-            "ok", "ok ->\\sadd-identity\\sa\\n\\n", "ok ->\\srecipient-stanza\\s7\\stag\\n\\n", "refused 14",
-            "ok ->\\sdone\\n\\n", "ok 17 confirm \\e", "phase two", "awaits confirm", "identity 0 a invalid",
-            "header 0 7 tag\\n unknown", "end", "refused 14", "refused 12", "refused 15",
-            "ok ->\\sok\\sno\\n\\n", "ok 23 error ->\\sok\\n\\n", "refused 15",
-            "ok 37 file-key ->\\sok\\n\\n", "ok 21 other ->\\sunsupported\\n\\n", "ok 9 done \\e",
-            "phase ended", "awaits -", "identity 0 a invalid", "header 0 7 tag\\n unknown",
-            "error 0 identity\\s0 a", "key 7 0123456789abcdef", "end", "refused 13",
+            "ok", "ok ->\\sadd-identity\\sa\\n\\n", "ok ->\\srecipient-stanza\\s7\\stag\\n\\n",
+            "refused 14 0 - \\e", "ok ->\\sdone\\n\\n", "ok 2 confirm ->\\sunsupported\\n\\n",
+            "ok ->\\sconfirm\\seWVz\\n\\n", "phase two", "awaits confirm", "identity 0 a invalid",
+            "header 0 7 tag\\n unknown", "end", "refused 14 0 - \\e", "refused 12 0 - \\e",
+            "refused 15 0 - \\e", "ok 0 - ->\\sok\\sno\\n\\n", "ok \\e", "ok 1 error ->\\sok\\n\\n",
+            "refused 15 0 - \\e", "ok 1 file-key ->\\sok\\n\\n", "ok 1 other ->\\sunsupported\\n\\n",
+            "ok 1 done \\e", "phase ended", "awaits -", "identity 0 a invalid", "header 0 7 tag\\n unknown",
+            "error 0 identity\\s0 a", "key 7 0123456789abcdef", "end", "refused 13 0 - \\e", "ok",
         ];
         assert_eq!(answers, expected);
     }
@@ -449,40 +460,42 @@ mod tests {
     fn a_phase_two_sent() {
         let answers = answers(&[
             "open plugin recipient-v1 interop 99 0 99 0 9 99 0",
-            "receive ->\\sadd-recipient\\sage1interop1qyqszqg83syvs\\n\\n 0",
-            "receive ->\\swrap-file-key\\nMDEyMzQ1Njc4OWFiY2RlZg\\n 0",
-            "response ->\\sok\\n\\n 9",
-            "receive ->\\sdone\\n\\n 0",
+            "chunk ->\\sadd-recipient\\sage1interop1qyqszqg83syvs\\n\\n 0",
+            "chunk ->\\swrap-file-key\\nMDEyMzQ1Njc4OWFiY2RlZg\\n 0",
+            "send msg \\e \\e 9",
+            "chunk ->\\sdone\\n\\n 0",
             "send request-secret \\e PIN 99",
             "show",
-            "response ->\\sok\\nMTIzNA\\nrest 3",
-            "response ->\\sok\\nMTIzNA\\nrest 4",
+            "chunk ->\\so 0",
+            "chunk k\\nMTIzNA\\nrest 3",
+            "chunk k\\nMTIzNA\\nrest 4",
             "send grease a b 99",
-            "response ->\\sunsupported\\n\\n 0",
+            "chunk ->\\sunsupported\\n\\n 0",
             "send recipient-stanza 0\\stag body 99",
-            "response ->\\sok\\n\\n 0",
+            "chunk ->\\sok\\n\\n 0",
             "send error internal \\e 99",
             "send done \\e \\e 9",
             "show",
         ]);
         let expected = [
             "ok",
-            "ok 44 add-recipient \\e",
-            "ok 40 wrap-file-key \\e",
+            "ok 1 add-recipient \\e",
+            "ok 1 wrap-file-key \\e",
             "refused 14",
-            "ok 9 done \\e",
+            "ok 1 done \\e",
             "ok ->\\srequest-secret\\nUElO\\n",
             "phase two",
             "awaits request-secret",
             "recipient 0 age1interop1qyqszqg83syvs valid",
             "file-key 0 0123456789abcdef",
             "end",
-            "refused 15",
-            "ok 13 ok 1234",
+            "ok 0 - \\e",
+            "refused 15 0 - \\e",
+            "refused 14 1 ok 1234",
             "ok ->\\sgrease\\sa\\nYg\\n",
-            "ok 16 unsupported \\e",
+            "ok 1 unsupported \\e",
             "ok ->\\srecipient-stanza\\s0\\stag\\nYm9keQ\\n",
-            "ok 7 ok \\e",
+            "ok 1 ok \\e",
             "refused 11",
             "ok ->\\sdone\\n\\n",
             "phase ended",
@@ -503,10 +516,10 @@ mod tests {
         script.extend(["send wrap-file-key \\e 0123456789abcdef 99"; 2]);
         script.push("send done \\e \\e 9");
         for line in [
-            "receive ->\\srecipient-stanza\\s1\\sabcd\\n\\n 9",
-            "receive ->\\srecipient-stanza\\s0\\sefgh\\n\\n 9",
-            "receive ->\\srecipient-stanza\\s1\\sijkl\\n\\n 9",
-            "receive ->\\srecipient-stanza\\s0\\smnop\\n\\n 9",
+            "chunk ->\\srecipient-stanza\\s1\\sabcd\\n\\n 9",
+            "chunk ->\\srecipient-stanza\\s0\\sefgh\\n\\n 9",
+            "chunk ->\\srecipient-stanza\\s1\\sijkl\\n\\n 9",
+            "chunk ->\\srecipient-stanza\\s0\\smnop\\n\\n 9",
             "buffers 0 0 0 0 0 12 0",
             "show",
         ] {
@@ -520,14 +533,47 @@ mod tests {
     #[test]
     fn a_closed_session_awaits_nothing() {
         let answers = answers(&[
-            PLUGIN, "receive ->\\sdone\\n\\n 0", "send error internal \\e 99", "send msg \\e \\e 99",
-            "response ->\\sok\\n\\n 0", "send grease \\e \\e 99", "show", "response ->\\sok\\n\\n 0", "show",
-            "response ->\\sok\\n\\n 0",
+            PLUGIN, "chunk ->\\sdone\\n\\n 0", "send error internal \\e 99", "send msg \\e \\e 99",
+            "chunk ->\\sok\\n\\n 0", "send grease \\e \\e 99", "show", "chunk ->\\sok\\n\\n 0", "show",
+            "chunk ->\\sok\\n\\n 0", "finish",
         ]);
         let expected = [
-            "ok", "ok 9 done \\e", "ok ->\\serror\\sinternal\\n\\n", "refused 14", "ok 7 ok \\e",
-            "ok ->\\sgrease\\n\\n", "phase two", "awaits other", "error 0 internal \\e", "end", "refused 12",
-            "phase closed", "awaits -", "error 0 internal \\e", "end", "refused 13",
+            "ok", "ok 1 done \\e", "ok ->\\serror\\sinternal\\n\\n", "refused 14", "ok 1 ok \\e",
+            "ok ->\\sgrease\\n\\n", "phase two", "awaits other", "error 0 internal \\e", "end",
+            "refused 12 0 - \\e", "phase closed", "awaits -", "error 0 internal \\e", "end",
+            "refused 13 0 - \\e", "refused 13",
+        ];
+        assert_eq!(answers, expected);
+    }
+
+    /// What was taken before a fault is printed, in a chunk and behind a reply.
+    #[test]
+    fn faults_in_mid_chunk() {
+        let answers = answers(&[
+            "open client identity-v1 interop screen 0 99 0 99 99 0 99",
+            "send done \\e \\e 9",
+            "chunk ->\\smsg\\n\\n->\\sa\\n\\n->\\sconfirm\\sAA\\n\\n->\\sa\\n\\n->\\smsg\\sa\\n\\n 0",
+            "reply ok \\e 22",
+            "reply ok \\e 23",
+            "awaited",
+            "reply yes \\e 99",
+            "awaited",
+            "finish",
+            "show",
+        ]);
+        let expected = [
+            "ok",
+            "ok ->\\sdone\\n\\n",
+            "ok 1 msg \\e",
+            "refused 15 0 - \\e",
+            "ok 2 confirm ->\\sok\\n\\n->\\sunsupported\\n\\n",
+            "ok ->\\sconfirm\\sAA\\n\\n",
+            "refused 4 1 other ->\\sok\\syes\\n\\n->\\sunsupported\\n\\n",
+            "ok \\e",
+            "refused 13",
+            "phase closed",
+            "awaits -",
+            "end",
         ];
         assert_eq!(answers, expected);
     }

@@ -3,10 +3,18 @@
 use super::Answer;
 use crate::profile::Finding;
 use crate::session::{phase_one, phase_two};
-use crate::session::{Buffers, Cause, Detail, Kind, Phase, Response, Session, Tables};
+use crate::session::{Buffers, Cause, Detail, Kind, Phase, Response, Session, Tables, What};
+
+/// The word for what a plugin end has received.
+pub(super) fn what_word(what: What) -> &'static str {
+    match what {
+        What::Command(command) => phase_one_word(command),
+        What::Response(response) => response_word(response),
+    }
+}
 
 /// The command's word, or other.
-pub(super) fn phase_one_word(command: phase_one::Command) -> &'static str {
+fn phase_one_word(command: phase_one::Command) -> &'static str {
     use phase_one::Command;
     match command {
         Command::AddRecipient => "add-recipient",

@@ -1,24 +1,18 @@
 //! The client end: it sends phase one, receives the commands of phase two, and passes on its host's replies.
 
+use super::chunk::{self, Draft, Received, Receiver, Turn};
 use super::phase_two::Command;
 use super::{phase_one, phase_two, put, written, Buffers, Phase, Response, Session};
 use crate::refusal::Refusal;
-use crate::stanza;
+use crate::stanza::{self, Stanza};
 
 /// The client end.
 #[derive(Clone, Debug, PartialEq, Eq)]
 pub struct Client {
     pub(super) session: Session,
     screen: bool,
-}
-
-/// What the client end has received: how many bytes of the text the stanza was, its command, and how many
-/// bytes were answered at once.
-#[derive(Clone, Copy, Debug, PartialEq, Eq)]
-pub struct Heard {
-    pub taken: usize,
-    pub command: Command,
-    pub written: usize,
+    /// The whole text of the stanza that waits for the host's reply; empty where none does.
+    awaited: Vec<u8>,
 }
 
 impl Client {
@@ -32,7 +26,7 @@ impl Client {
 
     /// Opens a session with or without a screen.
     pub fn open_with(machine: &[u8], plugin: &[u8], screen: bool) -> Result<Self, Refusal> {
-        Ok(Client { session: Session::open(machine, plugin)?, screen })
+        Ok(Client { session: Session::open(machine, plugin)?, screen, awaited: Vec::new() })
     }
 
     #[must_use]
@@ -44,6 +38,13 @@ impl Client {
     #[must_use]
     pub fn has_screen(&self) -> bool {
         self.screen
+    }
+
+    /// The whole text of the stanza that waits for the host's reply, since no chunk need hold it. It is empty
+    /// where none waits, and in a closed session.
+    #[must_use]
+    pub fn awaited(&self) -> &[u8] {
+        &self.awaited
     }
 
     /// Sends a command of phase one: writes its stanza to the front of `out` and gives the length.
@@ -63,33 +64,48 @@ impl Client {
         let stanza = stanza::read(&text)?;
         let step = phase_one::judge(&self.session, &stanza, buffers)?;
         let len = put(&text, out)?;
-        self.session.apply_phase_one(&step, buffers);
+        buffers.put_all(self.session.apply_phase_one(step));
         Ok(len)
     }
 
-    /// Receives the first stanza of the text, a command of phase two, and writes the response to the front
-    /// of `out`, unless the command is done or waits for the host's reply.
+    /// Receives a piece of phase two, of any length: each of its commands, the first of which may have begun
+    /// in earlier chunks, up to one that waits for the host's reply; what follows that is kept back. The
+    /// responses stand one behind the other at the front of `out`.
     ///
-    /// The order is 13, 14, 1 to 3, 4, 5, 6, 9, 10, 11, 8, 15. A refusal leaves tables, buffers and output as
-    /// they were; 1 and 3 to 11 close the session.
-    pub fn receive(&mut self, text: &[u8], buffers: &mut Buffers, out: &mut [u8]) -> Result<Heard, Refusal> {
-        let heard = self.try_receive(text, buffers, out);
-        self.session.received(heard)
+    /// 13 and 14 are for the call: then nothing of the chunk is kept. After that faults are met from the left,
+    /// for each stanza in the order 1 to 3, 4, 5, 6, 9, 10, 11, 8, 15; 13 for bytes behind done, which are
+    /// dropped. What stood before a fault stands; only 15 leaves everything as it was before the call. 1 and
+    /// 3 to 11 close the session.
+    pub fn chunk(&mut self, chunk: &[u8], buffers: &mut Buffers, out: &mut [u8]) -> Received<Command> {
+        chunk::call(self, buffers, out, |client, draft| {
+            client.session.may_command()?;
+            chunk::receive(client, chunk, draft)
+        })
     }
 
-    fn try_receive(&mut self, text: &[u8], buffers: &mut Buffers, out: &mut [u8]) -> Result<Heard, Refusal> {
-        self.session.may_command()?;
-        let stanza = stanza::read(text)?;
-        let step = phase_two::parse(self.session.machine, &stanza)?;
-        step.check_rules(&self.session.tables)?;
-        step.check_space(&self.session.tables, buffers)?;
-        let written = match self.at_once(step.command) {
-            Some(response) => response.write(b"", out)?,
-            None => 0,
-        };
-        self.session.apply_phase_two(&step, buffers);
-        self.session.awaits = self.waits(step.command).then_some(step.command);
-        Ok(Heard { taken: stanza.taken(), command: step.command, written })
+    /// Passes on the host's reply to the command that waits, and then receives what was kept back behind it,
+    /// as `chunk` does. The response and those that follow stand one behind the other at the front of `out`.
+    /// What is said to be taken are the commands behind the reply.
+    ///
+    /// The order is 13, 14, 12, 17, 15; refused so, the session waits on and everything is as it was. After
+    /// that come the faults of what was kept back; the reply then stands, unless it is 15.
+    pub fn reply(
+        &mut self,
+        reply: Response,
+        body: &[u8],
+        buffers: &mut Buffers,
+        out: &mut [u8],
+    ) -> Received<Command> {
+        chunk::call(self, buffers, out, |client, draft| {
+            let command = client.session.due()?;
+            if !reply.fits(command, body.len()) {
+                return Err(Refusal::UnfitResponse);
+            }
+            draft.write(&reply.text(body)?)?;
+            client.session.awaits = None;
+            client.awaited.clear();
+            chunk::receive(client, b"", draft)
+        })
     }
 
     /// Whether the session waits for its host's reply to the command.
@@ -107,18 +123,39 @@ impl Client {
             _ => Some(Response::Ok),
         }
     }
+}
 
-    /// Passes on the host's reply to the command that waits: writes the response to the front of `out` and
-    /// gives its length.
-    ///
-    /// The order is 13, 14, 12, 17, 15. A refusal leaves everything as it was, and the session waits on.
-    pub fn reply(&mut self, reply: Response, body: &[u8], out: &mut [u8]) -> Result<usize, Refusal> {
-        let command = self.session.awaited()?;
-        if !reply.fits(command, body.len()) {
-            return Err(Refusal::UnfitResponse);
+impl Receiver for Client {
+    type What = Command;
+
+    fn session_mut(&mut self) -> &mut Session {
+        &mut self.session
+    }
+
+    fn turn(&self) -> Turn {
+        if self.session.phase == Phase::Ended {
+            Turn::Drop(Refusal::SessionOver)
+        } else if self.session.awaits.is_some() {
+            Turn::KeepBack
+        } else {
+            Turn::Read
         }
-        let len = reply.write(body, out)?;
-        self.session.awaits = None;
-        Ok(len)
+    }
+
+    /// One command of phase two: 4, 5, 6, 9, 10, 11, 8, 15.
+    fn step(&mut self, stanza: &Stanza, draft: &mut Draft<Command>) -> Result<Command, Refusal> {
+        let step = phase_two::parse(self.session.machine, stanza)?;
+        let command = step.command;
+        step.check_rules(&self.session.tables)?;
+        step.check_space(&self.session.tables, draft.buffers)?;
+        if let Some(response) = self.at_once(command) {
+            draft.write(&response.text(b"")?)?;
+        }
+        draft.keep(self.session.apply_phase_two(step));
+        if self.waits(command) {
+            self.session.awaits = Some(command);
+            self.awaited = stanza.text().to_vec();
+        }
+        Ok(command)
     }
 }

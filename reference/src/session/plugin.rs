@@ -1,9 +1,10 @@
 //! The plugin end: it receives phase one, sends the commands of phase two, and receives the responses.
 
+use super::chunk::{self, Draft, Received, Receiver, Turn};
 use super::phase_two::Command;
 use super::{body, phase_one, phase_two, put, written, Buffers, Phase, Response, Session};
 use crate::refusal::Refusal;
-use crate::stanza;
+use crate::stanza::{self, Stanza};
 
 /// The plugin end.
 #[derive(Clone, Debug, PartialEq, Eq)]
@@ -11,20 +12,11 @@ pub struct Plugin {
     pub(super) session: Session,
 }
 
-/// What the plugin end has received: how many bytes of the text the stanza was, and its command.
+/// What the plugin end receives: the commands of phase one, and in phase two the responses.
 #[derive(Clone, Copy, Debug, PartialEq, Eq)]
-pub struct Received {
-    pub taken: usize,
-    pub command: phase_one::Command,
-}
-
-/// The response that the plugin end has received: how many bytes of the text the stanza was, which response,
-/// and the length of its body.
-#[derive(Clone, Copy, Debug, PartialEq, Eq)]
-pub struct Responded {
-    pub taken: usize,
-    pub response: Response,
-    pub body_len: usize,
+pub enum What {
+    Command(phase_one::Command),
+    Response(Response),
 }
 
 impl Plugin {
@@ -38,21 +30,19 @@ impl Plugin {
         &self.session
     }
 
-    /// Receives the first stanza of the text, a command of phase one.
+    /// Receives a piece of the input, of any length: in phase one its commands, in phase two the response that
+    /// is due, whose decoded body is written to the front of `out`. The first stanza may have begun in
+    /// earlier chunks.
     ///
-    /// The order is 13, 14, 1 to 3, 4, 5, 7, 8. A refusal leaves tables and buffers as they were; 1 and
-    /// 3 to 8 close the session.
-    pub fn receive(&mut self, text: &[u8], buffers: &mut Buffers) -> Result<Received, Refusal> {
-        let received = self.try_receive(text, buffers);
-        self.session.received(received)
-    }
-
-    fn try_receive(&mut self, text: &[u8], buffers: &mut Buffers) -> Result<Received, Refusal> {
-        self.session.in_phase(Phase::One)?;
-        let stanza = stanza::read(text)?;
-        let step = phase_one::judge(&self.session, &stanza, buffers)?;
-        self.session.apply_phase_one(&step, buffers);
-        Ok(Received { taken: stanza.taken(), command: step.command })
+    /// 13 is for the call. After that faults are met from the left, for each stanza in the order 1 to 3, then
+    /// 4, 5, 7, 8 for a command and 12, 15 for a response; 14 for bytes that none awaits, which are dropped
+    /// unread. What stood before a fault stands; only 15 leaves everything as it was before the call. 1, 3 to
+    /// 8 and 12 close the session.
+    pub fn chunk(&mut self, chunk: &[u8], buffers: &mut Buffers, out: &mut [u8]) -> Received<What> {
+        chunk::call(self, buffers, out, |plugin, draft| {
+            plugin.session.not_over()?;
+            chunk::receive(plugin, chunk, draft)
+        })
     }
 
     /// Sends a command of phase two: writes its stanza to the front of `out` and gives the length. It is kept
@@ -71,34 +61,56 @@ impl Plugin {
         let text = written(arguments, body)?;
         let stanza = stanza::read(&text)?;
         let step = phase_two::parse(self.session.machine, &stanza)?;
+        let command = step.command;
         step.check_rules(&self.session.tables)?;
         step.check_duties(&self.session.tables)?;
         step.check_space(&self.session.tables, buffers)?;
         let len = put(&text, out)?;
-        self.session.apply_phase_two(&step, buffers);
-        self.session.awaits = (step.command != Command::Done).then_some(step.command);
+        buffers.put_all(self.session.apply_phase_two(step));
+        self.session.awaits = (command != Command::Done).then_some(command);
         Ok(len)
     }
 
-    /// Receives the first stanza of the text, the response that is due, and writes its decoded body to the
-    /// front of `out`.
-    ///
-    /// The order is 13, 14, 1 to 3, 12, 15. A refusal leaves the output as it was; 1, 3 and 12 close the
-    /// session, after the others the response is still due.
-    pub fn response(&mut self, text: &[u8], out: &mut [u8]) -> Result<Responded, Refusal> {
-        let responded = self.try_response(text, out);
-        self.session.received(responded)
+    /// One command of phase one: 4, 5, 7, 8.
+    fn command(&mut self, stanza: &Stanza, draft: &mut Draft<What>) -> Result<phase_one::Command, Refusal> {
+        let step = phase_one::judge(&self.session, stanza, draft.buffers)?;
+        let command = step.command;
+        draft.keep(self.session.apply_phase_one(step));
+        Ok(command)
     }
 
-    fn try_response(&mut self, text: &[u8], out: &mut [u8]) -> Result<Responded, Refusal> {
-        let command = self.session.awaited()?;
-        let stanza = stanza::read(text)?;
+    /// The response that is due: 12, 15.
+    fn response(&mut self, stanza: &Stanza, draft: &mut Draft<What>) -> Result<Response, Refusal> {
+        let command = self.session.due()?;
         let response = Response::named(stanza.arguments()).ok_or(Refusal::UnfitResponse)?;
         if !response.fits(command, stanza.body_len()) {
             return Err(Refusal::UnfitResponse);
         }
-        let body_len = put(&body(&stanza), out)?;
+        draft.write(&body(stanza))?;
         self.session.awaits = None;
-        Ok(Responded { taken: stanza.taken(), response, body_len })
+        Ok(response)
+    }
+}
+
+impl Receiver for Plugin {
+    type What = What;
+
+    fn session_mut(&mut self) -> &mut Session {
+        &mut self.session
+    }
+
+    fn turn(&self) -> Turn {
+        if self.session.phase == Phase::One || self.session.awaits.is_some() {
+            Turn::Read
+        } else {
+            Turn::Drop(Refusal::OutOfTurn)
+        }
+    }
+
+    fn step(&mut self, stanza: &Stanza, draft: &mut Draft<What>) -> Result<What, Refusal> {
+        match self.session.phase {
+            Phase::One => self.command(stanza, draft).map(What::Command),
+            _ => self.response(stanza, draft).map(What::Response),
+        }
     }
 }

@@ -1,8 +1,8 @@
 //! The responses of phase two, and which fit which command (document 01, "Phase two").
 
 use super::phase_two::Command;
+use super::written;
 use crate::refusal::Refusal;
-use crate::stanza;
 
 /// A response, or what a client's host replies.
 #[derive(Clone, Copy, Debug, PartialEq, Eq)]
@@ -59,9 +59,9 @@ impl Response {
         FITTING[command as usize][self as usize] && (body_len == 0 || may_have_body)
     }
 
-    /// Writes its stanza to the front of `out` and gives the length; 17 for a body too long, then 15.
-    pub fn write(self, body: &[u8], out: &mut [u8]) -> Result<usize, Refusal> {
-        stanza::write(self.arguments(), body, out)
+    /// Its stanza; 17 for a body too long.
+    pub(super) fn text(self, body: &[u8]) -> Result<Vec<u8>, Refusal> {
+        written(self.arguments(), body)
     }
 }
 

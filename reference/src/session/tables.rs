@@ -54,6 +54,13 @@ impl Buffers {
         }
     }
 
+    /// Puts payloads where they belong.
+    pub fn put_all(&mut self, payloads: impl IntoIterator<Item = Payload>) {
+        for Payload { kind, start, bytes } in payloads {
+            self.0[kind as usize][start..start + bytes.len()].copy_from_slice(&bytes);
+        }
+    }
+
     /// The buffer of a kind.
     #[must_use]
     pub fn of(&self, kind: Kind) -> &[u8] {
@@ -112,6 +119,14 @@ pub struct Addition {
     pub detail: Detail,
 }
 
+/// The payload of an entry that has its slot, and where it belongs in the kind's buffer.
+#[derive(Clone, Debug, PartialEq, Eq)]
+pub struct Payload {
+    kind: Kind,
+    start: usize,
+    bytes: Vec<u8>,
+}
+
 /// The entries of each kind, in the order of acceptance.
 #[derive(Clone, Debug, Default, PartialEq, Eq)]
 pub struct Tables([Vec<Entry>; KINDS]);
@@ -137,12 +152,13 @@ impl Tables {
         self.of(kind).len() < kind.slots() && len <= buffers.of(kind).len()
     }
 
-    /// Keeps an entry that fits, its payload directly behind the one before.
-    pub fn keep(&mut self, addition: &Addition, buffers: &mut Buffers) {
-        let Addition { kind, ref payload, detail } = *addition;
-        let (start, len) = (self.payload_bytes(kind), payload.len());
-        buffers.0[kind as usize][start..start + len].copy_from_slice(payload);
-        self.0[kind as usize].push(Entry { start, len, detail });
+    /// Keeps an entry that fits; its payload belongs directly behind the one before.
+    #[must_use]
+    pub fn keep(&mut self, addition: Addition) -> Payload {
+        let Addition { kind, payload: bytes, detail } = addition;
+        let start = self.payload_bytes(kind);
+        self.0[kind as usize].push(Entry { start, len: bytes.len(), detail });
+        Payload { kind, start, bytes }
     }
 
     /// The payload of an entry as the buffer lent now shows it; empty if there is no such entry or the
@@ -174,7 +190,7 @@ mod tests {
         let mut buffers = Buffers::zeros([len; KINDS]);
         for payload in payloads {
             assert!(tables.fits(&file_key(payload), &buffers));
-            tables.keep(&file_key(payload), &mut buffers);
+            buffers.put_all([tables.keep(file_key(payload))]);
         }
         (tables, buffers)
     }

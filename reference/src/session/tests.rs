@@ -1,5 +1,6 @@
-//! Worked examples, each refusal, and what it leaves behind: each phase at both ends.
+//! Worked examples, each refusal, and what it leaves behind: each phase at both ends, and input in chunks.
 
+mod chunks;
 mod phase_one;
 mod phase_two;
 

@@ -1,31 +1,26 @@
--- Invariant: where it goes on, fewer than 8,192 bytes are left, so there is space to read to; the buffers keep their lengths.
-use Rattle.judge.proofs.run.Statement.{statement}
-use Rattle.judge.proofs.run.Tie as tie
-use Prim.Native.Nat.{_<_}
-use native.Mathlib.Omega.{arith}
+-- Invariant: the chunk and the buffers keep their lengths. The turns left become fewer.
 use mathlib.Core.Path.{_≡_, refl}
-use mathlib.Core.Bool.{true}
 use lib.ListN.{length}
 use borrow.Author.Needs.{needs}
+use Rattle.judge.proofs.run.Statement.{statement}
+use Rattle.judge.proofs.run.Tie as tie
 
 abbrev Inv-loop : tie.InvT-loop
-Inv-loop window₀ slots₀ header₀ recipients₀ identities₀ keys₀ s₀ turns₀ window slots header recipients identities keys s turns =
-    (s .more ≡ true → s .left < 8192) × (length window ≡ length window₀) × (length recipients ≡ length recipients₀) × (length identities ≡ length identities₀) × (length keys ≡ length keys₀)
+Inv-loop chunk₀ input₀ slots₀ header-slots₀ recipients₀ identities₀ keys₀ s₀ turns₀ chunk input slots header-slots recipients identities keys s turns =
+    (length chunk ≡ length chunk₀) × (length recipients ≡ length recipients₀) × (length identities ≡ length identities₀) × (length keys ≡ length keys₀)
 
 abbrev μ-loop : tie.MeasureT-loop
-μ-loop window₀ slots₀ header₀ recipients₀ identities₀ keys₀ s₀ turns₀ window slots header recipients identities keys s turns =
+μ-loop chunk₀ input₀ slots₀ header-slots₀ recipients₀ identities₀ keys₀ s₀ turns₀ chunk input slots header-slots recipients identities keys s turns =
     turns
 
 open-requires : tie.Need-open-requires Inv-loop μ-loop
 open-requires c κs = tt
 
 loop-holds : tie.Need-loop-holds Inv-loop μ-loop
-loop-holds c = (λ m. omega arith, refl, refl, refl, refl)
+loop-holds c = (refl, refl, refl, refl)
 
 run-turn-requires : tie.Need-run-turn-requires Inv-loop μ-loop
-run-turn-requires c κs =
-    let l = c .before .before .before .before .before .before .before .before .loop in
-    omega (arith, l .inv .0 (c .before .before .before .before .before .before .if1 .taken), l .inv .1, c .before .before .before .before .before .before .before .before .before .before .before .before .before .before .pre)
+run-turn-requires c κs = tt
 
 sub-turns : tie.Need-sub-turns Inv-loop μ-loop
 sub-turns c = search needs
@@ -34,7 +29,7 @@ loop-less : tie.Need-loop-less Inv-loop μ-loop
 loop-less c = search needs
 
 loop-again : tie.Need-loop-again Inv-loop μ-loop
-loop-again c = (c .before .before .before .before .before .before .before .before .run-turn .ensures, search needs, search needs, search needs, search needs)
+loop-again c = (search needs, search needs, search needs, search needs)
 
 numbers-requires : tie.Need-numbers-requires Inv-loop μ-loop
 numbers-requires c κs = tt

@@ -14,7 +14,10 @@ use Rattle.stanza.specs.Grammar.{firstLine}
 use Rattle.stanza.specs.Reading.{found}
 use Rattle.phase_one.specs.Commands.{add-recipient, add-identity, wrap-file-key, done-word, lineSent}
 use Rattle.conversation.specs.Receiving.{receivedStanza, received}
-use Rattle.judging.specs.Judging.{judgedWith, judged}
+use Rattle.chunks.specs.Cutting.{cutAt, cut}
+use Rattle.chunks.specs.Taking.{joined, takenAll}
+use Rattle.chunks.specs.Chunks.{chunked}
+use Rattle.judging.specs.Judging.{judged}
 
 -- a command with no body
 abbrev bare : List ℕ → List ℕ
@@ -32,10 +35,10 @@ example =
 
 -- recipients 2, identities 1, file keys 2, header stanzas 0, answer 0
 pub example-judged : judged example ≡ record { recipients = 2; identities = 1; keys = 2; headers = 0; answer = 0 }
-unfolding judgedWith received receivedStanza found scan next verdict run words before same isGraphic isCharacter valueOf endsWell decoded unwrapped
+unfolding chunked cut cutAt takenAll joined received receivedStanza found scan next verdict run words before same isGraphic isCharacter valueOf endsWell decoded unwrapped
 example-judged = refl
 
 -- "Empty input: four zeros and answer 2"
 pub empty-judged : judged [] ≡ record { recipients = 0; identities = 0; keys = 0; headers = 0; answer = 2 }
-unfolding judgedWith received found scan
+unfolding chunked cut takenAll
 empty-judged = refl

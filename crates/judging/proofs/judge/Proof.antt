@@ -1,12 +1,12 @@
--- A text that is one window and the last, judged from the start with fresh slots, is judged whole.
+-- A text that is one chunk, judged from the start with fresh slots.
+use mathlib.Core.Path.{_≡_, ap, ap₂, _∙_}
+use denote.Ref.{now}
+use Rattle.conversation.specs.PhaseTwo.{BuffersTwo}
+use Rattle.judging.specs.Judging.{State, Standing, numbersOf, judgedFrom, judgedText}
+use Rattle.judging.specs.Said.{standingOf, buffersIn, stateSaid}
 use borrow.Author.Needs.{needs}
 use Rattle.judging.proofs.judge.Statement.{statement}
 use Rattle.judging.proofs.judge.Tie as tie
-use mathlib.Core.Path.{ap, ap₂, _∙_}
-use denote.Ref.{now}
-use Rattle.judging.specs.Judging.{numbersOf}
-use Rattle.judging.specs.Said.{standingOf, buffersIn, turnSaid}
-use Rattle.judging.proofs.Laws.Steps.{whole}
 
 open-requires : tie.Need-open-requires
 open-requires c κs = search needs
@@ -17,8 +17,8 @@ open-slots-requires c κs = search needs
 open-header-slots-requires : tie.Need-open-header-slots-requires
 open-header-slots-requires c κs = search needs
 
-judge-window-requires : tie.Need-judge-window-requires
-judge-window-requires c κs = search needs
+judge-chunk-requires : tie.Need-judge-chunk-requires
+judge-chunk-requires c κs = search needs
 
 numbers-requires : tie.Need-numbers-requires
 numbers-requires c κs = search needs
@@ -34,14 +34,16 @@ same-length-3 c = search needs
 
 returns : tie.Need-returns
 returns c =
-    let a = c .before .before .before .before .before .before .before .before .before .before .before .before .before .before .before .before .before .before .before .before .args in
-    let j = c .before .before .before .before .before .before .before .judge-window in
-    let begun = c .before .before .before .before .before .before .before .before .before .before .before .before .before .before .before .«open» in
-    let xs = c .before .before .before .before .before .before .before .before .before .before .before .before .before .before .open-slots in
-    let hs = c .before .before .before .before .before .before .before .before .before .before .before .before .before .open-header-slots in
-    let e = whole (turnSaid (j .result) (j .last .1 .1 .1 .0) (j .last .1 .1 .1 .1 .0) (j .last .1 .1 .1 .1 .1 .0) (j .last .1 .1 .1 .1 .1 .1 .0) (j .last .1 .1 .1 .1 .1 .1 .1 .0)) (standingOf (begun .result) (xs .result) (hs .result)) (buffersIn (now (a .recipients)) (now (a .identities)) (now (a .keys))) (now (a .text)) (j .ensures .0)
-    (ap₂ (standingOf (begun .result)) (xs .ensures) (hs .ensures) ∙ begun .ensures .0 .0) in
-    (c .numbers .ensures (j .last .1 .1 .1 .0) (j .last .1 .1 .1 .1 .0) ∙ ap (λ t. numbersOf (t .standing)) e, ap (λ t. t .buffers) e)
+    let a = c .before .before .before .before .before .before .before .before .before .before .before .before .before .before .before .before .before .before .before .before .before .args in
+    let j = c .before .before .before .before .before .before .before .judge-chunk in
+    let begun = c .before .before .before .before .before .before .before .before .before .before .before .before .before .before .before .before .«open» in
+    let xs = c .before .before .before .before .before .before .before .before .before .before .before .before .before .before .before .open-slots in
+    let hs = c .before .before .before .before .before .before .before .before .before .before .before .before .before .before .open-header-slots in
+    let e : (d : BuffersTwo) → stateSaid (j .result) (j .last .1 .1 .1 .0) (j .last .1 .1 .1 .1 .0) (j .last .1 .1 .0) (buffersIn (j .last .1 .1 .1 .1 .1 .0) (j .last .1 .1 .1 .1 .1 .1 .0) (j .last .1 .1 .1 .1 .1 .1 .1 .0) d) ≡ judgedText (buffersIn (now (a .recipients)) (now (a .identities)) (now (a .keys)) d) (now (a .text)) =
+    λ d. j .ensures .0 d ∙ ap (λ (s : Standing). judgedFrom s (buffersIn (now (a .recipients)) (now (a .identities)) (now (a .keys)) d) (now (a .text))) (ap₂ (λ xs hs. standingOf (begun .result) xs hs _) (xs .ensures) (hs .ensures) ∙ begun .ensures .0 _) in (
+      (λ d. c .numbers .ensures (j .last .1 .1 .1 .0) (j .last .1 .1 .1 .1 .0) (j .last .1 .1 .0) ∙ ap (λ (s : State). numbersOf (s .standing)) (e d)),
+      (λ d. ap (λ (s : State). s .buffers) (e d)),
+    )
 
 pub judge-spec : {M : Type 1} → statement M
 judge-spec =
@@ -50,7 +52,7 @@ judge-spec =
     open-requires
     open-slots-requires
     open-header-slots-requires
-    judge-window-requires
+    judge-chunk-requires
     numbers-requires
     same-length
     same-length-2

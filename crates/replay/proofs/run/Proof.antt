@@ -5,11 +5,11 @@ use native.Mathlib.Omega.{arith}
 use borrow.Author.Needs.{needs}
 
 abbrev Inv-loop : tie.InvT-loop
-Inv-loop chunk₀ line₀ text₀ buffer₀ out₀ slots₀ header₀ recipients₀ identities₀ keys₀ headers₀ errors₀ stanzas₀ returned₀ s₀ host₀ turns₀ chunk line text buffer out slots header recipients identities keys headers errors stanzas returned s host turns =
+Inv-loop chunk₀ line₀ text₀ buffer₀ out₀ client-input₀ plugin-input₀ slots₀ header-slots₀ recipients₀ identities₀ keys₀ headers₀ s₀ host₀ turns₀ chunk line text buffer out client-input plugin-input slots header-slots recipients identities keys headers s host turns =
     Unit {0}
 
 abbrev μ-loop : tie.MeasureT-loop
-μ-loop chunk₀ line₀ text₀ buffer₀ out₀ slots₀ header₀ recipients₀ identities₀ keys₀ headers₀ errors₀ stanzas₀ returned₀ s₀ host₀ turns₀ chunk line text buffer out slots header recipients identities keys headers errors stanzas returned s host turns =
+μ-loop chunk₀ line₀ text₀ buffer₀ out₀ client-input₀ plugin-input₀ slots₀ header-slots₀ recipients₀ identities₀ keys₀ headers₀ s₀ host₀ turns₀ chunk line text buffer out client-input plugin-input slots header-slots recipients identities keys headers s host turns =
     turns
 
 start-requires : tie.Need-start-requires Inv-loop μ-loop
@@ -37,10 +37,10 @@ print-answer-requires : tie.Need-print-answer-requires Inv-loop μ-loop
 print-answer-requires c κs = search needs
 
 sub-turns : tie.Need-sub-turns Inv-loop μ-loop
-sub-turns c = omega (arith, c .before .before .before .before .before .before .before .before .before .before .before .before .before .before .before .before .before .before .before .before .before .before .before .before .before .before .before .before .before .loop-test .taken)
+sub-turns c = omega (arith, c .before .before .before .before .before .before .before .before .before .before .before .before .before .before .before .before .before .before .before .before .before .before .before .before .before .before .before .before .loop-test .taken)
 
 loop-less : tie.Need-loop-less Inv-loop μ-loop
-loop-less c = omega (arith, c .before .before .before .before .before .before .before .before .before .before .before .before .before .before .before .before .before .before .before .before .before .before .before .before .before .before .before .before .before .loop-test .taken)
+loop-less c = omega (arith, c .before .before .before .before .before .before .before .before .before .before .before .before .before .before .before .before .before .before .before .before .before .before .before .before .before .before .before .before .loop-test .taken)
 
 loop-again : tie.Need-loop-again Inv-loop μ-loop
 loop-again c = search needs

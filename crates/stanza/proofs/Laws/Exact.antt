@@ -151,7 +151,7 @@ unfolding dead-or
 start-alive = alive-if start refl
 
 -- what the answer tells of the scan
-found-bad : (n : ℕ) (w : List ℕ) (x : Scan) → found n w x ≡ refused 1 → x ≡ bad
+pub found-bad : (n : ℕ) (w : List ℕ) (x : Scan) → found n w x ≡ refused 1 → x ≡ bad
 unfolding found
 found-bad n w bad e = refl
 found-bad n w short e =

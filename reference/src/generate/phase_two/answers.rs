@@ -52,7 +52,7 @@ fn replies(script: &mut Script) {
             for word in WORDS {
                 for body in [b"".as_slice(), b"b"] {
                     // A command that is kept is refused the second time, or not; then replies give 13 or 14.
-                    script.hear(&command.text(), LONGEST_ANSWER);
+                    script.chunk(&command.text(), LONGEST_ANSWER);
                     script.reply(&Answer::with_body(word, body), 20);
                     script.reply(&Answer::new("fail"), 9);
                 }
@@ -94,12 +94,12 @@ fn odd_responses(script: &mut Script) {
         for command in ["msg", "confirm eWVz bm8", "request-secret", "error internal", "grease"] {
             script.enter(End::Plugin, &Start::new(RECIPIENT, SHORT, &[]), [0; 7]);
             script.send(&Command::of_line(command.as_bytes(), b""), 30);
-            script.response(&stanza_text(line.as_bytes(), b""), 0);
+            script.chunk(&stanza_text(line.as_bytes(), b""), 0);
         }
     }
 }
 
-/// Texts that are refused with 1 and 2, or have more behind the response.
+/// Texts that are no stanza, have not ended yet, or have more behind the response.
 fn response_texts(script: &mut Script) {
     script.heading("Texts of responses");
     let texts: [&[u8]; 21] = [
@@ -111,9 +111,9 @@ fn response_texts(script: &mut Script) {
     for text in texts {
         script.enter(End::Plugin, &Start::new(RECIPIENT, SHORT, &[]), [0; 7]);
         script.send(&Command::of_line(b"request-public", b""), 19);
-        script.response(text, 1);
+        script.chunk(text, 1);
         script.show();
-        script.response(b"-> ok\n\n", 0);
+        script.chunk(b"-> ok\n\n", 0);
     }
 }
 
@@ -127,18 +127,18 @@ fn screens(script: &mut Script) {
             script.pass(End::Client, &Command::done());
             for command in for_the_host() {
                 for out in [0, 8, 9] {
-                    script.hear(&command.text(), out);
+                    script.chunk(&command.text(), out);
                 }
                 script.show();
                 script.reply(&Answer::new("fail"), 9);
             }
-            script.hear(&Command::done().text(), 0);
+            script.chunk(&Command::done().text(), 0);
             script.show();
         }
         script.heading(&format!("{}: a wrong form comes before fail", start.machine));
         for line in ["msg a", "confirm", "confirm A", "request-public a", "request-secret a"] {
             script.enter_client(Screen::No, &start, AMPLE);
-            script.hear(&stanza_text(line.as_bytes(), b""), 0);
+            script.chunk(&stanza_text(line.as_bytes(), b""), 0);
             script.show();
         }
     }
@@ -158,13 +158,13 @@ fn long_replies(script: &mut Script) {
         ("msg", "ok", 0),
         ("confirm AA", "yes", 0),
     ] {
-        script.hear(&stanza_text(line.as_bytes(), b""), 0);
+        script.chunk(&stanza_text(line.as_bytes(), b""), 0);
         script.reply(&Answer::with_body(word, &too_long), out);
         script.show();
         script.reply(&Answer::new("fail"), 9);
     }
     script.heading("The longest reply");
-    script.hear(b"-> request-secret\n\n", 0);
+    script.chunk(b"-> request-secret\n\n", 0);
     let longest = Answer::with_body("ok", &[b'r'; LONGEST_BODY]);
     script.reply(&longest, LIMIT - 1);
     script.reply(&longest, LIMIT);
@@ -179,8 +179,8 @@ fn long_responses(script: &mut Script) {
     for text in [&longest, &too_long, &argument] {
         script.enter(End::Plugin, &Start::new(RECIPIENT, SHORT, &[]), [0; 7]);
         script.send(&Command::of_line(b"request-secret", b""), 19);
-        script.response(text, LONGEST_BODY - 1);
-        script.response(text, LONGEST_BODY);
+        script.chunk(text, LONGEST_BODY - 1);
+        script.chunk(text, LONGEST_BODY);
         script.show();
     }
 }
@@ -201,7 +201,7 @@ fn output_for_replies(script: &mut Script) {
     ];
     for (line, reply) in replies {
         let len = reply.text().len();
-        script.hear(&stanza_text(line.as_bytes(), b""), 0);
+        script.chunk(&stanza_text(line.as_bytes(), b""), 0);
         for out in [0, len - 1, len] {
             script.reply(&reply, out);
         }
@@ -218,10 +218,10 @@ fn output_for_responses(script: &mut Script) {
         for out in [len, len + 1] {
             script.send(&Command::of_line(b"request-secret", b"PIN"), 99);
             if len > 0 {
-                script.response(&text, 0);
-                script.response(&text, len - 1);
+                script.chunk(&text, 0);
+                script.chunk(&text, len - 1);
             }
-            script.response(&text, out);
+            script.chunk(&text, out);
         }
     }
     script.show();

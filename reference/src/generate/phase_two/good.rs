@@ -16,7 +16,7 @@ const UNKNOWN: [&str; 9] =
     ["grease", "Msg", "msg!", "add-recipient", "wrap-file-key", "ok", "labels", "Done", "~"];
 
 /// A phase one of up to eight commands. In three of four all recipients and identities are valid.
-pub(super) fn some_start(script: &mut Script) -> Start {
+pub(in crate::generate) fn some_start(script: &mut Script) -> Start {
     let machine = MACHINES[script.random.below(2)];
     let plugins = if machine == RECIPIENT { [SHORT, SHORT] } else { [SHORT, FIDO2_HMAC] };
     let plugin = plugins[script.random.below(2)];
@@ -114,13 +114,13 @@ fn phase_one_tables(start: &Start) -> Tables {
     let mut plugin = Plugin::open(start.machine.as_bytes(), start.plugin).expect("both names are good");
     let mut buffers = Buffers::zeros([10_000; KINDS]);
     for command in &start.phase_one {
-        plugin.receive(&command.text(), &mut buffers).expect("phase one is good");
+        plugin.chunk(&command.text(), &mut buffers, &mut []).accepted().expect("phase one is good");
     }
     plugin.session().tables().clone()
 }
 
 /// Work, the errors that are owed and some that are not, talk and unknown commands in any order, and done.
-pub(super) fn some_exchanges(script: &mut Script, start: &Start) -> Vec<Exchange> {
+pub(in crate::generate) fn some_exchanges(script: &mut Script, start: &Start) -> Vec<Exchange> {
     let facts = Facts::of(start);
     let mut exchanges = Vec::new();
     for cause in facts.causes() {
@@ -209,7 +209,7 @@ fn some_unwrapping(script: &mut Script, facts: &Facts) -> Vec<Exchange> {
 
 /// A command that is kept, of a good form and with indices that name something; whether the rules allow it
 /// beside the others is another matter.
-pub(super) fn some_kept(script: &mut Script, start: &Start) -> Exchange {
+pub(in crate::generate) fn some_kept(script: &mut Script, start: &Start) -> Exchange {
     let facts = Facts::of(start);
     let choice = script.random.below(4);
     if start.machine == RECIPIENT && choice > 0 && facts.file_keys > 0 {
@@ -228,7 +228,7 @@ pub(super) fn some_kept(script: &mut Script, start: &Start) -> Exchange {
 }
 
 /// A message, a question or a request, with an answer that fits.
-pub(super) fn some_talk(script: &mut Script) -> Exchange {
+pub(in crate::generate) fn some_talk(script: &mut Script) -> Exchange {
     let message = some_message(script);
     let (line, words): (&str, &[&'static str]) = match script.random.below(5) {
         0 => ("msg", &["ok", "fail"]),
@@ -278,24 +278,27 @@ mod tests {
             let mut out = vec![0; 10_000];
             for command in start.phase_one.iter().chain([&Command::done()]) {
                 let len = client.send(&command.line(), &command.body, &mut buffers[0], &mut out).unwrap();
-                plugin.receive(&out[..len], &mut buffers[1]).unwrap();
+                plugin.chunk(&out[..len], &mut buffers[1], &mut []).accepted().unwrap();
             }
             for exchange in &exchanges {
                 let Command { body, .. } = &exchange.command;
                 let len = plugin.send(&exchange.command.line(), body, &mut buffers[1], &mut out).unwrap();
                 assert_eq!(out[..len], exchange.command.text());
-                let heard = client.receive(&exchange.command.text(), &mut buffers[0], &mut out).unwrap();
+                let command = exchange.command.text();
+                let received = client.chunk(&command, &mut buffers[0], &mut out).accepted().unwrap();
                 let Some(answer) = &exchange.answer else { continue };
                 let reply = Response::ALL[["ok", "yes", "no", "fail", "unsupported"]
                     .iter()
                     .position(|&word| word == answer.word)
                     .unwrap()];
-                let len = match client.session().awaits() {
-                    Some(_) => client.reply(reply, &answer.body, &mut out).unwrap(),
-                    None => heard.written,
+                let received = match client.session().awaits() {
+                    Some(_) => {
+                        client.reply(reply, &answer.body, &mut buffers[0], &mut out).accepted().unwrap()
+                    }
+                    None => received,
                 };
-                assert_eq!(out[..len], answer.text());
-                plugin.response(&answer.text(), &mut out).unwrap();
+                assert_eq!(out[..received.written], answer.text());
+                plugin.chunk(&answer.text(), &mut buffers[1], &mut out).accepted().unwrap();
             }
             assert_eq!(client.session(), plugin.session());
             assert_eq!(client.session().phase(), Phase::Ended);

@@ -200,7 +200,7 @@ fn output_buffers(script: &mut Script) {
                 let waits = exchange.asks_the_host();
                 if !waits && answer > 0 {
                     for out in [0, answer - 1] {
-                        script.hear(&exchange.command.text(), out);
+                        script.chunk(&exchange.command.text(), out);
                     }
                     script.show();
                 }
@@ -257,7 +257,7 @@ fn unwritable(script: &mut Script) {
             ("msg a", ""),
         ] {
             script.send(&Command::new(word.as_bytes(), arguments.as_bytes(), b""), 100);
-            script.response(b"-> ok\n\n", 0);
+            script.chunk(b"-> ok\n\n", 0);
         }
         script.show();
     }
@@ -293,8 +293,8 @@ fn long_stanzas(script: &mut Script) {
         [b"-> msg\n".as_slice(), &body_line.repeat(126)].concat(),
     ] {
         script.enter(End::Client, &Start::recipient(), AMPLE);
-        script.hear(&text[..8_100], LONGEST_ANSWER);
-        script.hear(&text, LONGEST_ANSWER);
+        script.chunk(&text[..8_100], LONGEST_ANSWER);
+        script.chunk(&text[8_100..], LONGEST_ANSWER);
         script.show();
     }
 }

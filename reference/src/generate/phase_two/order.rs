@@ -83,13 +83,13 @@ fn receiving(script: &mut Script) {
             script.enter(End::Client, &Start::findings(), AMPLE);
             script.exchange_all(End::Client, &before_the_faults());
             script.buffers(lens);
-            script.hear(&text, 0);
+            script.chunk(&text, 0);
         }
         // 14 before them all.
         script.enter(End::Client, &Start::new(IDENTITY, SHORT, &[]), AMPLE);
-        script.hear(b"-> msg\n\n", 0);
-        script.hear(&text, 0);
-        script.hear(&text[..text.len() - 1], 0);
+        script.chunk(b"-> msg\n\n", 0);
+        script.chunk(&text, 0);
+        script.chunk(&text[..text.len() - 1], 0);
     }
 }
 
@@ -120,7 +120,7 @@ fn replying(script: &mut Script) {
     script.heading("Several faults at once: replies");
     script.enter_client(Screen::Yes, &Start::new(RECIPIENT, SHORT, &[]), [0; KINDS]);
     for line in ["msg", "confirm AA", "request-public", "request-secret"] {
-        script.hear(&Command::of_line(line.as_bytes(), b"").text(), 0);
+        script.chunk(&Command::of_line(line.as_bytes(), b"").text(), 0);
         for word in ["ok", "yes", "no", "fail", "unsupported"] {
             script.reply(&Answer::new(word), 0);
             script.reply(&Answer::with_body(word, b"b"), 0);
@@ -138,10 +138,10 @@ fn responding(script: &mut Script) {
     ];
     for text in texts {
         script.enter(End::Plugin, &Start::new(RECIPIENT, SHORT, &[]), [0; KINDS]);
-        script.response(text, 0);
+        script.chunk(text, 0);
         script.send(&Command::of_line(b"request-secret", b""), 19);
-        script.response(text, 0);
-        script.response(text, 1);
+        script.chunk(text, 0);
+        script.chunk(text, 1);
         script.show();
     }
 }

@@ -3,7 +3,7 @@
 use super::exchanges::{Answer, Exchange, Screen, Start, AMPLE, LONGEST_ANSWER, WORDS};
 use super::good::{some_exchanges, some_kept, some_start, some_talk};
 use crate::generate::commands::{Command, End, ENDS};
-use crate::generate::phase_one::{damaged_command, damaged_text};
+use crate::generate::phase_one::{damaged_command, damaged_text, some_tail};
 use crate::generate::Script;
 use crate::session::{Buffers, Client, Kind, KINDS};
 
@@ -94,7 +94,8 @@ fn kept_lengths(start: &Start, exchanges: &[Exchange]) -> [usize; KINDS] {
         client.send(&command.line(), &command.body, &mut buffers, &mut out).expect("phase one is good");
     }
     for exchange in exchanges {
-        client.receive(&exchange.command.text(), &mut buffers, &mut out).expect("phase two is good");
+        let received = client.chunk(&exchange.command.text(), &mut buffers, &mut out);
+        received.accepted().expect("phase two is good");
     }
     let tables = client.session().tables();
     let len = |kind, number| tables.payload(kind, number as u64, &buffers).len();
@@ -104,7 +105,10 @@ fn kept_lengths(start: &Start, exchanges: &[Exchange]) -> [usize; KINDS] {
 }
 
 /// The exchanges with one or two things wrong or in another place.
-fn damaged_exchanges(script: &mut Script, mut exchanges: Vec<Exchange>) -> Vec<Exchange> {
+pub(in crate::generate) fn damaged_exchanges(
+    script: &mut Script,
+    mut exchanges: Vec<Exchange>,
+) -> Vec<Exchange> {
     for _ in 0..=script.random.below(2) {
         let at = script.random.below(exchanges.len());
         let other = script.random.below(exchanges.len());
@@ -151,11 +155,11 @@ fn damaged_on_the_way(script: &mut Script, end: End, start: &Start, exchanges: &
             script.exchange(end, exchange);
         } else if end == End::Client {
             let text = damaged_text(script, &exchange.command.text());
-            script.hear(&text, LONGEST_ANSWER);
+            script.chunk(&text, LONGEST_ANSWER);
         } else if let Some(answer) = &exchange.answer {
             script.send(&exchange.command, exchange.command.text().len());
             let text = damaged_text(script, &answer.text());
-            script.response(&text, answer.body.len() + 1);
+            script.chunk(&text, answer.body.len() + 1);
         }
     }
     script.show();
@@ -190,28 +194,29 @@ fn out_of_turn(script: &mut Script, end: End) {
     match (script.random.below(3), end) {
         (0, End::Client) => script.send(&talk.command, 100),
         (1, End::Client) => script.reply(&answer, 50),
-        (_, End::Client) => script.hear(&talk.command.text(), 9),
-        (0, End::Plugin) => script.receive(&talk.command.text()),
-        (1, End::Plugin) => script.response(&answer.text(), 50),
+        (_, End::Client) => script.chunk(&talk.command.text(), 9),
+        (0, End::Plugin) => script.chunk(&talk.command.text(), 0),
+        (1, End::Plugin) => script.chunk(&answer.text(), 50),
         (_, End::Plugin) => script.send(&talk.command, 100),
     }
 }
 
-/// Receives a text that may have more behind it, may not have ended yet, or may lack output space; then the
-/// host's reply, perhaps after an unfit one or one that finds no space.
+/// Receives a command that may be cut in two, may lack output space, and now and then has more behind it; then
+/// the host's reply, perhaps after an unfit one or one that finds no space.
 fn random_hearing(script: &mut Script, exchange: &Exchange) {
-    let text = exchange.command.text();
+    let mut text = exchange.command.text();
     let answer = exchange.answer.as_ref().map_or(0, |answer| answer.text().len());
     if script.random.below(4) == 0 {
-        let len = script.random.below(text.len());
-        script.hear(&text[..len], LONGEST_ANSWER);
+        let rest = text.split_off(script.random.below(text.len()));
+        script.chunk(&text, 0);
+        text = rest;
     }
     if script.random.below(4) == 0 && !exchange.asks_the_host() && answer > 0 {
         let out = script.random.below(answer);
-        script.hear(&text, out);
+        script.chunk(&text, out);
     }
-    let tail: &[u8] = [b"".as_slice(), b"", b"\r", b"-> done\n\n"][script.random.below(4)];
-    script.hear(&[text.as_slice(), tail].concat(), LONGEST_ANSWER);
+    let tail = some_tail(script, b"-> grease\n\n");
+    script.chunk(&[text.as_slice(), tail].concat(), 2 * LONGEST_ANSWER);
     if let (true, Some(reply)) = (exchange.asks_the_host(), &exchange.answer) {
         if script.random.below(4) == 0 {
             let unfit = some_answer(script);
@@ -220,7 +225,8 @@ fn random_hearing(script: &mut Script, exchange: &Exchange) {
         if script.random.below(4) == 0 {
             script.reply(reply, answer - 1);
         }
-        script.reply(reply, answer);
+        let more = script.random.below(2) * LONGEST_ANSWER;
+        script.reply(reply, answer + more);
     }
 }
 
@@ -235,16 +241,17 @@ fn random_sending(script: &mut Script, exchange: &Exchange) {
     let out = [len, len, len + 1, 65_536][script.random.below(4)];
     script.send(&exchange.command, out);
     let Some(answer) = &exchange.answer else { return };
-    let text = answer.text();
+    let mut text = answer.text();
     if script.random.below(4) == 0 {
-        let len = script.random.below(text.len());
-        script.response(&text[..len], 99);
+        let rest = text.split_off(script.random.below(text.len()));
+        script.chunk(&text, 0);
+        text = rest;
     }
     if script.random.below(3) == 0 && !answer.body.is_empty() {
         let out = script.random.below(answer.body.len());
-        script.response(&text, out);
+        script.chunk(&text, out);
     }
-    let tail: &[u8] = [b"".as_slice(), b"", b"\r", b"-> ok\n\n"][script.random.below(4)];
+    let tail = some_tail(script, b"-> ok\n\n");
     let out = answer.body.len() + script.random.below(2);
-    script.response(&[text.as_slice(), tail].concat(), out);
+    script.chunk(&[text.as_slice(), tail].concat(), out);
 }

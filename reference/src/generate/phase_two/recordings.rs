@@ -43,15 +43,12 @@ fn enter_client(script: &mut Script, recording: &Recording, screen: Screen) {
     script.pass_all(End::Client, &recording.phase_one());
 }
 
-/// The client sends phase one and receives the commands, the rest of the text behind each. With a screen the
-/// host replies what was recorded.
+/// The client sends phase one and receives the commands. With a screen the host replies what was recorded.
 fn at_client(script: &mut Script, recording: &Recording, screen: Screen, commands: &[Command]) {
     enter_client(script, recording, screen);
-    let mut texts = commands.iter().flat_map(Command::text).collect::<Vec<u8>>();
     let responses = recording.responses();
     for (at, command) in commands.iter().enumerate() {
-        script.hear(&texts, LONGEST_ANSWER);
-        texts.drain(..command.text().len());
+        script.chunk(&command.text(), LONGEST_ANSWER);
         if let (Screen::Yes, Some(response)) = (screen, responses.get(at)) {
             script.reply(&as_answer(response), LONGEST_ANSWER);
         }
@@ -65,20 +62,15 @@ fn as_answer(response: &Command) -> Answer {
     Answer::new(word.expect("no recorded response has a body"))
 }
 
-/// The plugin receives phase one, sends each command, and receives the responses, the rest behind each.
+/// The plugin receives phase one, sends each command, and receives the responses.
 fn at_plugin(script: &mut Script, recording: &Recording, plugin: &[u8]) {
     script.open(End::Plugin, recording.machine, plugin, AMPLE);
-    let mut text = recording.text;
-    for command in recording.phase_one() {
-        script.receive(text);
-        text = &text[command.text().len()..];
-    }
+    script.pass_all(End::Plugin, &recording.phase_one());
     let responses = recording.responses();
     for (at, command) in recording.phase_two().iter().enumerate() {
         script.send(command, command.text().len());
         if let Some(response) = responses.get(at) {
-            script.response(text, 0);
-            text = &text[response.text().len()..];
+            script.chunk(&response.text(), 0);
         }
     }
     script.show();
@@ -92,7 +84,7 @@ fn damaged_at_client(script: &mut Script, recording: &Recording) {
     for (at, command) in commands.iter().enumerate().skip(damaged.saturating_sub(2)).take(4) {
         let text = command.text();
         let text = if at == damaged { damaged_text(script, &text) } else { text };
-        script.hear(&text, LONGEST_ANSWER);
+        script.chunk(&text, LONGEST_ANSWER);
     }
     script.show();
 }
@@ -108,7 +100,7 @@ fn damaged_at_plugin(script: &mut Script, recording: &Recording) {
         script.send(&command, 100);
         let text = response.text();
         let text = if at == damaged { damaged_text(script, &text) } else { text };
-        script.response(&text, 9);
+        script.chunk(&text, 9);
     }
     script.show();
 }

@@ -60,13 +60,13 @@ fn forms(script: &mut Script) {
 fn form(script: &mut Script, end: End, start: &Start, command: &Command) {
     script.enter(end, start, [60; 7]);
     match end {
-        End::Client => script.hear(&command.text(), LONGEST_ANSWER),
+        End::Client => script.chunk(&command.text(), LONGEST_ANSWER),
         End::Plugin => script.send(command, 100),
     }
     let answer = if command.word == b"confirm" { "yes" } else { "ok" };
     match end {
         End::Client => script.reply(&Answer::new(answer), 20),
-        End::Plugin => script.response(&Answer::new(answer).text(), 0),
+        End::Plugin => script.chunk(&Answer::new(answer).text(), 0),
     }
     script.exchange(end, &Exchange::done());
 }

@@ -1,4 +1,4 @@
-//! Each call in each state in which it may not be made: 13 and 14; and look-ups, which always may.
+//! Each call in each state in which it may not be made: 13 and 14; and questions and look-ups, which always may.
 
 use super::exchanges::{file_key, recipient, Answer, Exchange, Start, AMPLE, SHORT, WORDS};
 use crate::bech32::Kind;
@@ -19,19 +19,21 @@ pub(super) fn sections(script: &mut Script) {
     after_every_refusal(script);
 }
 
-/// Calls of phase two: of the end itself, good and bad.
+/// What may always be asked, and a chunk that asks nothing.
+fn questions(script: &mut Script) {
+    script.chunk(b"", 0);
+    script.awaited();
+    script.finish();
+}
+
+/// Calls by which the end goes on in phase two: of the end itself, good and bad.
 fn calls_of_phase_two(script: &mut Script, end: End) {
     match end {
         End::Client => {
-            for text in [b"-> msg\n\n".as_slice(), b"-> done\n\n", b"x", b"", b"-> grease\n\n"] {
-                script.hear(text, 20);
-            }
+            chunks(script, &[b"-> msg\n\n", b"-> done\n\n", b"x", b"-> grease\n\n", b"-> "]);
             replies(script);
         }
-        End::Plugin => {
-            sends(script, &["msg", "done", "grease", "error internal", ""]);
-            responses(script);
-        }
+        End::Plugin => sends(script, &["msg", "done", "grease", "error internal", ""]),
     }
 }
 
@@ -42,9 +44,10 @@ fn replies(script: &mut Script) {
     script.reply(&Answer::with_body("ok", &[b'x'; 100]), 0);
 }
 
-fn responses(script: &mut Script) {
-    for text in [b"-> ok\n\n".as_slice(), b"-> ok\nAA\n", b"x", b"", b"-> unsupported\n\n"] {
-        script.response(text, 0);
+/// Chunks for a session that awaits none.
+fn chunks(script: &mut Script, chunks: &[&[u8]]) {
+    for chunk in chunks {
+        script.chunk(chunk, 20);
     }
 }
 
@@ -54,14 +57,12 @@ fn sends(script: &mut Script, lines: &[&str]) {
     }
 }
 
-/// Calls of phase one: of the end itself, good and bad.
+/// Calls by which the end goes on in phase one: of the end itself, good and bad.
 fn calls_of_phase_one(script: &mut Script, end: End) {
     match end {
         End::Client => sends(script, &["add-identity a", "done", "done a", "grease", ""]),
         End::Plugin => {
-            for text in [b"-> add-identity a\n\n".as_slice(), b"-> done\n\n", b"x", b"", b"-> ok\n\n"] {
-                script.receive(text);
-            }
+            chunks(script, &[b"-> add-identity a\n\n", b"-> done\n\n", b"x", b"-> ok\n\n", b"-> "]);
         }
     }
 }
@@ -76,9 +77,11 @@ fn look_ups(script: &mut Script) {
 fn in_phase_one(script: &mut Script, end: End, start: &Start) {
     script.heading(&format!("Calls of phase two in phase one, {}, {end:?}", start.machine));
     script.open(end, start.machine, start.plugin, AMPLE);
+    questions(script);
     calls_of_phase_two(script, end);
     script.pass_all(end, &start.phase_one);
     calls_of_phase_two(script, end);
+    questions(script);
     script.show();
 }
 
@@ -87,10 +90,10 @@ fn in_phase_two(script: &mut Script, end: End, start: &Start) {
     script.enter(end, start, AMPLE);
     for round in 0..2 {
         calls_of_phase_one(script, end);
-        match end {
-            End::Client => replies(script),
-            End::Plugin => responses(script),
+        if end == End::Client {
+            replies(script);
         }
+        questions(script);
         look_ups(script);
         if round == 0 {
             script.exchange(end, &Exchange::of_line("grease", b"", "unsupported"));
@@ -99,7 +102,8 @@ fn in_phase_two(script: &mut Script, end: End, start: &Start) {
     script.show();
 }
 
-/// While an answer is due: every command, and every call of phase one.
+/// While an answer is due: every command, and every call of phase one. What a plugin end would receive then is
+/// the answer.
 fn while_waiting(script: &mut Script, end: End, start: &Start) {
     let mut lines = vec!["msg", "confirm AA", "request-public", "request-secret"];
     if end == End::Plugin {
@@ -110,18 +114,17 @@ fn while_waiting(script: &mut Script, end: End, start: &Start) {
         script.enter(end, start, AMPLE);
         let command = Command::of_line(line.as_bytes(), b"");
         match end {
-            End::Client => script.hear(&command.text(), 0),
-            End::Plugin => script.send(&command, 100),
-        }
-        calls_of_phase_one(script, end);
-        match end {
             End::Client => {
-                for text in [b"-> msg\n\n".as_slice(), b"-> done\n\n", b"-> ok\n\n", b"x", b""] {
-                    script.hear(text, 20);
-                }
+                script.chunk(&command.text(), 0);
+                calls_of_phase_one(script, end);
+                chunks(script, &[b"-> msg\n\n", b"-> done\n\n", b"-> ok\n\n", b"x", b"-> "]);
             }
-            End::Plugin => sends(script, &["msg", "done", "grease", "error internal", ""]),
+            End::Plugin => {
+                script.send(&command, 100);
+                calls_of_phase_two(script, end);
+            }
         }
+        questions(script);
         look_ups(script);
         script.show();
     }
@@ -133,6 +136,7 @@ fn when_ended(script: &mut Script, end: End, start: &Start) {
     script.exchange_all(end, &[Exchange::of_line("msg", b"bye", "ok"), Exchange::done()]);
     calls_of_phase_one(script, end);
     calls_of_phase_two(script, end);
+    questions(script);
     look_ups(script);
     script.buffers([30; 7]);
     look_ups(script);
@@ -144,27 +148,29 @@ fn when_closed(script: &mut Script, end: End, start: &Start) {
     script.enter(end, start, AMPLE);
     script.exchange(end, &Exchange::error("internal", b"kept"));
     match end {
-        End::Client => script.hear(b"x", 0),
+        End::Client => script.chunk(b"x", 0),
         End::Plugin => {
             script.send(&Command::of_line(b"msg", b""), 100);
-            script.response(b"x", 0);
+            script.chunk(b"x", 0);
         }
     }
     calls_of_phase_one(script, end);
     calls_of_phase_two(script, end);
+    questions(script);
     look_ups(script);
     script.show();
     if end == End::Plugin {
         script.heading(&format!("When phase one has closed the session, {}", start.machine));
         script.open(end, start.machine, start.plugin, AMPLE);
-        script.receive(b"x");
+        script.chunk(b"x", 0);
         calls_of_phase_one(script, end);
         calls_of_phase_two(script, end);
+        questions(script);
         script.show();
     }
 }
 
-/// Which refusals close a client that receives: all but 2, 14 and 15.
+/// Which refusals close a client that receives: all but 13, 14 and 15.
 fn after_every_refusal(script: &mut Script) {
     script.heading("After each refusal at the client end");
     let start = Start::new(RECIPIENT, SHORT, &[recipient(), file_key()]);
@@ -176,11 +182,11 @@ fn after_every_refusal(script: &mut Script) {
     ];
     for fault in faults {
         script.enter(End::Client, &start, [20, 0, 20, 0, 5, 5, 0]);
-        script.hear(b"-> recipient-stanza 0 s\n\n", 7);
-        script.hear(fault, 6);
+        script.chunk(b"-> recipient-stanza 0 s\n\n", 7);
+        script.chunk(fault, 6);
         script.show();
         for text in [b"-> grease\n\n".as_slice(), b"-> recipient-stanza 0 s\n\n", b"-> done\n\n"] {
-            script.hear(text, 20);
+            script.chunk(text, 20);
         }
         script.show();
     }

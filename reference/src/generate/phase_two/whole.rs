@@ -64,13 +64,15 @@ mod tests {
             let words: Vec<&str> = line.split(' ').collect();
             let answered: Vec<&str> = answer.split(' ').collect();
             assert_eq!(answered[0], "ok", "{line}");
-            match words[0] {
-                "receive" | "response" => self.received.push(words[1].to_string()),
-                _ => {}
-            }
-            match words[0] {
-                "send" | "reply" => self.written.push(answered[1].to_string()),
-                "receive" if answered[3] != "\\e" => self.written.push(answered[3].to_string()),
+            match (words[0], answered[answered.len() - 1]) {
+                ("send" | "reply", text) => self.written.push(text.to_string()),
+                ("chunk", text) => {
+                    self.received.push(words[1].to_string());
+                    // At the plugin end it is the body of a response, and no text of a stanza.
+                    if text.starts_with("->") {
+                        self.written.push(text.to_string());
+                    }
+                }
                 _ => {}
             }
         }

@@ -5,7 +5,7 @@ use super::{text, LENGTHS};
 use crate::profile::Finding;
 use phase_one::Command;
 use Refusal::{
-    BadIndex, IndexFalls, NoSpace, NotAStanza, NotEnded, OutOfTurn, OutputTooShort, SessionOver, TooLong,
+    BadIndex, IndexFalls, NoSpace, NotAStanza, OutOfTurn, OutputTooShort, SessionOver, TooLong,
     UnknownMachine, Unwritable, WrongForm,
 };
 
@@ -17,10 +17,20 @@ fn client(machine: &str) -> (Client, Buffers) {
     (Client::open(machine.as_bytes(), b"interop").unwrap(), Buffers::zeros(LENGTHS))
 }
 
+/// What a plugin session says to a chunk that is one command.
+fn receive(plugin: &mut Plugin, buffers: &mut Buffers, chunk: &[u8]) -> Result<Command, Refusal> {
+    let received = plugin.chunk(chunk, buffers, &mut []);
+    assert_eq!((received.count, received.written), (usize::from(received.refusal.is_none()), 0));
+    match received.accepted()?.last {
+        Some(What::Command(command)) => Ok(command),
+        last => panic!("{last:?}"),
+    }
+}
+
 /// What a plugin session that is still open says to one command, and that a refusal changes nothing else.
 fn received(machine: &str, arguments: &str, body: &[u8]) -> Result<Command, Refusal> {
     let (mut plugin, mut buffers) = plugin(machine);
-    let answer = plugin.receive(&text(arguments, body), &mut buffers).map(|received| received.command);
+    let answer = receive(&mut plugin, &mut buffers, &text(arguments, body));
     if answer.is_err() {
         assert_eq!(plugin.session.phase, Phase::Closed);
         assert_eq!(plugin.session.tables, Tables::default());
@@ -43,7 +53,7 @@ fn sent(machine: &str, arguments: &str, body: &[u8]) -> Result<(), Refusal> {
 
 /// Receives the commands, which have no bodies, up to the first refusal.
 fn receive_lines(plugin: &mut Plugin, buffers: &mut Buffers, lines: &[&str]) -> Result<(), Refusal> {
-    lines.iter().try_for_each(|line| plugin.receive(&text(line, b""), buffers).map(|_| ()))
+    lines.iter().try_for_each(|line| receive(plugin, buffers, &text(line, b"")).map(|_| ()))
 }
 
 #[test]
@@ -154,7 +164,7 @@ fn payloads_and_marks() {
         assert_eq!(receive_lines(&mut plugin, &mut buffers, &[&line]), Ok(()));
     }
     let stanza = text("recipient-stanza 5 tag a b", b"body");
-    assert!(plugin.receive(&stanza, &mut buffers).is_ok());
+    assert!(receive(&mut plugin, &mut buffers, &stanza).is_ok());
     let tables = plugin.session().tables();
     let valid = |number: usize| tables.of(Kind::Identity)[number].detail == Detail::Text { valid: true };
     assert_eq!([valid(0), valid(1), valid(2)], [true, false, false]);
@@ -172,7 +182,7 @@ fn the_plugins_own_stanzas_are_checked() {
     let mut buffers = Buffers::zeros(LENGTHS);
     let good = format!("recipient-stanza 0 fido2-hmac {} {}", "A".repeat(43), "A".repeat(16));
     for (line, body) in [(good.as_str(), 32), (good.as_str(), 31), ("recipient-stanza 0 X25519 a", 32)] {
-        assert!(plugin.receive(&text(line, &vec![0; body]), &mut buffers).is_ok());
+        assert!(receive(&mut plugin, &mut buffers, &text(line, &vec![0; body])).is_ok());
     }
     let findings = [Finding::Conforming, Finding::Nonconforming, Finding::Unknown];
     for (entry, finding) in plugin.session().tables().of(Kind::Header).iter().zip(findings) {
@@ -186,26 +196,17 @@ fn faults_of_the_text() {
         [(b"-> a  b\n\n".to_vec(), NotAStanza), ([b"-> ".to_vec(), vec![b'a'; 9_000]].concat(), TooLong)]
     {
         let (mut plugin, mut buffers) = plugin("recipient-v1");
-        assert_eq!(plugin.receive(&text, &mut buffers), Err(refusal));
-        assert_eq!(plugin.receive(b"-> done\n\n", &mut buffers), Err(SessionOver));
+        assert_eq!(receive(&mut plugin, &mut buffers, &text), Err(refusal));
+        assert_eq!(receive(&mut plugin, &mut buffers, b"-> done\n\n"), Err(SessionOver));
         assert_eq!(plugin.session().phase(), Phase::Closed);
     }
-}
-
-#[test]
-fn an_unended_stanza_leaves_the_session_open() {
-    let (mut plugin, mut buffers) = plugin("recipient-v1");
-    assert_eq!(plugin.receive(b"-> done\n", &mut buffers), Err(NotEnded));
-    assert_eq!(plugin.receive(b"", &mut buffers), Err(NotEnded));
-    let received = plugin.receive(b"-> done\n\nrest", &mut buffers);
-    assert_eq!(received, Ok(Received { taken: 9, command: Command::Done }));
 }
 
 #[test]
 fn done_ends_phase_one_at_both_ends() {
     let (mut plugin, mut buffers) = plugin("recipient-v1");
     assert_eq!(receive_lines(&mut plugin, &mut buffers, &["done"]), Ok(()));
-    assert_eq!(plugin.receive(b"not looked at", &mut buffers), Err(OutOfTurn));
+    assert_eq!(receive(&mut plugin, &mut buffers, b"not looked at"), Err(OutOfTurn));
     assert_eq!(plugin.session().phase(), Phase::Two);
 
     let (mut client, mut buffers) = client("recipient-v1");
@@ -227,7 +228,7 @@ fn buffers_exactly_long_enough_and_one_byte_short() {
             let mut lens = [0; KINDS];
             lens[kind as usize] = len;
             let (mut plugin, _) = plugin(machine);
-            assert_eq!(plugin.receive(&text, &mut Buffers::zeros(lens)).err(), refusal, "{line}");
+            assert_eq!(receive(&mut plugin, &mut Buffers::zeros(lens), &text).err(), refusal, "{line}");
             let (mut client, _) = client(machine);
             let sent = client.send(line.as_bytes(), &vec![0; body], &mut Buffers::zeros(lens), &mut [0; 99]);
             assert_eq!(sent.err(), refusal, "{line}");
@@ -249,7 +250,7 @@ fn what_is_sent_is_received_alike() {
     ] {
         let mut out = vec![0; 500];
         let len = client.send(line.as_bytes(), &vec![3; body], &mut client_buffers, &mut out).unwrap();
-        assert_eq!(plugin.receive(&out[..len], &mut plugin_buffers).unwrap().taken, len);
+        receive(&mut plugin, &mut plugin_buffers, &out[..len]).unwrap();
         assert_eq!(client.session(), plugin.session());
         assert_eq!(client_buffers, plugin_buffers);
     }

@@ -4,22 +4,22 @@ use super::super::*;
 use super::{text, LENGTHS};
 use phase_two::Command;
 use Refusal::{
-    BadIndex, HeldBack, NamesNothing, NoSpace, NotAStanza, NotEnded, OutOfTurn, OutputTooShort, SecondKey,
-    SessionOver, TooLong, TooManyStanzas, UnfitResponse, Unwritable, WorkAndError, WrongForm,
+    BadIndex, HeldBack, NamesNothing, NoSpace, NotAStanza, OutOfTurn, OutputTooShort, SecondKey, SessionOver,
+    TooLong, TooManyStanzas, UnfitResponse, Unwritable, WorkAndError, WrongForm,
 };
 
-const RECIPIENT: &str = "recipient-v1";
-const IDENTITY: &str = "identity-v1";
-const MACHINES: [&str; 2] = [RECIPIENT, IDENTITY];
+pub(super) const RECIPIENT: &str = "recipient-v1";
+pub(super) const IDENTITY: &str = "identity-v1";
+pub(super) const MACHINES: [&str; 2] = [RECIPIENT, IDENTITY];
 
 const VALID_RECIPIENT: &str = "add-recipient age1interop1qyqszqg83syvs";
 const VALID_IDENTITY: &str = "add-identity AGE-PLUGIN-INTEROP-1QYQSZQG5Z25TP";
 
 /// A command: all its arguments, and the length of its body.
-type Line<'a> = (&'a str, usize);
+pub(super) type Line<'a> = (&'a str, usize);
 
 /// Two recipients or identities, two files.
-fn phase_one(machine: &str) -> Vec<Line<'static>> {
+pub(super) fn phase_one(machine: &str) -> Vec<Line<'static>> {
     match machine {
         RECIPIENT => {
             vec![(VALID_RECIPIENT, 0), (VALID_IDENTITY, 0), ("wrap-file-key", 16), ("wrap-file-key", 16)]
@@ -42,7 +42,7 @@ fn body_of(len: usize) -> Vec<u8> {
 }
 
 /// A client that has sent this phase one.
-fn client_after(machine: &str, plugin: &str, screen: bool, phase: &[Line]) -> (Client, Buffers) {
+pub(super) fn client_after(machine: &str, plugin: &str, screen: bool, phase: &[Line]) -> (Client, Buffers) {
     let mut client = Client::open_with(machine.as_bytes(), plugin.as_bytes(), screen).unwrap();
     let mut buffers = Buffers::zeros(LENGTHS);
     for &(line, body) in phase.iter().chain(&[("done", 0)]) {
@@ -51,21 +51,21 @@ fn client_after(machine: &str, plugin: &str, screen: bool, phase: &[Line]) -> (C
     (client, buffers)
 }
 
-fn client(machine: &str) -> (Client, Buffers) {
+pub(super) fn client(machine: &str) -> (Client, Buffers) {
     client_after(machine, "interop", true, &phase_one(machine))
 }
 
 /// A plugin that has received this phase one.
-fn plugin_after(machine: &str, plugin: &str, phase: &[Line]) -> (Plugin, Buffers) {
+pub(super) fn plugin_after(machine: &str, plugin: &str, phase: &[Line]) -> (Plugin, Buffers) {
     let mut plugin = Plugin::open(machine.as_bytes(), plugin.as_bytes()).unwrap();
     let mut buffers = Buffers::zeros(LENGTHS);
     for &(line, body) in phase.iter().chain(&[("done", 0)]) {
-        plugin.receive(&text(line, &body_of(body)), &mut buffers).unwrap();
+        plugin.chunk(&text(line, &body_of(body)), &mut buffers, &mut []).accepted().unwrap();
     }
     (plugin, buffers)
 }
 
-fn plugin(machine: &str) -> (Plugin, Buffers) {
+pub(super) fn plugin(machine: &str) -> (Plugin, Buffers) {
     plugin_after(machine, "interop", &phase_one(machine))
 }
 
@@ -73,18 +73,34 @@ fn plugin(machine: &str) -> (Plugin, Buffers) {
 fn hear(client: &mut Client, buffers: &mut Buffers, (line, body): Line) -> Result<Vec<u8>, Refusal> {
     let before = (client.session.tables.clone(), buffers.clone(), vec![0; 99]);
     let mut out = vec![0; 99];
-    let heard = client.receive(&text(line, &body_of(body)), buffers, &mut out);
+    let heard = client.chunk(&text(line, &body_of(body)), buffers, &mut out).accepted();
     if heard.is_err() {
         assert_eq!((client.session.tables.clone(), buffers.clone(), out.clone()), before, "{line}");
     }
     heard.map(|heard| out[..heard.written].to_vec())
 }
 
+/// How much a reply writes; no session here has anything kept back.
+fn reply(client: &mut Client, reply: Response, body: &[u8], out: &mut [u8]) -> Result<usize, Refusal> {
+    let replied = client.reply(reply, body, &mut Buffers::zeros([0; KINDS]), out);
+    assert_eq!((replied.count, replied.last), (0, None));
+    replied.accepted().map(|replied| replied.written)
+}
+
+/// Which response a plugin receives, and how long its body is.
+fn respond(plugin: &mut Plugin, response: &[u8], out: &mut [u8]) -> Result<(Response, usize), Refusal> {
+    let received = plugin.chunk(response, &mut Buffers::zeros([0; KINDS]), out).accepted()?;
+    match received.last {
+        Some(What::Response(response)) => Ok((response, received.written)),
+        last => panic!("{last:?}"),
+    }
+}
+
 /// Hears the command, and has the host reply fail where it waits.
 fn hear_out(client: &mut Client, buffers: &mut Buffers, line: Line) -> Result<(), Refusal> {
     hear(client, buffers, line)?;
     if client.session.awaits.is_some() {
-        client.reply(Response::Fail, b"", &mut [0; 99])?;
+        reply(client, Response::Fail, b"", &mut [0; 99])?;
     }
     Ok(())
 }
@@ -105,7 +121,7 @@ fn say_out(plugin: &mut Plugin, buffers: &mut Buffers, line: Line) -> Result<(),
     say(plugin, buffers, line)?;
     if let Some(command) = plugin.session.awaits {
         let response = Response::ALL.into_iter().find(|response| response.fits(command, 0)).unwrap();
-        plugin.response(&written(response.arguments(), b"").unwrap(), &mut []).unwrap();
+        respond(plugin, &response.text(b"").unwrap(), &mut []).unwrap();
     }
     Ok(())
 }
@@ -238,9 +254,9 @@ fn the_client_waits_for_its_host() {
         assert_eq!(hear(&mut client, &mut buffers, line), Ok(vec![]));
         assert_eq!(hear(&mut client, &mut buffers, line), Err(OutOfTurn));
         let mut out = [0; 9];
-        assert_eq!(client.reply(Response::Fail, b"", &mut out), Ok(9));
+        assert_eq!(reply(&mut client, Response::Fail, b"", &mut out), Ok(9));
         assert_eq!(&out, b"-> fail\n\n");
-        assert_eq!(client.reply(Response::Fail, b"", &mut out), Err(OutOfTurn));
+        assert_eq!(reply(&mut client, Response::Fail, b"", &mut out), Err(OutOfTurn));
         assert_eq!(hear(&mut client, &mut buffers, line), Ok(vec![]));
     }
 }
@@ -250,12 +266,12 @@ fn without_a_screen_it_answers_fail_at_once() {
     for line in FOR_THE_HOST {
         let (mut client, mut buffers) = client_after(RECIPIENT, "interop", false, &phase_one(RECIPIENT));
         let stanza = text(line.0, &body_of(line.1));
-        assert_eq!(client.receive(&stanza, &mut buffers, &mut [0; 8]), Err(OutputTooShort));
+        assert_eq!(client.chunk(&stanza, &mut buffers, &mut [0; 8]).refusal, Some(OutputTooShort));
         assert_eq!(hear(&mut client, &mut buffers, line), Ok(b"-> fail\n\n".to_vec()));
         assert_eq!(client.session.awaits, None);
     }
     let (mut client, mut buffers) = client_after(RECIPIENT, "interop", false, &phase_one(RECIPIENT));
-    assert_eq!(client.receive(&text("msg a", b""), &mut buffers, &mut []), Err(WrongForm));
+    assert_eq!(client.chunk(&text("msg a", b""), &mut buffers, &mut []).refusal, Some(WrongForm));
 }
 
 /// Every command with every response: 12 leaves a host's reply awaited, and closes a plugin's session.
@@ -277,10 +293,10 @@ fn responses_that_fit() {
         for (word, response) in words.into_iter().zip(Response::ALL) {
             let fits = fitting.split(", ").any(|fitting| fitting == word);
             let expected = if fits { None } else { Some(UnfitResponse) };
-            let stanza = written(response.arguments(), b"").unwrap();
+            let stanza = response.text(b"").unwrap();
             let (mut plugin, mut buffers) = plugin(machine);
             say(&mut plugin, &mut buffers, (line, body)).unwrap();
-            assert_eq!(plugin.response(&stanza, &mut []).err(), expected, "{line} {word}");
+            assert_eq!(respond(&mut plugin, &stanza, &mut []).err(), expected, "{line} {word}");
             assert_eq!(plugin.session.awaits, None);
             assert_eq!(plugin.session.phase, if fits { Phase::Two } else { Phase::Closed });
 
@@ -288,10 +304,10 @@ fn responses_that_fit() {
             let at_once = hear(&mut client, &mut buffers, (line, body)).unwrap();
             if client.session.awaits.is_none() {
                 assert_eq!(at_once == stanza, fits);
-                assert_eq!(client.reply(response, b"", &mut [0; 99]), Err(OutOfTurn));
+                assert_eq!(reply(&mut client, response, b"", &mut [0; 99]), Err(OutOfTurn));
                 continue;
             }
-            assert_eq!(client.reply(response, b"", &mut [0; 99]).err(), expected, "{line} {word}");
+            assert_eq!(reply(&mut client, response, b"", &mut [0; 99]).err(), expected, "{line} {word}");
             assert_eq!(client.session.awaits.is_some(), !fits);
             assert_eq!(client.session.phase, Phase::Two);
         }
@@ -302,8 +318,7 @@ fn responses_that_fit() {
 fn ok_no_means_no() {
     let (mut plugin, mut buffers) = plugin(RECIPIENT);
     say(&mut plugin, &mut buffers, ("confirm eWVz", 0)).unwrap();
-    let responded = Responded { taken: 10, response: Response::No, body_len: 0 };
-    assert_eq!(plugin.response(b"-> ok no\n\nrest", &mut []), Ok(responded));
+    assert_eq!(respond(&mut plugin, b"-> ok no\n\n", &mut []), Ok((Response::No, 0)));
 }
 
 #[test]
@@ -319,14 +334,14 @@ fn only_ok_to_a_request_carries_a_body() {
         let expected = if fits { None } else { Some(UnfitResponse) };
         let (mut plugin, mut buffers) = plugin(RECIPIENT);
         say(&mut plugin, &mut buffers, (line, 0)).unwrap();
-        let stanza = written(response.arguments(), b"body").unwrap();
+        let stanza = response.text(b"body").unwrap();
         let mut out = [0; 5];
-        assert_eq!(plugin.response(&stanza, &mut out).err(), expected, "{line}");
+        assert_eq!(respond(&mut plugin, &stanza, &mut out).err(), expected, "{line}");
         assert_eq!(&out, if fits { b"body\0" } else { &[0; 5] });
         if line != "grease" {
             let (mut client, mut buffers) = client(RECIPIENT);
             hear(&mut client, &mut buffers, (line, 0)).unwrap();
-            assert_eq!(client.reply(response, b"body", &mut [0; 99]).err(), expected, "{line}");
+            assert_eq!(reply(&mut client, response, b"body", &mut [0; 99]).err(), expected, "{line}");
         }
     }
 }
@@ -335,34 +350,26 @@ fn only_ok_to_a_request_carries_a_body() {
 fn a_response_is_read_as_any_stanza() {
     let long = [b"-> ok\n".to_vec(), vec![b'a'; 9_000]].concat();
     let long_line = [b"-> ".to_vec(), vec![b'a'; 9_000]].concat();
-    for (stanza, refusal, phase) in [
-        (b"".as_slice(), NotEnded, Phase::Two),
-        (b"-> ok\n", NotEnded, Phase::Two),
-        (b"-> ok  no\n\n", NotAStanza, Phase::Closed),
-        (&long, NotAStanza, Phase::Closed),
-        (&long_line, TooLong, Phase::Closed),
-        (b"-> ok maybe\n\n", UnfitResponse, Phase::Closed),
+    for (stanza, refusal) in [
+        (b"-> ok  no\n\n".as_slice(), NotAStanza),
+        (&long, NotAStanza),
+        (&long_line, TooLong),
+        (b"-> ok maybe\n\n", UnfitResponse),
     ] {
         let (mut plugin, mut buffers) = plugin(RECIPIENT);
         say(&mut plugin, &mut buffers, ("confirm eWVz", 0)).unwrap();
-        assert_eq!(plugin.response(stanza, &mut []), Err(refusal));
-        assert_eq!(plugin.session.phase, phase);
-        assert_eq!(plugin.session.awaits.is_some(), phase == Phase::Two);
+        assert_eq!(respond(&mut plugin, stanza, &mut []), Err(refusal));
+        assert_eq!((plugin.session.phase, plugin.session.awaits), (Phase::Closed, None));
     }
 }
 
 #[test]
 fn faults_of_a_commands_text() {
     let long = [b"-> ".to_vec(), vec![b'a'; 9_000]].concat();
-    for (stanza, refusal, phase) in [
-        (b"".as_slice(), NotEnded, Phase::Two),
-        (b"-> msg\n", NotEnded, Phase::Two),
-        (b"-> msg \n\n", NotAStanza, Phase::Closed),
-        (&long, TooLong, Phase::Closed),
-    ] {
+    for (stanza, refusal) in [(b"-> msg \n\n".as_slice(), NotAStanza), (&long, TooLong)] {
         let (mut client, mut buffers) = client(RECIPIENT);
-        assert_eq!(client.receive(stanza, &mut buffers, &mut [0; 99]), Err(refusal));
-        assert_eq!(client.session.phase, phase);
+        assert_eq!(client.chunk(stanza, &mut buffers, &mut [0; 99]).refusal, Some(refusal));
+        assert_eq!(client.session.phase, Phase::Closed);
     }
 }
 
@@ -371,10 +378,10 @@ fn a_short_output_buffer_leaves_all_as_it_was() {
     let (mut client, mut buffers) = client(IDENTITY);
     let before = (client.clone(), buffers.clone());
     let key = text("file-key 3", &body_of(16));
-    assert_eq!(client.receive(&key, &mut buffers, &mut [0; 6]), Err(OutputTooShort));
+    assert_eq!(client.chunk(&key, &mut buffers, &mut [0; 6]).refusal, Some(OutputTooShort));
     assert_eq!((client.clone(), buffers.clone()), before);
-    assert_eq!(client.receive(&key, &mut buffers, &mut [0; 7]).map(|heard| heard.written), Ok(7));
-    assert_eq!(client.receive(b"-> x\n\n", &mut buffers, &mut [0; 15]), Err(OutputTooShort));
+    assert_eq!(client.chunk(&key, &mut buffers, &mut [0; 7]).accepted().map(|heard| heard.written), Ok(7));
+    assert_eq!(client.chunk(b"-> x\n\n", &mut buffers, &mut [0; 15]).refusal, Some(OutputTooShort));
 
     let (mut plugin, mut buffers) = plugin(IDENTITY);
     let before = (plugin.clone(), buffers.clone());
@@ -384,9 +391,9 @@ fn a_short_output_buffer_leaves_all_as_it_was() {
     assert_eq!(plugin, before.0);
     assert_eq!(send(&mut plugin, 19), Ok(19));
     let ok = text("ok", b"1234");
-    assert_eq!(plugin.response(&ok, &mut [0; 3]), Err(OutputTooShort));
+    assert_eq!(respond(&mut plugin, &ok, &mut [0; 3]), Err(OutputTooShort));
     assert_eq!(plugin.session.awaits, Some(Command::RequestSecret));
-    assert_eq!(plugin.response(&ok, &mut [0; 4]).map(|responded| responded.body_len), Ok(4));
+    assert_eq!(respond(&mut plugin, &ok, &mut [0; 4]), Ok((Response::Ok, 4)));
 }
 
 /// The order for a host's reply is 12, 17, 15.
@@ -396,7 +403,7 @@ fn replies_that_can_not_be_written() {
     hear(&mut client, &mut buffers, ("request-secret", 0)).unwrap();
     // "-> ok" and its LF are 6 bytes; 8,186 are left: 125 whole lines of 65 bytes, and 61.
     let most = 125 * 48 + 45;
-    for (reply, body, out, refusal) in [
+    for (response, body, out, refusal) in [
         (Response::Fail, most + 1, 0, UnfitResponse),
         (Response::Yes, 0, 0, UnfitResponse),
         (Response::Ok, most + 1, 0, Unwritable),
@@ -405,12 +412,12 @@ fn replies_that_can_not_be_written() {
         (Response::Fail, 0, 8, OutputTooShort),
     ] {
         let mut out = vec![0; out];
-        assert_eq!(client.reply(reply, &body_of(body), &mut out), Err(refusal));
+        assert_eq!(reply(&mut client, response, &body_of(body), &mut out), Err(refusal));
         assert!(out.iter().all(|&byte| byte == 0));
         assert_eq!(client.session.awaits, Some(Command::RequestSecret));
     }
     let mut out = vec![0; 9_000];
-    let len = client.reply(Response::Ok, &body_of(most), &mut out).unwrap();
+    let len = reply(&mut client, Response::Ok, &body_of(most), &mut out).unwrap();
     assert!(len <= 8_192 && stanza::read(&out).unwrap().body_len() == most);
 }
 
@@ -597,8 +604,8 @@ fn client_calls(client: &Client) -> [Refusal; 3] {
     let mut none = Buffers::zeros([0; KINDS]);
     [
         client.clone().send(b"", b"", &mut none, &mut []).unwrap_err(),
-        client.clone().receive(b"x", &mut none, &mut []).unwrap_err(),
-        client.clone().reply(Response::Unsupported, &[0; 9_000], &mut []).unwrap_err(),
+        client.clone().chunk(b"x", &mut none, &mut []).refusal.unwrap(),
+        client.clone().reply(Response::Unsupported, &[0; 9_000], &mut none, &mut []).refusal.unwrap(),
     ]
 }
 
@@ -610,23 +617,22 @@ fn client_calls_out_of_turn() {
     let (client, _) = client(RECIPIENT);
     assert_eq!(client_calls(&client), [OutOfTurn, NotAStanza, OutOfTurn]);
     let mut waiting = client.clone();
-    waiting.receive(b"-> msg\n\n", &mut none, &mut []).unwrap();
+    waiting.chunk(b"-> msg\n\n", &mut none, &mut []).accepted().unwrap();
     assert_eq!(client_calls(&waiting), [OutOfTurn, OutOfTurn, UnfitResponse]);
     let mut ended = client.clone();
-    ended.receive(b"-> done\n\n", &mut none, &mut []).unwrap();
+    ended.chunk(b"-> done\n\n", &mut none, &mut []).accepted().unwrap();
     assert_eq!(client_calls(&ended), [SessionOver; 3]);
     let mut closed = client;
-    closed.receive(b"x", &mut none, &mut []).unwrap_err();
+    closed.chunk(b"x", &mut none, &mut []).accepted().unwrap_err();
     assert_eq!(client_calls(&closed), [SessionOver; 3]);
 }
 
 /// What each call of a plugin says in its state; every one would be refused in its turn, too.
-fn plugin_calls(plugin: &Plugin) -> [Refusal; 3] {
+fn plugin_calls(plugin: &Plugin) -> [Refusal; 2] {
     let mut none = Buffers::zeros([0; KINDS]);
     [
-        plugin.clone().receive(b"x", &mut none).unwrap_err(),
+        plugin.clone().chunk(b"x", &mut none, &mut []).refusal.unwrap(),
         plugin.clone().send(b"", b"", &mut none, &mut []).unwrap_err(),
-        plugin.clone().response(b"x", &mut []).unwrap_err(),
     ]
 }
 
@@ -634,18 +640,18 @@ fn plugin_calls(plugin: &Plugin) -> [Refusal; 3] {
 fn plugin_calls_out_of_turn() {
     let mut none = Buffers::zeros([0; KINDS]);
     let fresh = Plugin::open(b"recipient-v1", b"interop").unwrap();
-    assert_eq!(plugin_calls(&fresh), [NotAStanza, OutOfTurn, OutOfTurn]);
+    assert_eq!(plugin_calls(&fresh), [NotAStanza, OutOfTurn]);
     let (plugin, _) = plugin(RECIPIENT);
-    assert_eq!(plugin_calls(&plugin), [OutOfTurn, Unwritable, OutOfTurn]);
+    assert_eq!(plugin_calls(&plugin), [OutOfTurn, Unwritable]);
     let mut waiting = plugin.clone();
     waiting.send(b"grease", b"", &mut none, &mut [0; 99]).unwrap();
-    assert_eq!(plugin_calls(&waiting), [OutOfTurn, OutOfTurn, NotAStanza]);
+    assert_eq!(plugin_calls(&waiting), [NotAStanza, OutOfTurn]);
     let mut ended = plugin.clone();
     ended.send(b"done", b"", &mut none, &mut [0; 9]).unwrap();
-    assert_eq!(plugin_calls(&ended), [SessionOver; 3]);
+    assert_eq!(plugin_calls(&ended), [SessionOver; 2]);
     let mut closed = waiting;
-    closed.response(b"x", &mut []).unwrap_err();
-    assert_eq!(plugin_calls(&closed), [SessionOver; 3]);
+    closed.chunk(b"x", &mut none, &mut []).accepted().unwrap_err();
+    assert_eq!(plugin_calls(&closed), [SessionOver; 2]);
 }
 
 #[test]
@@ -689,7 +695,7 @@ fn order_at_receiving() {
     let (client, _) = client(IDENTITY);
     let receive = |client: &Client, line: &str, body| {
         let mut none = Buffers::zeros([0; KINDS]);
-        client.clone().receive(&text(line, &body_of(body)), &mut none, &mut []).unwrap_err()
+        client.clone().chunk(&text(line, &body_of(body)), &mut none, &mut []).refusal.unwrap()
     };
     assert_eq!(receive(&client, "file-key 09", 15), WrongForm);
     assert_eq!(receive(&client, "file-key 09", 16), BadIndex);
@@ -720,15 +726,15 @@ fn our_two_ends_agree() {
         let mut out = vec![0; 500];
         let len = plugin.send(line.as_bytes(), &body_of(body), &mut plugin_buffers, &mut out).unwrap();
         let mut response = vec![0; 500];
-        let heard = client.receive(&out[..len], &mut client_buffers, &mut response).unwrap();
-        assert_eq!(heard.taken, len);
-        let written = match heard.command {
-            Command::RequestSecret => client.reply(Response::Ok, b"1234", &mut response).unwrap(),
-            Command::Confirm => client.reply(Response::No, b"", &mut response).unwrap(),
+        let heard = client.chunk(&out[..len], &mut client_buffers, &mut response).accepted().unwrap();
+        let command = heard.last.unwrap();
+        let written = match command {
+            Command::RequestSecret => reply(&mut client, Response::Ok, b"1234", &mut response).unwrap(),
+            Command::Confirm => reply(&mut client, Response::No, b"", &mut response).unwrap(),
             _ => heard.written,
         };
-        if heard.command != Command::Done {
-            assert_eq!(plugin.response(&response[..written], &mut out).unwrap().taken, written);
+        if command != Command::Done {
+            respond(&mut plugin, &response[..written], &mut out).unwrap();
         }
         assert_eq!(client.session, plugin.session);
         assert_eq!(client_buffers, plugin_buffers);

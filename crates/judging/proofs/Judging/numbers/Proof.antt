@@ -1,4 +1,7 @@
--- Where judging has stopped its numbers stand; else the entries are counted and the answer is 2.
+-- Stopped, or the input ended before done.
+use mathlib.Core.Path.{ap, _∙_}
+use Rattle.session.specs.Tables.{tablesIn}
+use Rattle.judging.specs.Judging.{counted}
 use borrow.Author.Needs.{needs}
 use Rattle.judging.proofs.Judging.numbers.Statement.{statement}
 use Rattle.judging.proofs.Judging.numbers.Tie as tie
@@ -9,14 +12,29 @@ enum-known-progress c = search needs
 enum-told : tie.Need-enum-told
 enum-told c = search needs
 
+finish-requires : tie.Need-finish-requires
+finish-requires c κs = search needs
+
+number-requires : tie.Need-number-requires
+number-requires c κs = search needs
+
 count-requires : tie.Need-count-requires
 count-requires c κs = search needs
 
 returns : tie.Need-returns
-returns c = λ xs hs. rw (c .before .progress .given .1)
+returns c = λ xs hs input. rw (c .before .progress .given .1)
 
 returns-2 : tie.Need-returns-2
-returns-2 c = λ xs hs. rw (c .before .enum-told .given .1) (c .count .ensures xs hs)
+returns-2 c = λ xs hs input. rw (c .before .before .before .enum-told .given .1) (c .count .ensures xs hs ∙ ap (counted (tablesIn (c .before .before .before .before .before .before .args .self .session .tables) xs hs)) (c .before .number .ensures ∙ c .before .before .finish .ensures))
 
 pub numbers-spec : {M : Type 1} → statement M
-numbers-spec = tie.close (tie.spec enum-known-progress enum-told count-requires returns returns-2)
+numbers-spec =
+    tie.close
+    (tie.spec
+    enum-known-progress
+    enum-told
+    finish-requires
+    number-requires
+    count-requires
+    returns
+    returns-2)

@@ -29,8 +29,8 @@ span-of-requires c κs = search needs
 keep-text-requires : tie.Need-keep-text-requires
 keep-text-requires c κs = search needs
 
-stepped-recipients-requires : tie.Need-stepped-recipients-requires
-stepped-recipients-requires c κs = search needs
+stepped-requires : tie.Need-stepped-requires
+stepped-requires c κs = search needs
 
 enum-told-2 : tie.Need-enum-told-2
 enum-told-2 c = search needs
@@ -41,8 +41,8 @@ span-of-requires-2 c κs = search needs
 keep-text-requires-2 : tie.Need-keep-text-requires-2
 keep-text-requires-2 c κs = search needs
 
-stepped-identities-requires : tie.Need-stepped-identities-requires
-stepped-identities-requires c κs = search needs
+stepped-requires-2 : tie.Need-stepped-requires-2
+stepped-requires-2 c κs = search needs
 
 enum-told-3 : tie.Need-enum-told-3
 enum-told-3 c = search needs
@@ -53,8 +53,8 @@ span-of-requires-3 c κs = search needs
 store-requires : tie.Need-store-requires
 store-requires c κs = search needs
 
-stepped-keys-requires : tie.Need-stepped-keys-requires
-stepped-keys-requires c κs = search needs
+stepped-requires-3 : tie.Need-stepped-requires-3
+stepped-requires-3 c κs = search needs
 
 enum-known-command : tie.Need-enum-known-command
 enum-known-command c = search needs
@@ -62,8 +62,8 @@ enum-known-command c = search needs
 keep-header-requires : tie.Need-keep-header-requires
 keep-header-requires c κs = search needs
 
-stepped-headers-requires : tie.Need-stepped-headers-requires
-stepped-headers-requires c κs = search needs
+stepped-requires-4 : tie.Need-stepped-requires-4
+stepped-requires-4 c κs = search needs
 
 enum-told-4 : tie.Need-enum-told-4
 enum-told-4 c = search needs
@@ -90,7 +90,7 @@ returns c =
     let z = rw (c .before .before .before .before .before .before .before .span-of .ensures) at (c .before .before .before .before .keep-text .ensures) in
     let k = ap (commandSaid (now (a .plugin)) (now (a .line)) (length y)) (sym (c .before .before .before .before .before .before .before .before .before .enum-told .given .1)) ∙ e in
     let s = step-recipient (a .machine) (now (a .plugin)) t b (verdictSaid (a .late)) (now (a .line)) y _ _ _ _ k (z .0) (z .1 .0) (z .1 .1 .1) in
-    rw (c .stepped-recipients .ensures) (e, (s .0, (put-recipients (a .tables) (now (a .slots)) _ (now (a .header-slots)) (c .before .before .before .before .keep-text .result .table) _ refl (z .1 .1 .0) ∙ s .1 .0, s .1 .1)))
+    rw (c .stepped .ensures) (e, (s .0, (put-recipients (a .tables) (now (a .slots)) _ (now (a .header-slots)) (c .before .before .before .before .keep-text .result .table) _ refl (z .1 .1 .0) ∙ s .1 .0, s .1 .1)))
 
 same-length-3 : tie.Need-same-length-3
 same-length-3 c = search needs
@@ -108,7 +108,7 @@ returns-2 c =
     let z = rw (c .before .before .before .before .before .before .before .span-of2 .ensures) at (c .before .before .before .before .keep-text2 .ensures) in
     let k = ap (commandSaid (now (a .plugin)) (now (a .line)) (length y)) (sym (c .before .before .before .before .before .before .before .before .before .enum-told2 .given .1)) ∙ e in
     let s = step-identity (a .machine) (now (a .plugin)) t b (verdictSaid (a .late)) (now (a .line)) y _ _ _ _ k (z .0) (z .1 .0) (z .1 .1 .1) in
-    rw (c .stepped-identities .ensures) (e, (s .0, (put-identities (a .tables) (now (a .slots)) _ (now (a .header-slots)) (c .before .before .before .before .keep-text2 .result .table) _ refl (z .1 .1 .0) ∙ s .1 .0, s .1 .1)))
+    rw (c .stepped2 .ensures) (e, (s .0, (put-identities (a .tables) (now (a .slots)) _ (now (a .header-slots)) (c .before .before .before .before .keep-text2 .result .table) _ refl (z .1 .1 .0) ∙ s .1 .0, s .1 .1)))
 
 same-length-5 : tie.Need-same-length-5
 same-length-5 c = search needs
@@ -126,7 +126,7 @@ returns-3 c =
     let z = rw (c .before .before .before .before .before .before .before .span-of3 .ensures) at (c .before .before .before .before .store .ensures) in
     let k = ap (commandSaid (now (a .plugin)) (now (a .line)) (length y)) (sym (c .before .before .before .before .before .before .before .before .before .enum-told3 .given .1)) ∙ e in
     let s = step-key (a .machine) (now (a .plugin)) t b (verdictSaid (a .late)) (now (a .line)) y _ _ _ k (z .0) (rw (sym (z .0)) at (z .1 .0)) (rw (sym (z .0)) at (z .1 .1 .1)) in
-    rw (c .stepped-keys .ensures) (e, (s .0, (put-keys (a .tables) (now (a .slots)) _ (now (a .header-slots)) (c .before .before .before .before .store .result .table) _ refl (z .1 .1 .0) ∙ s .1 .0, s .1 .1)))
+    rw (c .stepped3 .ensures) (e, (s .0, (put-keys (a .tables) (now (a .slots)) _ (now (a .header-slots)) (c .before .before .before .before .store .result .table) _ refl (z .1 .1 .0) ∙ s .1 .0, s .1 .1)))
 
 same-length-7 : tie.Need-same-length-7
 same-length-7 c = search needs
@@ -144,7 +144,7 @@ returns-4 c =
     let z = rw (c .before .before .before .before .before .before .before .before .before .before .before .before .body-size .ensures .0) at (c .before .before .before .before .keep-header .ensures) in
     let k = ap (commandSaid (now (a .plugin)) (now (a .line)) (length y)) (sym (c .before .before .before .before .before .before .before .before .before .command .given .1)) ∙ e in
     let s = step-header (a .machine) (now (a .plugin)) t b (verdictSaid (a .late)) (now (a .line)) y _ _ _ _ _ k (z .0) (z .1 .0) (z .1 .1) in
-    rw (c .stepped-headers .ensures) (k, (s .0, (put-headers (a .tables) (now (a .slots)) (c .before .before .before .before .keep-header .last .1 .1 .1 .1 .1 .1 .1 .1 .0) (c .before .before .before .before .keep-header .result .table) _ refl (now (a .header-slots)) ∙ s .1 .0, s .1 .1)))
+    rw (c .stepped4 .ensures) (k, (s .0, (put-headers (a .tables) (now (a .slots)) (c .before .before .before .before .keep-header .last .1 .1 .1 .1 .1 .1 .1 .1 .0) (c .before .before .before .before .keep-header .result .table) _ refl (now (a .header-slots)) ∙ s .1 .0, s .1 .1)))
 
 returns-5 : tie.Need-returns-5
 returns-5 c =
@@ -183,18 +183,18 @@ step-one-spec =
     enum-told
     span-of-requires
     keep-text-requires
-    stepped-recipients-requires
+    stepped-requires
     enum-told-2
     span-of-requires-2
     keep-text-requires-2
-    stepped-identities-requires
+    stepped-requires-2
     enum-told-3
     span-of-requires-3
     store-requires
-    stepped-keys-requires
+    stepped-requires-3
     enum-known-command
     keep-header-requires
-    stepped-headers-requires
+    stepped-requires-4
     enum-told-4
     enum-told-5
     enum-known-command-2

@@ -22,8 +22,8 @@ enum-known-command c = search needs
 keep-stanza-requires : tie.Need-keep-stanza-requires
 keep-stanza-requires c κs = search needs
 
-stepped-stanzas-requires : tie.Need-stepped-stanzas-requires
-stepped-stanzas-requires c κs = search needs
+stepped-requires : tie.Need-stepped-requires
+stepped-requires c κs = search needs
 
 enum-known-command-2 : tie.Need-enum-known-command-2
 enum-known-command-2 c = search needs
@@ -31,8 +31,8 @@ enum-known-command-2 c = search needs
 keep-key-requires : tie.Need-keep-key-requires
 keep-key-requires c κs = search needs
 
-stepped-returned-requires : tie.Need-stepped-returned-requires
-stepped-returned-requires c κs = search needs
+stepped-requires-2 : tie.Need-stepped-requires-2
+stepped-requires-2 c κs = search needs
 
 enum-known-command-3 : tie.Need-enum-known-command-3
 enum-known-command-3 c = search needs
@@ -40,8 +40,8 @@ enum-known-command-3 c = search needs
 keep-error-requires : tie.Need-keep-error-requires
 keep-error-requires c κs = search needs
 
-stepped-errors-requires : tie.Need-stepped-errors-requires
-stepped-errors-requires c κs = search needs
+stepped-requires-3 : tie.Need-stepped-requires-3
+stepped-requires-3 c κs = search needs
 
 enum-told : tie.Need-enum-told
 enum-told c = search needs
@@ -67,7 +67,7 @@ returns c =
     let b = buffersOf (now (a .errors)) (now (a .stanzas)) (now (a .returned)) in
     let y = bodyFrom (a .coding) (now (a .source)) in
     let z = c .before .before .before .before .keep-stanza .ensures in
-    rw (c .before .before .before .before .before .before .before .before .before .command .given .1, c .stepped-stanzas .ensures)
+    rw (c .before .before .before .before .before .before .before .before .before .command .given .1, c .stepped .ensures)
     ((λ hs. (step-stanza (tablesIn (a .tables) (now (a .slots)) hs) b (restOf (now (a .line)) ++ 10 ∷ y) (verdictSaid (a .late)) (c .before .before .before .before .before .before .before .before .before .command .given .0 .0) _ _ _ (z .0) (z .1 .0) (z .1 .1 .1)) .0), ((λ hs. put-stanzas (a .tables) (now (a .slots)) _ hs (c .before .before .before .before .keep-stanza .result .table) _ refl (z .1 .1 .0) ∙ (step-stanza (tablesIn (a .tables) (now (a .slots)) hs) b (restOf (now (a .line)) ++ 10 ∷ y) (verdictSaid (a .late)) (c .before .before .before .before .before .before .before .before .before .command .given .0 .0) _ _ _ (z .0) (z .1 .0) (z .1 .1 .1)) .1 .0), (λ hs. (step-stanza (tablesIn (a .tables) (now (a .slots)) hs) b (restOf (now (a .line)) ++ 10 ∷ y) (verdictSaid (a .late)) (c .before .before .before .before .before .before .before .before .before .command .given .0 .0) _ _ _ (z .0) (z .1 .0) (z .1 .1 .1)) .1 .1)))
 
 same-length-3 : tie.Need-same-length-3
@@ -82,7 +82,7 @@ returns-2 c =
     let b = buffersOf (now (a .errors)) (now (a .stanzas)) (now (a .returned)) in
     let y = bodyFrom (a .coding) (now (a .source)) in
     let z = c .before .before .before .before .keep-key .ensures in
-    rw (c .before .before .before .before .before .before .before .before .before .command2 .given .1, c .stepped-returned .ensures)
+    rw (c .before .before .before .before .before .before .before .before .before .command2 .given .1, c .stepped2 .ensures)
     ((λ hs. (step-key (tablesIn (a .tables) (now (a .slots)) hs) b y (verdictSaid (a .late)) (c .before .before .before .before .before .before .before .before .before .command2 .given .0 .0) _ _ _ (z .0) (z .1 .0) (z .1 .1 .1)) .0), ((λ hs. put-returned (a .tables) (now (a .slots)) _ hs (c .before .before .before .before .keep-key .result .table) _ refl (z .1 .1 .0) ∙ (step-key (tablesIn (a .tables) (now (a .slots)) hs) b y (verdictSaid (a .late)) (c .before .before .before .before .before .before .before .before .before .command2 .given .0 .0) _ _ _ (z .0) (z .1 .0) (z .1 .1 .1)) .1 .0), (λ hs. (step-key (tablesIn (a .tables) (now (a .slots)) hs) b y (verdictSaid (a .late)) (c .before .before .before .before .before .before .before .before .before .command2 .given .0 .0) _ _ _ (z .0) (z .1 .0) (z .1 .1 .1)) .1 .1)))
 
 same-length-5 : tie.Need-same-length-5
@@ -97,7 +97,7 @@ returns-3 c =
     let b = buffersOf (now (a .errors)) (now (a .stanzas)) (now (a .returned)) in
     let y = bodyFrom (a .coding) (now (a .source)) in
     let z = c .before .before .before .before .keep-error .ensures in
-    rw (c .before .before .before .before .before .before .before .before .before .command3 .given .1, c .stepped-errors .ensures)
+    rw (c .before .before .before .before .before .before .before .before .before .command3 .given .1, c .stepped3 .ensures)
     ((λ hs. (step-error (tablesIn (a .tables) (now (a .slots)) hs) b y (verdictSaid (a .late)) (namedSaid (c .before .before .before .before .before .before .before .before .before .command3 .given .0 .0)) _ _ _ (z .0) (z .1 .0) (z .1 .1 .1)) .0), ((λ hs. put-errors (a .tables) (now (a .slots)) _ hs (c .before .before .before .before .keep-error .result .table) _ refl (z .1 .1 .0) ∙ (step-error (tablesIn (a .tables) (now (a .slots)) hs) b y (verdictSaid (a .late)) (namedSaid (c .before .before .before .before .before .before .before .before .before .command3 .given .0 .0)) _ _ _ (z .0) (z .1 .0) (z .1 .1 .1)) .1 .0), (λ hs. (step-error (tablesIn (a .tables) (now (a .slots)) hs) b y (verdictSaid (a .late)) (namedSaid (c .before .before .before .before .before .before .before .before .before .command3 .given .0 .0)) _ _ _ (z .0) (z .1 .0) (z .1 .1 .1)) .1 .1)))
 
 returns-4 : tie.Need-returns-4
@@ -130,13 +130,13 @@ keep-spec =
     (tie.spec
     enum-known-command
     keep-stanza-requires
-    stepped-stanzas-requires
+    stepped-requires
     enum-known-command-2
     keep-key-requires
-    stepped-returned-requires
+    stepped-requires-2
     enum-known-command-3
     keep-error-requires
-    stepped-errors-requires
+    stepped-requires-3
     enum-told
     enum-told-2
     enum-told-3

@@ -1,20 +1,23 @@
--- `clear` is safe and ends: the measure is what is left of the buffer.
+-- `clear` is safe and ends: the measure is what is left of the store.
 use Prim.Native.Nat.{_-_}
 use borrow.Author.Needs.{needs}
 use Rattle.replay.proofs.parts.clear.Statement.{statement}
 use Rattle.replay.proofs.parts.clear.Tie as tie
 
 abbrev Inv-loop : tie.InvT-loop
-Inv-loop bytes₀ from i₀ bytes i = Unit {0}
+Inv-loop store₀ from to end i₀ store i = Unit {0}
 
 abbrev μ-loop : tie.MeasureT-loop
-μ-loop bytes₀ from i₀ bytes i = 65536 - i
+μ-loop store₀ from to end i₀ store i = end - i
+
+least-requires : tie.Need-least-requires Inv-loop μ-loop
+least-requires c κs = search needs
 
 loop-holds : tie.Need-loop-holds Inv-loop μ-loop
 loop-holds c = search needs
 
-element-write-bytes : tie.Need-element-write-bytes Inv-loop μ-loop
-element-write-bytes c = search needs
+element-write-store : tie.Need-element-write-store Inv-loop μ-loop
+element-write-store c = search needs
 
 add-i : tie.Need-add-i Inv-loop μ-loop
 add-i c = search needs
@@ -31,4 +34,4 @@ returns c = search needs
 pub clear-spec : {M : Type 1} → statement M
 clear-spec =
     tie.close
-    (tie.spec Inv-loop μ-loop loop-holds element-write-bytes add-i loop-less loop-again returns)
+    (tie.spec Inv-loop μ-loop least-requires loop-holds element-write-store add-i loop-less loop-again returns)

@@ -88,7 +88,11 @@ returns-18 c = sym (c .match .keys18) ∙ c .before .find-word .ensures
 
 returns-19 : tie.Need-returns-19
 unfolding words before
-returns-19 c = place-other (now (c .before .before .before .before .args .word)) callWords (c .before .find-word .ensures) (none-below (c .before .find-word .result) 18 (c .match .rest))
+returns-19 c = sym (c .match .keys19) ∙ c .before .find-word .ensures
+
+returns-20 : tie.Need-returns-20
+unfolding words before
+returns-20 c = place-other (now (c .before .before .before .before .args .word)) callWords (c .before .find-word .ensures) (none-below (c .before .find-word .result) 19 (c .match .rest))
 
 pub choose-call-spec : {M : Type 1} → statement M
 choose-call-spec =
@@ -114,4 +118,5 @@ choose-call-spec =
     returns-16
     returns-17
     returns-18
-    returns-19)
+    returns-19
+    returns-20)

@@ -1,6 +1,7 @@
 -- The settings, the phase and the tables are those of the definition, one by one.
-use mathlib.Core.Path.{sym}
+use mathlib.Core.Path.{sym, ap}
 use borrow.Author.Needs.{needs}
+use Rattle.session.specs.Session.{carriedFirst}
 use Rattle.session.proofs.sessions.Session.open_with.Statement.{statement}
 use Rattle.session.proofs.sessions.Session.open_with.Tie as tie
 
@@ -14,7 +15,7 @@ open-tables-requires : tie.Need-open-tables-requires
 open-tables-requires c κs = search needs
 
 returns : tie.Need-returns
-returns c = (rw (sym (c .before .before .before .read-settings .ensures .0), c .before .before .phase-opened .ensures, c .open-tables .ensures), c .before .before .before .read-settings .ensures .1)
+returns c = (rw (sym (c .before .before .before .read-settings .ensures .0), c .before .before .phase-opened .ensures, c .open-tables .ensures), ap carriedFirst (c .before .before .before .read-settings .ensures .1))
 
 pub open-with-spec : {M : Type 1} → statement M
 open-with-spec =

@@ -1,0 +1,2 @@
+-- What is shown of input in chunks.
+pub mod Laws

@@ -1,0 +1,3 @@
+-- What the first pass goes by.
+pub mod Stanzas
+pub mod Room

@@ -1,0 +1,4 @@
+-- What the code of receiving stands for.
+pub mod Turns
+pub mod Intake
+pub mod Settling

@@ -1,0 +1,149 @@
+// What is kept of the input between calls, in the lent array.
+ghost use mathlib.Core.Path.{_≡_};
+ghost use mathlib.Core.List.{List, [], _++_};
+ghost use mathlib.Core.Bool.{false};
+ghost use Prim.Native.Nat.{ℕ, _≤_, _+_, min};
+ghost use lib.ListN.{length, take, drop};
+ghost use Rattle.refusal.specs.Output.{filled};
+ghost use Rattle.refusal.specs.Number.{numberOf};
+ghost use Rattle.stanza.specs.Resuming.{placeSaid};
+ghost use Rattle.session.specs.Session.{sessionOf};
+ghost use Rattle.conversation.specs.Kinds.{Buffers};
+ghost use Rattle.chunks.specs.Taking.{End, reads, drops, keeps-back, noMore, keeping, takenText, behind};
+ghost use Rattle.chunks.specs.Uncut.{isWaiting};
+ghost use Rattle.intake.specs.Intake.{lastSaid};
+ghost use Rattle.intake.specs.Turns.{turnSaid};
+ghost use Rattle.intake.specs.Settling.{MaySettle, Says};
+use crate::answers::Last;
+use crate::answers::Received;
+use crate::turns::Turn;
+use refusal::Refusal;
+use refusal::Verdict;
+use session::Phase;
+use session::Session;
+use stanza::Continued;
+use stanza::Place;
+
+// How many bytes are kept of an unfinished stanza at most.
+const MOST_UNFINISHED: usize = stanza::LONGEST - 1;
+
+// How many bytes of an unfinished stanza are kept. A session that is made up may say more.
+pub fn kept_of(session: Session) -> usize
+    ensures { λ r. ⌜ r ≡ min (session .kept) 8191 ⌝ }
+{
+    let kept = session.kept;
+    if kept < MOST_UNFINISHED {
+        kept
+    } else {
+        MOST_UNFINISHED
+    }
+}
+
+// A part behind the first bytes of `out`; nothing where it is too short.
+fn copy_behind(part: &[u8], at: usize, out: &mut [u8])
+    ensures { λ _. ⌜ now (out .exit) ≡ take at (now (out .entry)) ++ filled (now (part .entry)) (drop at (now (out .entry))) ⌝ }
+{
+    if out.len() < at {
+        return;
+    }
+    stanza::copy(part, &mut out[at..]);
+}
+
+// An unfinished stanza goes on and has not ended: the chunk's bytes stand behind those that are kept.
+pub fn keep_on(session: Session, place: Place, chunk: &[u8], input: &mut [u8]) -> Received
+    ensures outcome { λ r. ⌜ ((e : End) (xs hs : List (List ℕ)) (b : Buffers) → isWaiting e (session .phase) ≡ false →
+        min (session .kept) 8191 + length (now (chunk .entry)) ≤ 8191 → 8192 ≤ length (now (input .entry)) →
+        Says e r xs hs (now (input .entry)) (now (input .exit)) [] b
+        (noMore 0 (keeping (sessionOf session xs hs) (placeSaid place) (take (min (session .kept) 8191) (now (input .entry)) ++ now (chunk .entry)) []) b))
+        ⌝ }
+    ensures rest { λ r. ⌜ (r .written ≡ 0) × (r .session .name ≡ session .name) ⌝ }
+{
+    let kept = kept_of(session);
+    let n = chunk.len();
+    copy_behind(chunk, kept, input);
+    Received {
+        verdict: Verdict::Accepted,
+        count: 0,
+        last: Last::Nothing,
+        written: 0,
+        session: session.keeping(place, kept + n, 0),
+    }
+}
+
+// What stands behind the stanzas that were taken, by whose turn it is: read, dropped or kept back. `awaited` is the text that waits, empty where none does.
+pub fn settle(
+    so_far: Received,
+    turn: Turn,
+    awaited: &[u8],
+    rest: &[u8],
+    input: &mut [u8],
+) -> Received
+    ensures outcome { λ r. ⌜ ((e : End) (xs hs : List (List ℕ)) (w : List ℕ) (b : Buffers) →
+        MaySettle e («so_far» .session .phase) (turnSaid turn) (now (awaited .entry)) (now (rest .entry)) (now (input .entry)) →
+        Says e r xs hs (now (input .entry)) (now (input .exit)) w b (behind («so_far» .count) (lastSaid («so_far» .last)) w
+        (takenText e (sessionOf («so_far» .session) xs hs) b (now (awaited .entry)) (now (rest .entry))))) ⌝ }
+    ensures rest { λ r. ⌜ (r .written ≡ «so_far» .written) × (r .session .name ≡ «so_far» .session .name) ⌝ }
+{
+    match turn {
+        Turn::Reads => settle_read(so_far, rest, input),
+        Turn::Drops(r) => settle_dropped(so_far, r, rest.len()),
+        Turn::KeepsBack => settle_back(so_far, awaited, rest, input),
+    }
+}
+
+// The front of an unfinished stanza is kept; bytes that no stanza begins with close the session.
+fn settle_read(so_far: Received, rest: &[u8], input: &mut [u8]) -> Received
+    ensures outcome { λ r. ⌜ ((e : End) (xs hs : List (List ℕ)) (w : List ℕ) (b : Buffers) →
+        MaySettle e («so_far» .session .phase) reads [] (now (rest .entry)) (now (input .entry)) →
+        Says e r xs hs (now (input .entry)) (now (input .exit)) w b
+        (behind («so_far» .count) (lastSaid («so_far» .last)) w (takenText e (sessionOf («so_far» .session) xs hs) b [] (now (rest .entry))))) ⌝ }
+    ensures rest { λ r. ⌜ (r .written ≡ «so_far» .written) × (r .session .name ≡ «so_far» .session .name) ⌝ }
+{
+    let session = so_far.session;
+    let continued = stanza::read_on(Place::Start, 0, rest);
+    match continued {
+        Continued::Whole(_) => so_far,
+        Continued::Unfinished(place) => {
+            stanza::copy(rest, input);
+            so_far.settled(Verdict::Accepted, session.keeping(place, rest.len(), 0))
+        }
+        Continued::Refused(r) => {
+            let shut = session.moved(Phase::Closed, session.tables);
+            so_far.settled(Verdict::Refused(r), shut.keeping(Place::Start, 0, 0))
+        }
+    }
+}
+
+// Bytes are dropped and refused, if there are any.
+fn settle_dropped(so_far: Received, refusal: Refusal, left: usize) -> Received
+    ensures outcome { λ r. ⌜ ((e : End) (xs hs : List (List ℕ)) (w : List ℕ) (b : Buffers) (rest input : List ℕ) → length rest ≡ left →
+        MaySettle e («so_far» .session .phase) (drops (numberOf refusal)) [] rest input →
+        Says e r xs hs input input w b
+        (behind («so_far» .count) (lastSaid («so_far» .last)) w (takenText e (sessionOf («so_far» .session) xs hs) b [] rest))) ⌝ }
+    ensures rest { λ r. ⌜ (r .written ≡ «so_far» .written) × (r .session .name ≡ «so_far» .session .name) ⌝ }
+{
+    let session = so_far.session;
+    let emptied = session.keeping(Place::Start, 0, 0);
+    if left == 0 {
+        return so_far.settled(Verdict::Accepted, emptied);
+    }
+    so_far.settled(Verdict::Refused(refusal), emptied)
+}
+
+// Bytes are kept back behind the text that waits.
+fn settle_back(so_far: Received, awaited: &[u8], rest: &[u8], input: &mut [u8]) -> Received
+    ensures outcome { λ r. ⌜ ((e : End) (xs hs : List (List ℕ)) (w : List ℕ) (b : Buffers) →
+        MaySettle e («so_far» .session .phase) keeps-back (now (awaited .entry)) (now (rest .entry)) (now (input .entry)) →
+        Says e r xs hs (now (input .entry)) (now (input .exit)) w b (behind («so_far» .count) (lastSaid («so_far» .last)) w
+        (takenText e (sessionOf («so_far» .session) xs hs) b (now (awaited .entry)) (now (rest .entry))))) ⌝ }
+    ensures rest { λ r. ⌜ (r .written ≡ «so_far» .written) × (r .session .name ≡ «so_far» .session .name) ⌝ }
+{
+    let session = so_far.session;
+    let n = awaited.len();
+    stanza::copy(awaited, input);
+    copy_behind(rest, n, input);
+    so_far.settled(
+        Verdict::Accepted,
+        session.keeping(Place::Start, rest.len(), n),
+    )
+}

@@ -1,0 +1,3 @@
+pub mod Commands
+pub mod Responses
+pub mod Drops

@@ -1,0 +1,2 @@
+-- What the answers of the plugin end's sending stand for.
+pub mod Sending
