@@ -1,12 +1,12 @@
 // The lines of standard input, read in chunks. Answers are written before more input is read.
-use crate::parts::Buffer;
-use crate::parts::append;
-use crate::parts::front;
-use crate::parts::part;
-use crate::print::Output;
-use crate::print::flush;
 use libc::STDERR_FILENO;
 use libc::STDIN_FILENO;
+use replay_answers::Output;
+use replay_answers::flush;
+use replay_lines::Buffer;
+use replay_lines::append;
+use replay_lines::front;
+use replay_lines::part;
 
 // The line buffer takes a byte more than the longest line, so that a longer one shows.
 pub type Line = [u8; 65537];

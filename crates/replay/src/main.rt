@@ -1,36 +1,27 @@
 // Reads a script from standard input, makes the call of each line and prints its answer on standard output. A line that is no call is
 // answered by its number, and the run goes on.
-mod answers;
-mod calls;
-mod commands;
 mod host;
 mod lines;
-mod parts;
-mod print;
-mod requests;
-mod returned;
 mod settings;
-mod show;
 mod turns;
-mod words;
 
-use answers::print_answer;
-use host::ClientInput;
-use host::HeaderSlots;
 use host::PluginInput;
-use host::Slots;
 use host::no_session;
 use lines::Line;
 use lines::advance;
 use lines::start;
-use parts::Buffer;
-use parts::Store;
-use parts::front;
-use print::Output;
-use print::flush;
+use replay_answers::ClientInput;
+use replay_answers::HeaderSlots;
+use replay_answers::Output;
+use replay_answers::Slots;
+use replay_answers::flush;
+use replay_answers::print_answer;
+use replay_lines::Buffer;
+use replay_lines::Store;
+use replay_lines::front;
+use replay_lines::read_line;
 use session::Session;
 use turns::make_call;
-use words::read_line;
 
 // The last four arrays are the stores of the session's buffers: recipients and errors, identities and returned stanzas, file keys and returned
 // keys, and header stanzas alone.

@@ -1,33 +1,36 @@
 // The call of a line; and those that keep what a session says: each end sends in its phase and receives in the other's, and the client's host
 // replies. Each buffer is cut to the length that the host keeps.
-use crate::answers::answer_of;
-use crate::answers::answer_received;
-use crate::calls::call_plain;
-use crate::commands::arguments_one;
-use crate::commands::arguments_two;
-use crate::commands::command_one;
-use crate::commands::command_two;
-use crate::host::ClientInput;
-use crate::host::HeaderSlots;
 use crate::host::Host;
 use crate::host::PluginInput;
-use crate::host::Slots;
 use crate::host::Turn;
-use crate::parts::Buffer;
-use crate::parts::Store;
-use crate::parts::cut;
-use crate::parts::cut_rear;
-use crate::print::Output;
-use crate::requests::Request;
-use crate::requests::TalkOne;
-use crate::requests::TalkTwo;
-use crate::requests::read_request;
+use crate::host::answered;
 use crate::settings::set;
-use crate::show::look;
-use crate::words::Words;
-use crate::words::word;
 use intake::Received;
 use refusal::Written;
+use replay_answers::ClientInput;
+use replay_answers::HeaderSlots;
+use replay_answers::Output;
+use replay_answers::Slots;
+use replay_answers::answer_of;
+use replay_answers::answer_received;
+use replay_answers::look;
+use replay_calls::call_plain;
+use replay_lines::Buffer;
+use replay_lines::Change;
+use replay_lines::Request;
+use replay_lines::Store;
+use replay_lines::TalkOne;
+use replay_lines::TalkTwo;
+use replay_lines::Words;
+use replay_lines::arguments_one;
+use replay_lines::arguments_two;
+use replay_lines::command_one;
+use replay_lines::command_two;
+use replay_lines::cut;
+use replay_lines::cut_rear;
+use replay_lines::read_request;
+use replay_lines::word;
+use responses::Response;
 use session::Session;
 
 // Makes the call of a line. Each store has the name of its first buffer.
@@ -50,8 +53,73 @@ pub fn make_call(
     let end = host.end;
     let request = read_request(end, text, w);
     match request {
-        Request::Setting(call) => set(call, text, w, host, recipients, identities, keys, headers),
-        Request::PhaseOne(talk, n) => talk_one(
+        Request::Change(change) => make_change(
+            change,
+            text,
+            w,
+            host,
+            buffer,
+            client_input,
+            plugin_input,
+            slots,
+            header_slots,
+            recipients,
+            identities,
+            keys,
+            headers,
+        ),
+        Request::Look(what) => {
+            let session = host.session;
+            let lengths = host.lengths;
+            let answer = look(
+                what,
+                session,
+                lengths,
+                client_input,
+                slots,
+                header_slots,
+                recipients,
+                identities,
+                keys,
+                headers,
+                out,
+                at,
+            );
+            answered(answer, host)
+        }
+        _ => answered(call_plain(request, text, w, buffer, out, at), host),
+    }
+}
+
+// Makes a call that may change the session.
+fn make_change(
+    change: Change,
+    text: &[u8],
+    w: Words,
+    host: Host,
+    buffer: &mut Buffer,
+    client_input: &mut ClientInput,
+    plugin_input: &mut PluginInput,
+    slots: &mut Slots,
+    header_slots: &mut HeaderSlots,
+    recipients: &mut Store,
+    identities: &mut Store,
+    keys: &mut Store,
+    headers: &mut Store,
+) -> Turn {
+    match change {
+        Change::Setting(setting, given) => set(
+            setting,
+            given,
+            text,
+            w,
+            host,
+            recipients,
+            identities,
+            keys,
+            headers,
+        ),
+        Change::PhaseOne(talk, n) => talk_one(
             talk,
             n,
             text,
@@ -66,7 +134,7 @@ pub fn make_call(
             keys,
             headers,
         ),
-        Request::PhaseTwo(talk, n) => talk_two(
+        Change::PhaseTwo(talk, n) => talk_two(
             talk,
             n,
             text,
@@ -80,20 +148,6 @@ pub fn make_call(
             identities,
             keys,
         ),
-        Request::Look(what) => look(
-            what,
-            host,
-            client_input,
-            slots,
-            header_slots,
-            recipients,
-            identities,
-            keys,
-            headers,
-            out,
-            at,
-        ),
-        _ => call_plain(request, text, w, host, buffer, out, at),
     }
 }
 
@@ -113,7 +167,6 @@ fn talk_one(
     keys: &mut [u8],
     headers: &mut [u8],
 ) -> Turn {
-    let session = host.session;
     let lengths = host.lengths;
     let r = cut(recipients, lengths.recipients);
     let i = cut(identities, lengths.identities);
@@ -121,40 +174,71 @@ fn talk_one(
     let h = cut(headers, lengths.headers);
     let out = cut(buffer, n);
     match talk {
-        TalkOne::Send => {
-            let command = command_one(word(text, w, 1));
-            let sent = client_sending::send(
-                session,
-                command,
-                arguments_one(command, text, w),
-                word(text, w, 3),
-                slots,
-                header_slots,
-                r,
-                i,
-                k,
-                h,
-                out,
-            );
-            let written = sent.answer;
-            keep_written(written, sent.session, host)
-        }
+        TalkOne::Send => send_one(text, w, host, slots, header_slots, r, i, k, h, out),
         TalkOne::Receive => {
-            let received = plugin_receiving::receive(
-                session,
-                word(text, w, 1),
-                input,
-                slots,
-                header_slots,
-                r,
-                i,
-                k,
-                h,
-                out,
-            );
-            keep_received(received, host)
+            let chunk = word(text, w, 1);
+            receive_one(chunk, host, input, slots, header_slots, r, i, k, h, out)
         }
     }
+}
+
+// send COMMAND ARGS BODY OUT at the client end
+fn send_one(
+    text: &[u8],
+    w: Words,
+    host: Host,
+    slots: &mut Slots,
+    header_slots: &mut HeaderSlots,
+    recipients: &mut [u8],
+    identities: &mut [u8],
+    keys: &mut [u8],
+    headers: &mut [u8],
+    out: &mut [u8],
+) -> Turn {
+    let command = command_one(word(text, w, 1));
+    let sent = client_sending::send(
+        host.session,
+        command,
+        arguments_one(command, text, w),
+        word(text, w, 3),
+        slots,
+        header_slots,
+        recipients,
+        identities,
+        keys,
+        headers,
+        out,
+    );
+    let written = sent.answer;
+    keep_written(written, sent.session, host)
+}
+
+// chunk BYTES OUT at the plugin end
+fn receive_one(
+    chunk: &[u8],
+    host: Host,
+    input: &mut PluginInput,
+    slots: &mut Slots,
+    header_slots: &mut HeaderSlots,
+    recipients: &mut [u8],
+    identities: &mut [u8],
+    keys: &mut [u8],
+    headers: &mut [u8],
+    out: &mut [u8],
+) -> Turn {
+    let received = plugin_receiving::receive(
+        host.session,
+        chunk,
+        input,
+        slots,
+        header_slots,
+        recipients,
+        identities,
+        keys,
+        headers,
+        out,
+    );
+    keep_received(received, host)
 }
 
 // send COMMAND ARGS BODY OUT at the plugin end, chunk BYTES OUT and reply ANSWER BODY OUT at the client end
@@ -172,49 +256,23 @@ fn talk_two(
     stanzas: &mut [u8],
     returned: &mut [u8],
 ) -> Turn {
-    let session = host.session;
     let lengths = host.lengths;
     let e = cut_rear(errors, lengths.errors);
     let s = cut_rear(stanzas, lengths.stanzas);
     let f = cut_rear(returned, lengths.returned);
     let out = cut(buffer, n);
     match talk {
-        TalkTwo::Send => {
-            let command = command_two(word(text, w, 1));
-            let sent = plugin_sending::send(
-                session,
-                command,
-                arguments_two(command, text, w),
-                word(text, w, 3),
-                slots,
-                header_slots,
-                e,
-                s,
-                f,
-                out,
-            );
-            let written = sent.answer;
-            keep_written(written, sent.session, host)
-        }
+        TalkTwo::Send => send_two(text, w, host, slots, header_slots, e, s, f, out),
         TalkTwo::Receive => {
-            let received = client_receiving::receive(
-                session,
-                word(text, w, 1),
-                input,
-                slots,
-                header_slots,
-                e,
-                s,
-                f,
-                out,
-            );
-            keep_received(received, host)
+            let chunk = word(text, w, 1);
+            receive_two(chunk, host, input, slots, header_slots, e, s, f, out)
         }
         TalkTwo::Reply(response) => {
-            let received = client_receiving::reply(
-                session,
+            let body = word(text, w, 2);
+            reply(
                 response,
-                word(text, w, 2),
+                body,
+                host,
                 input,
                 slots,
                 header_slots,
@@ -222,10 +280,92 @@ fn talk_two(
                 s,
                 f,
                 out,
-            );
-            keep_received(received, host)
+            )
         }
     }
+}
+
+// send COMMAND ARGS BODY OUT at the plugin end
+fn send_two(
+    text: &[u8],
+    w: Words,
+    host: Host,
+    slots: &mut Slots,
+    header_slots: &HeaderSlots,
+    errors: &mut [u8],
+    stanzas: &mut [u8],
+    returned: &mut [u8],
+    out: &mut [u8],
+) -> Turn {
+    let command = command_two(word(text, w, 1));
+    let sent = plugin_sending::send(
+        host.session,
+        command,
+        arguments_two(command, text, w),
+        word(text, w, 3),
+        slots,
+        header_slots,
+        errors,
+        stanzas,
+        returned,
+        out,
+    );
+    let written = sent.answer;
+    keep_written(written, sent.session, host)
+}
+
+// chunk BYTES OUT at the client end
+fn receive_two(
+    chunk: &[u8],
+    host: Host,
+    input: &mut ClientInput,
+    slots: &mut Slots,
+    header_slots: &HeaderSlots,
+    errors: &mut [u8],
+    stanzas: &mut [u8],
+    returned: &mut [u8],
+    out: &mut [u8],
+) -> Turn {
+    let received = client_receiving::receive(
+        host.session,
+        chunk,
+        input,
+        slots,
+        header_slots,
+        errors,
+        stanzas,
+        returned,
+        out,
+    );
+    keep_received(received, host)
+}
+
+// reply ANSWER BODY OUT
+fn reply(
+    response: Response,
+    body: &[u8],
+    host: Host,
+    input: &mut ClientInput,
+    slots: &mut Slots,
+    header_slots: &HeaderSlots,
+    errors: &mut [u8],
+    stanzas: &mut [u8],
+    returned: &mut [u8],
+    out: &mut [u8],
+) -> Turn {
+    let received = client_receiving::reply(
+        host.session,
+        response,
+        body,
+        input,
+        slots,
+        header_slots,
+        errors,
+        stanzas,
+        returned,
+        out,
+    );
+    keep_received(received, host)
 }
 
 // What a sending came to.

@@ -1,10 +1,11 @@
 -- `find_word` meets its contract. Invariant: the word is none of the first k, so its number is k and its number among the rest.
 use Prim.Native.Nat.{_+_, _-_, _≤_}
-use mathlib.Core.Path.{_≡_}
+use mathlib.Core.Path.{_≡_, sym, ap, _∙_}
 use lib.ListN.{drop}
 use native.Mathlib.Omega.{arith}
 use borrow.Author.Needs.{needs}
 use denote.Ref.{now}
+use Rattle.refusal.specs.Same.{same}
 use Rattle.stanza.specs.Arguments.{words}
 use Rattle.script.specs.Choice.{place}
 use Rattle.script.proofs.Laws.Choice.{place-here, place-later, place-none}
@@ -33,7 +34,7 @@ returns : tie.Need-returns Inv-loop μ-loop
 returns c =
     let word = now (c .before .before .before .before .before .before .before .before .args .word) in
     let text = now (c .before .before .before .before .before .before .before .before .args .text) in
-    omega (arith, place-here word (words text) (c .before .before .before .before .loop .k) (omega arith) (cc))
+    omega (arith, place-here word (words text) (c .before .before .before .before .loop .k) (omega (arith, c .before .before .before .loop-test .taken, c .before .before .before .before .before .count .ensures)) (sym (ap (same word) (c .before .before .argument .ensures)) ∙ (sym (c .before .is-same .ensures) ∙ c .if1 .taken)))
 
 add-k : tie.Need-add-k Inv-loop μ-loop
 add-k c = search needs
@@ -45,7 +46,7 @@ loop-again : tie.Need-loop-again Inv-loop μ-loop
 loop-again c =
     let word = now (c .before .before .before .before .before .before .before .before .args .word) in
     let text = now (c .before .before .before .before .before .before .before .before .args .text) in
-    (search needs, omega (arith, place-later word (words text) (c .before .before .before .before .loop .k) (omega arith) (cc)))
+    (search needs, omega (arith, place-later word (words text) (c .before .before .before .before .loop .k) (omega (arith, c .before .before .before .loop-test .taken, c .before .before .before .before .before .count .ensures)) (sym (ap (same word) (c .before .before .argument .ensures)) ∙ (sym (c .before .is-same .ensures) ∙ c .if1 .left))))
 
 returns-2 : tie.Need-returns-2 Inv-loop μ-loop
 returns-2 c =

@@ -1,0 +1,62 @@
+-- `print_table` is safe and ends. The invariant: n is at most 256.
+use Rattle.replay_answers.proofs.show.print_table.Statement.{statement}
+use Rattle.replay_answers.proofs.show.print_table.Tie as tie
+use Prim.Native.Nat.{_-_, _≤_}
+use borrow.Author.Needs.{needs}
+
+abbrev Inv-loop : tie.InvT-loop
+Inv-loop number kind tables slots header buffer out₀ at next₀ n₀ out next n = n ≤ 256
+
+abbrev μ-loop : tie.MeasureT-loop
+μ-loop number kind tables slots header buffer out₀ at next₀ n₀ out next n = 256 - n
+
+loop-holds : tie.Need-loop-holds Inv-loop μ-loop
+loop-holds c = search needs
+
+find-requires : tie.Need-find-requires Inv-loop μ-loop
+find-requires c κs = search needs
+
+enum-told : tie.Need-enum-told Inv-loop μ-loop
+enum-told c = search needs
+
+returns : tie.Need-returns Inv-loop μ-loop
+returns c = search needs
+
+enum-known-found : tie.Need-enum-known-found Inv-loop μ-loop
+enum-known-found c = search needs
+
+payload-requires : tie.Need-payload-requires Inv-loop μ-loop
+payload-requires c κs = search needs
+
+print-slot-requires : tie.Need-print-slot-requires Inv-loop μ-loop
+print-slot-requires c κs = search needs
+
+add-n : tie.Need-add-n Inv-loop μ-loop
+add-n c = search needs
+
+loop-less : tie.Need-loop-less Inv-loop μ-loop
+loop-less c = search needs
+
+loop-again : tie.Need-loop-again Inv-loop μ-loop
+loop-again c = search needs
+
+returns-2 : tie.Need-returns-2 Inv-loop μ-loop
+returns-2 c = search needs
+
+pub print-table-spec : {M : Type 1} → statement M
+print-table-spec =
+    tie.close
+    (tie.spec
+    Inv-loop
+    μ-loop
+    loop-holds
+    find-requires
+    enum-told
+    returns
+    enum-known-found
+    payload-requires
+    print-slot-requires
+    add-n
+    loop-less
+    loop-again
+    returns-2)

@@ -1,0 +1,36 @@
+// What a line of the replay program's script asks for: its words, and the request that they make at the end that is open. It makes no call.
+mod commands;
+mod lengths;
+mod parts;
+mod requests;
+mod words;
+
+pub use commands::arguments_one;
+pub use commands::arguments_two;
+pub use commands::command_one;
+pub use commands::command_two;
+pub use lengths::Lengths;
+pub use lengths::lengths_of;
+pub use parts::Buffer;
+pub use parts::LONGEST;
+pub use parts::Store;
+pub use parts::append;
+pub use parts::clear_store;
+pub use parts::cut;
+pub use parts::cut_rear;
+pub use parts::front;
+pub use parts::least;
+pub use parts::part;
+pub use parts::rear;
+pub use requests::Change;
+pub use requests::End;
+pub use requests::Look;
+pub use requests::Request;
+pub use requests::Setting;
+pub use requests::TalkOne;
+pub use requests::TalkTwo;
+pub use requests::read_request;
+pub use words::Words;
+pub use words::last_word;
+pub use words::read_line;
+pub use words::word;
