@@ -2,6 +2,7 @@
 //! A refused call leaves what it was lent as it was.
 
 use crate::library::{self, Name, Parts};
+use crate::plain;
 use crate::texts::{self, ARGUMENTS, LIMIT, NAME};
 use crate::work::Task;
 use reference::bech32::{self, Kind};
@@ -20,6 +21,7 @@ const DAMAGE: [u8; 16] = *b"\0\n\r !+-/1=Abqz~\x7f";
 
 /// Panics at the first difference; gives how many calls were compared.
 pub fn check() -> usize {
+    plain::make_tables();
     let mut calls = Calls::default();
     for on in texts::measured() {
         for &task in &on.tasks {
@@ -27,7 +29,7 @@ pub fn check() -> usize {
                 Task::Read => damaged(&on.text, |text| calls.read(text)),
                 Task::Write => calls.write(ARGUMENTS, &on.content),
                 Task::ReadText(kind) => damaged(&on.text, |text| calls.read_text(kind, text)),
-                Task::WriteText(kind) => calls.write_text(kind, NAME, &on.content),
+                Task::WriteText(kind) => calls.write_text(kind, on.plugin, &on.content),
                 Task::Decode | Task::ReadAndDecode => {}
             }
         }
@@ -163,6 +165,12 @@ impl Calls {
             };
             assert_eq!((number, name, length), expected, "reading {kind:?} {text:?}");
             assert_eq!(ours, theirs, "reading {kind:?} {text:?}");
+            let mut plain_name = Name { bytes: [0; 32], length: 0 };
+            let plain = plain::read_text(kind, text, &mut plain_name, &mut ours);
+            assert_eq!(plain, (number == 0).then_some(length), "plain C, reading {kind:?} {text:?}");
+            if number == 0 {
+                assert_eq!((plain_name, ours), (name, theirs), "plain C, reading {kind:?} {text:?}");
+            }
         }
     }
 
@@ -179,6 +187,11 @@ impl Calls {
             let expected = answer(bech32::write(kind, name, payload, &mut theirs));
             assert_eq!((number, length), expected, "writing {kind:?} {name:?} {payload:?}");
             assert_eq!(ours, theirs, "writing {kind:?} {name:?} {payload:?}");
+            let plain = plain::write_text(kind, name, payload, &mut ours);
+            assert_eq!(plain, if number == 0 { length } else { 0 }, "plain C, writing {kind:?} {name:?}");
+            if number == 0 {
+                assert_eq!(ours, theirs, "plain C, writing {kind:?} {name:?} {payload:?}");
+            }
         }
         for kind in [Kind::Recipient, Kind::Identity] {
             self.read_text(kind, &text[..len]);

@@ -5,7 +5,7 @@ use reference::session::{Buffers, Client, Plugin, Response, KINDS};
 use reference::stanza::LIMIT;
 
 /// The lengths of the seven buffers.
-const LENGTHS: [usize; KINDS] = [16_384, 16_384, 1_024, 65_536, 4_096, 65_536, 4_096];
+const LENGTHS: [usize; KINDS] = [65_536, 16_384, 1_024, 65_536, 4_096, 65_536, 4_096];
 
 #[derive(Clone, Copy, PartialEq, Eq)]
 pub enum End {

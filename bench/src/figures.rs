@@ -37,6 +37,11 @@ pub fn instructions(task: Task, on: &Measured) -> [f64; 2] {
     PROGRAMS.map(|program| instructions_of(program, task, on))
 }
 
+/// Those of a call in plain C, where it does the task.
+pub fn instructions_plain(task: Task, on: &Measured) -> Option<f64> {
+    task.is_in_plain_c().then(|| instructions_of(Program::PlainC, task, on))
+}
+
 /// What twice as many calls take more, so that the start of the program is not counted.
 fn instructions_of(program: Program, task: Task, on: &Measured) -> f64 {
     let times = 2_000_000 / (on.text.len() * 10);
@@ -70,7 +75,8 @@ pub fn count_one(words: &[String], measured: &[Measured]) {
     let [_, program, task, text, times] = words else {
         panic!("usage: bench [count PROGRAM TASK TEXT TIMES]");
     };
-    let program = PROGRAMS.into_iter().find(|one| format!("{one:?}") == *program).expect("a program");
+    let programs = [Program::Library, Program::Reference, Program::PlainC];
+    let program = programs.into_iter().find(|one| format!("{one:?}") == *program).expect("a program");
     let on = measured.iter().find(|one| one.name == text).expect("a text");
     let task = on.tasks.iter().find(|one| format!("{one:?}") == *task).expect("a task on it");
     repeat(program, *task, on, times.parse().expect("how many times"));

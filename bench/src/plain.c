@@ -1,9 +1,12 @@
-// The calls of a session in plain C, as much of them as is measured beside the library: a stanza read strictly and its body decoded, a command
-// looked at and noted in a table, a response written or read. Each call gives the bytes it took or wrote, 0 where it refuses.
+// Plain C, as much of it as is measured beside the library. Of a session's calls: a stanza read strictly and its body decoded, a command looked at
+// and noted in a table, a response written or read; each call gives the bytes it took or wrote, 0 where it refuses. And recipients and
+// identities read and written.
+#define _GNU_SOURCE // for memrchr
 #include <stdint.h>
 #include <string.h>
 
 #define LIMIT 8192
+#define LONGEST 1024
 
 struct stanza {
     const uint8_t *line; // the arguments
@@ -26,14 +29,24 @@ static struct {
 
 static const char BASE64[] = "ABCDEFGHIJKLMNOPQRSTUVWXYZabcdefghijklmnopqrstuvwxyz0123456789+/";
 static const char BECH32[] = "qpzry9x8gf2tvdw0s3jn54khce6mua7l";
-static int8_t value_of[256], symbol_of[256]; // -1 where there is none
+static const char CAPITALS[] = "QPZRY9X8GF2TVDW0S3JN54KHCE6MUA7L";
+static int8_t value_of[256]; // -1 where there is none
+static uint8_t symbol_of[256], capital_of[256];
+#define NONE 32
+
+// Before any other call.
+void plain_tables(void)
+{
+    memset(value_of, -1, sizeof value_of);
+    memset(symbol_of, NONE, sizeof symbol_of);
+    memset(capital_of, NONE, sizeof capital_of);
+    for (int i = 0; i < 64; i++) value_of[(uint8_t)BASE64[i]] = i;
+    for (int i = 0; i < 32; i++) symbol_of[(uint8_t)BECH32[i]] = capital_of[(uint8_t)CAPITALS[i]] = i;
+}
 
 void plain_open(int client, const uint8_t *name, size_t name_len)
 {
-    memset(value_of, -1, sizeof value_of);
-    memset(symbol_of, -1, sizeof symbol_of);
-    for (int i = 0; i < 64; i++) value_of[(uint8_t)BASE64[i]] = i;
-    for (int i = 0; i < 32; i++) symbol_of[(uint8_t)BECH32[i]] = i;
+    plain_tables();
     memset(&session, 0, sizeof session);
     session.client = client;
     session.phase = 1;
@@ -120,18 +133,121 @@ static size_t write_stanza(const uint8_t *line, size_t line_len, const uint8_t *
 
 static uint32_t fold(uint32_t sum, uint8_t symbol)
 {
-    static const uint32_t G[5] = {0x3b6a57b2, 0x26508e6d, 0x1ea119fa, 0x3d4233dd, 0x2a1462b3};
-    uint32_t top = sum >> 25;
-    sum = (sum & 0x1ffffff) << 5 ^ symbol;
-    for (int i = 0; i < 5; i++) sum ^= top >> i & 1 ? G[i] : 0;
+    static const uint32_t FOLDS[32] = {
+        0x00000000, 0x3b6a57b2, 0x26508e6d, 0x1d3ad9df, 0x1ea119fa, 0x25cb4e48, 0x38f19797, 0x039bc025,
+        0x3d4233dd, 0x0628646f, 0x1b12bdb0, 0x2078ea02, 0x23e32a27, 0x18897d95, 0x05b3a44a, 0x3ed9f3f8,
+        0x2a1462b3, 0x117e3501, 0x0c44ecde, 0x372ebb6c, 0x34b57b49, 0x0fdf2cfb, 0x12e5f524, 0x298fa296,
+        0x1756516e, 0x2c3c06dc, 0x3106df03, 0x0a6c88b1, 0x09f74894, 0x329d1f26, 0x2fa7c6f9, 0x14cd914b};
+    return (sum & 0x1ffffff) << 5 ^ symbol ^ FOLDS[sum >> 25];
+}
+
+static uint8_t lower(uint8_t c)
+{
+    return c >= 'A' && c <= 'Z' ? c + 32 : c;
+}
+
+// The checksum's state behind a human part.
+static uint32_t fold_human(const uint8_t *human, size_t len)
+{
+    uint32_t sum = 1;
+    for (size_t i = 0; i < len; i++) sum = fold(sum, lower(human[i]) >> 5);
+    sum = fold(sum, 0);
+    for (size_t i = 0; i < len; i++) sum = fold(sum, human[i] & 31);
     return sum;
+}
+
+static int is_name_byte(uint8_t c)
+{
+    return (c >= 'a' && c <= 'z') || (c >= '0' && c <= '9') || c == '+' || c == '-' || c == '.' || c == '_';
+}
+
+// Eight symbols or fewer as a number of 40 bits, the first the highest, by their values or characters.
+static uint64_t word_of(const uint8_t *text, size_t len, const uint8_t *values)
+{
+    uint64_t word = 0;
+    for (size_t i = 0; i < len; i++) word = word << 5 | values[text[i]];
+    return word << 5 * (8 - len);
+}
+
+// A recipient, or an identity in upper case: its name, and its payload's length and one more, 0 where it is refused.
+size_t plain_read_text(int upper, const uint8_t *text, size_t len, uint8_t *name, size_t *name_len, uint8_t *out, size_t out_len)
+{
+    const char *before = upper ? "AGE-PLUGIN-" : "age1", *behind = upper ? "-" : "";
+    size_t before_len = strlen(before), behind_len = strlen(behind), around = before_len + behind_len;
+    const uint8_t *one = memrchr(text, '1', len), *values = upper ? capital_of : symbol_of;
+    size_t human = one - text;
+    if (len > LONGEST || !one || len - human < 7 || human <= around || human - around > 32) return 0;
+    if (memcmp(text, before, before_len) || memcmp(one - behind_len, behind, behind_len)) return 0;
+    for (size_t i = 0; i < human - around; i++) {
+        uint8_t c = text[before_len + i];
+        if (upper ? c >= 'a' && c <= 'z' : c >= 'A' && c <= 'Z') return 0;
+        name[i] = lower(c);
+        if (!is_name_byte(name[i])) return 0;
+    }
+    uint32_t sum = fold_human(text, human), seen = 0;
+    for (const uint8_t *at = one + 1; at < text + len; at++) {
+        seen |= values[*at];
+        sum = fold(sum, values[*at]);
+    }
+    size_t symbols = len - human - 7, bits = symbols * 5;
+    if (seen >= NONE || sum != 1 || bits % 8 > 4 || bits / 8 > out_len) return 0;
+    const uint8_t *at = one + 1, *end = at + symbols;
+    uint64_t rest = word_of(end - symbols % 8, symbols % 8, values);
+    if (rest << (24 + symbols % 8 * 5 / 8 * 8)) return 0;
+    for (; end - at >= 8; at += 8) {
+        uint64_t word = word_of(at, 8, values);
+        for (int i = 32; i >= 0; i -= 8) *out++ = word >> i;
+    }
+    for (size_t i = 0; i < symbols % 8 * 5 / 8; i++) *out++ = rest >> (32 - 8 * i);
+    *name_len = human - around;
+    return 1 + bits / 8;
+}
+
+// Symbols of a number of 40 bits as characters, folded in.
+static uint32_t put_symbols(uint64_t word, size_t count, const char *characters, uint32_t sum, uint8_t *out)
+{
+    for (size_t i = 0; i < count; i++) {
+        uint8_t v = word >> (35 - 5 * i) & 31;
+        sum = fold(sum, v);
+        out[i] = characters[v];
+    }
+    return sum;
+}
+
+// The text of a name and a payload, its length, 0 where it is refused.
+size_t plain_write_text(int upper, const uint8_t *name, size_t name_len, const uint8_t *payload, size_t payload_len, uint8_t *out, size_t out_len)
+{
+    const char *before = upper ? "AGE-PLUGIN-" : "age1", *behind = upper ? "-" : "", *characters = upper ? CAPITALS : BECH32;
+    size_t before_len = strlen(before), behind_len = strlen(behind), human = before_len + name_len + behind_len;
+    if (!name_len || name_len > 32 || payload_len > LONGEST) return 0;
+    size_t total = human + 1 + (payload_len * 8 + 4) / 5 + 6;
+    if (total > LONGEST || total > out_len) return 0;
+    for (size_t i = 0; i < name_len; i++)
+        if (!is_name_byte(name[i])) return 0;
+    memcpy(out, before, before_len);
+    for (size_t i = 0; i < name_len; i++) out[before_len + i] = upper && name[i] >= 'a' && name[i] <= 'z' ? name[i] - 32 : name[i];
+    memcpy(out + before_len + name_len, behind, behind_len);
+    uint32_t sum = fold_human(out, human);
+    uint8_t *at = out + human;
+    *at++ = '1';
+    for (; payload_len >= 5; payload_len -= 5, payload += 5, at += 8) {
+        uint64_t word = 0;
+        for (int i = 0; i < 5; i++) word = word << 8 | payload[i];
+        sum = put_symbols(word, 8, characters, sum, at);
+    }
+    uint64_t rest = 0;
+    for (size_t i = 0; i < payload_len; i++) rest |= (uint64_t)payload[i] << (32 - 8 * i);
+    sum = put_symbols(rest, (payload_len * 8 + 4) / 5, characters, sum, at);
+    at += (payload_len * 8 + 4) / 5;
+    for (int i = 0; i < 6; i++) sum = fold(sum, 0);
+    for (int i = 0; i < 6; i++) at[i] = characters[(sum ^ 1) >> (25 - 5 * i) & 31];
+    return total;
 }
 
 // Whether the text is Bech32, in one case, its payload whole bytes, and bears the session's name between the two texts.
 static int is_bech32(const uint8_t *text, size_t len, const char *before, const char *behind, int upper)
 {
     size_t before_len = strlen(before), behind_len = strlen(behind), human = before_len + session.name_len + behind_len;
-    uint32_t sum = 1;
     uint8_t symbol = 0;
     if (len < human + 7 || memcmp(text, before, before_len) || text[human] != '1') return 0;
     for (size_t i = 0; i < session.name_len; i++) {
@@ -139,14 +255,10 @@ static int is_bech32(const uint8_t *text, size_t len, const char *before, const 
         if (text[before_len + i] != (upper && c >= 'a' && c <= 'z' ? c - 32 : c)) return 0;
     }
     if (memcmp(text + human - behind_len, behind, behind_len)) return 0;
-    for (size_t i = 0; i < human; i++) sum = fold(sum, (text[i] >= 'A' && text[i] <= 'Z' ? text[i] + 32 : text[i]) >> 5);
-    sum = fold(sum, 0);
-    for (size_t i = 0; i < human; i++) sum = fold(sum, text[i] & 31);
+    uint32_t sum = fold_human(text, human);
     for (size_t i = human + 1; i < len; i++) {
-        uint8_t c = text[i];
-        if (upper ? c >= 'a' && c <= 'z' : c >= 'A' && c <= 'Z') return 0;
-        int v = symbol_of[upper && c >= 'A' && c <= 'Z' ? c + 32 : c];
-        if (v < 0) return 0;
+        uint8_t v = (upper ? capital_of : symbol_of)[text[i]];
+        if (v == NONE) return 0;
         sum = fold(sum, v);
         if (i == len - 7) symbol = v;
     }

@@ -1,7 +1,7 @@
 //! The calls of a session that are measured.
 
 use crate::calls::{Call, End};
-use crate::texts::{bytes, written};
+use crate::texts::{bytes, written, LONG_NAME};
 use reference::bech32::{self, Kind};
 use reference::session::Response;
 use reference::stanza;
@@ -23,6 +23,8 @@ pub enum Aim {
     BelowSecond,
     /// At most so many times the library's own figure of the row before.
     TimesBefore(f64),
+    /// At most so many times plain C's.
+    TimesPlainC(f64),
 }
 
 /// A row of the report.
@@ -116,6 +118,8 @@ fn plugin_rows() -> Vec<Row> {
     let two_identity = [&one_identity[..], &[header.clone(), done.clone()]].concat();
     let whole = [many(&recipient), many(&key), vec![done.clone()]].concat();
     let long = long_recipients();
+    let longest = recipient_of(LONG_NAME.as_bytes(), 628, 1_024);
+    let one_long = [open(End::Plugin, RECIPIENT, LONG_NAME)];
     let [msg, confirm] = asking().map(|(arguments, body)| Call::Send(arguments, body));
     let send = |arguments: &str, body: &[u8]| [Call::Send(arguments.to_owned(), body.to_vec())];
     let response = received("ok", b"");
@@ -142,6 +146,11 @@ fn plugin_rows() -> Vec<Row> {
             times: 1,
             aim: Some(Aim::BelowSecond),
             ..Row::new("receive 64 recipients, 64 file keys and done", &one, &whole).beside_plain_c()
+        },
+        Row {
+            times: 1,
+            aim: Some(Aim::TimesPlainC(2.0)),
+            ..Row::new("receive 64 recipients of 1,024 characters", &one_long, &many(&longest)).beside_plain_c()
         },
         Row { times: 1, ..Row::new("receive 64,000 bytes of long recipients in one chunk", &one, &[long.clone()]) },
         Row {
@@ -201,10 +210,18 @@ fn received(arguments: &str, body: &[u8]) -> Call {
 
 /// 62 recipients of 1,010 characters, one behind the other.
 fn long_recipients() -> Call {
-    let recipient = written(|out| bech32::write(Kind::Recipient, NAME.as_bytes(), &bytes(620), out).ok());
+    match recipient_of(NAME.as_bytes(), 620, 1_010) {
+        Call::Chunk(text) => Call::Chunk(text.repeat(62)),
+        _ => panic!("a chunk"),
+    }
+}
+
+/// A recipient of a name, with a payload of so many bytes and so many characters.
+fn recipient_of(name: &[u8], payload_len: usize, text_len: usize) -> Call {
+    let recipient = written(|out| bech32::write(Kind::Recipient, name, &bytes(payload_len), out).ok());
     let recipient = String::from_utf8(recipient).expect("Bech32 is ASCII");
-    assert_eq!(recipient.len(), 1_010);
-    Call::Chunk(text(&format!("add-recipient {recipient}"), b"").repeat(62))
+    assert_eq!(recipient.len(), text_len);
+    received(&format!("add-recipient {recipient}"), b"")
 }
 
 /// A chunk for each byte of a chunk.

@@ -41,10 +41,12 @@ pub fn report() {
         let library = library(row);
         let second = within(Within::Second, number, row);
         print!("{:<58} {:>5} {library:>8.0} {second:>8.0} {:>6.2}", row.name, row.times, library / second);
+        let mut plain_c = None;
         if row.plain {
             assert_eq!(Within::PlainC.make(&row.calls), Within::Second.make(&row.calls), "{}", row.name);
             let plain = within(Within::PlainC, number, row);
             print!(" {plain:>8.0} {:>6.2}", library / plain);
+            plain_c = Some(plain);
         } else {
             print!(" {:>8} {:>6}", "", "");
         }
@@ -55,6 +57,10 @@ pub fn report() {
             Some(Aim::TimesBefore(most)) => {
                 let times = library / row_before;
                 println!("  {times:.1} times the row before, aim: at most {most}, {}", said(times <= most));
+            }
+            Some(Aim::TimesPlainC(most)) => {
+                let times = library / plain_c.expect("plain C has these calls");
+                println!("  aim: at most {most} times plain C, {}", said(times <= most));
             }
             None => println!(),
         }

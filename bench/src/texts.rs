@@ -1,5 +1,5 @@
 //! The texts that are measured: a header stanza as a client sends it, with a body as X25519 has it and with one of 4 KiB; a recipient and
-//! an identity, with a payload as a compressed public key has it, 33 bytes, and with one of 600.
+//! an identity, with a payload as a compressed public key has it, 33 bytes, with one of 600, and as long as they may be.
 
 use crate::work::{Task, STANZA_TASKS};
 use reference::bech32::{self, Kind};
@@ -11,6 +11,9 @@ pub const ARGUMENTS: &[u8] = b"recipient-stanza 0 X25519 TEiF0ypqr+bpvcqXNyCVJpL
 /// The name of the plugin in the recipients and identities.
 pub const NAME: &[u8] = b"yubikey";
 
+/// A name with which a recipient and an identity can have 1,024 characters.
+pub const LONG_NAME: &str = "inter-op";
+
 /// The longest text of a stanza; a recipient or an identity is shorter.
 pub const LIMIT: usize = stanza::LIMIT;
 
@@ -19,20 +22,24 @@ pub struct Measured {
     pub name: &'static str,
     /// The body of the stanza, or the payload.
     pub content: Vec<u8>,
+    /// The plugin of a recipient or an identity.
+    pub plugin: &'static [u8],
     pub text: Vec<u8>,
     /// What is measured on it.
     pub tasks: Vec<Task>,
 }
 
-/// The stanzas have 117 and 5,621 bytes, the recipients 71 and 978, the identities 79 and 986.
+/// The stanzas have 117 and 5,621 bytes, the recipients 71, 978 and 1,024, the identities 79, 986 and 1,024.
 pub fn measured() -> Vec<Measured> {
     vec![
         a_stanza("small", 32, 117),
         a_stanza("4k", 4_096, 5_621),
-        bech32_text("recipient-33", Kind::Recipient, 33, 71),
-        bech32_text("recipient-600", Kind::Recipient, 600, 978),
-        bech32_text("identity-33", Kind::Identity, 33, 79),
-        bech32_text("identity-600", Kind::Identity, 600, 986),
+        bech32_text("recipient-33", Kind::Recipient, NAME, 33, 71),
+        bech32_text("recipient-600", Kind::Recipient, NAME, 600, 978),
+        bech32_text("recipient-628", Kind::Recipient, LONG_NAME.as_bytes(), 628, 1_024),
+        bech32_text("identity-33", Kind::Identity, NAME, 33, 79),
+        bech32_text("identity-600", Kind::Identity, NAME, 600, 986),
+        bech32_text("identity-623", Kind::Identity, LONG_NAME.as_bytes(), 623, 1_024),
     ]
 }
 
@@ -40,14 +47,20 @@ fn a_stanza(name: &'static str, body_len: usize, text_len: usize) -> Measured {
     let content = bytes(body_len);
     let text = written(|out| stanza::write(ARGUMENTS, &content, out).ok());
     assert_eq!(text.len(), text_len);
-    Measured { name, content, text, tasks: STANZA_TASKS.to_vec() }
+    Measured { name, content, plugin: b"", text, tasks: STANZA_TASKS.to_vec() }
 }
 
-fn bech32_text(name: &'static str, kind: Kind, payload_len: usize, text_len: usize) -> Measured {
+fn bech32_text(
+    name: &'static str,
+    kind: Kind,
+    plugin: &'static [u8],
+    payload_len: usize,
+    text_len: usize,
+) -> Measured {
     let content = bytes(payload_len);
-    let text = written(|out| bech32::write(kind, NAME, &content, out).ok());
+    let text = written(|out| bech32::write(kind, plugin, &content, out).ok());
     assert_eq!(text.len(), text_len);
-    Measured { name, content, text, tasks: vec![Task::ReadText(kind), Task::WriteText(kind)] }
+    Measured { name, content, plugin, text, tasks: vec![Task::ReadText(kind), Task::WriteText(kind)] }
 }
 
 /// The text that the second program writes.

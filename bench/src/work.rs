@@ -1,7 +1,8 @@
 //! What is measured, each as a loop of so many calls. The output buffer is made once, and no call clears it.
 
 use crate::library::{self, Name, Parts};
-use crate::texts::{Measured, ARGUMENTS, LIMIT, NAME};
+use crate::plain;
+use crate::texts::{Measured, ARGUMENTS, LIMIT};
 use reference::bech32::{self, Kind};
 use reference::stanza;
 use std::hint::black_box;
@@ -10,8 +11,11 @@ use std::hint::black_box;
 pub enum Program {
     Library,
     Reference,
+    /// Recipients and identities alone.
+    PlainC,
 }
 
+/// The two that do every task.
 pub const PROGRAMS: [Program; 2] = [Program::Library, Program::Reference];
 
 #[derive(Clone, Copy, Debug, PartialEq, Eq)]
@@ -37,6 +41,11 @@ impl Task {
             Task::Write | Task::WriteText(_) => "write",
         }
     }
+
+    /// Whether plain C does it.
+    pub fn is_in_plain_c(self) -> bool {
+        matches!(self, Task::ReadText(_) | Task::WriteText(_))
+    }
 }
 
 /// Does the task so many times.
@@ -44,6 +53,7 @@ pub fn repeat(program: Program, task: Task, on: &Measured, times: usize) {
     match program {
         Program::Library => repeat_library(task, on, times),
         Program::Reference => repeat_reference(task, on, times),
+        Program::PlainC => repeat_plain_c(task, on, times),
     }
 }
 
@@ -89,7 +99,7 @@ fn repeat_library(task: Task, on: &Measured, times: usize) {
         }
         Task::WriteText(kind) => {
             for _ in 0..times {
-                let (name, payload) = black_box((NAME, &on.content));
+                let (name, payload) = black_box((on.plugin, &on.content));
                 black_box(library::write_text(kind, name, payload, out, &mut length));
                 black_box(&mut *out);
             }
@@ -134,10 +144,32 @@ fn repeat_reference(task: Task, on: &Measured, times: usize) {
         }
         Task::WriteText(kind) => {
             for _ in 0..times {
-                let (name, payload) = black_box((NAME, &on.content));
+                let (name, payload) = black_box((on.plugin, &on.content));
                 let _ = black_box(bech32::write(kind, name, payload, out));
                 black_box(&mut *out);
             }
         }
+    }
+}
+
+fn repeat_plain_c(task: Task, on: &Measured, times: usize) {
+    plain::make_tables();
+    let out = &mut [0; LIMIT];
+    let mut name = Name { bytes: [0; 32], length: 0 };
+    match task {
+        Task::ReadText(kind) => {
+            for _ in 0..times {
+                black_box(plain::read_text(kind, black_box(&on.text), &mut name, out));
+                black_box((&mut name, &mut *out));
+            }
+        }
+        Task::WriteText(kind) => {
+            for _ in 0..times {
+                let (name, payload) = black_box((on.plugin, &on.content));
+                black_box(plain::write_text(kind, name, payload, out));
+                black_box(&mut *out);
+            }
+        }
+        _ => panic!("plain C does not do that"),
     }
 }

@@ -7,10 +7,18 @@ use mathlib.Core.List.{List}
 use lib.Dec.{ltb, eqb}
 use lib.ListN.{getD}
 use Rattle.symbols.specs.Calls.{valueAt}
+use Rattle.symbols.specs.Checksum.{constants, folded}
 
 -- the value of each byte
 abbrev pub Values : List ℕ → Type 0
 Values t = (b : ℕ) → b < 256 → getD t b 0 ≡ valueAt b
+
+-- what a number of five bits folds in: the exclusive or of the constants that its bits choose, the lowest first
+abbrev pub chosen : ℕ → ℕ
+chosen n = folded 0 constants n
+
+abbrev pub Folds : List ℕ → Type 0
+Folds t = (n : ℕ) → n < 32 → getD t n 0 ≡ chosen n
 
 -- the value of a byte by a table, and its symbol
 abbrev pub valueIn : List ℕ → ℕ → ℕ

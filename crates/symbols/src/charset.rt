@@ -1,18 +1,54 @@
 // The constants of Bech32, those of the checksum and the alphabet; values of characters, and letters by case.
 ghost use mathlib.Core.Path.{_≡_};
 ghost use Rattle.symbols.specs.Charset.{isUpper, isLower, lower};
-ghost use Rattle.symbols.specs.Steps.{Values, valueIn};
+ghost use Rattle.symbols.specs.Steps.{Values, Folds, valueIn};
 
-// What the five top bits of the checksum's state fold in.
-pub(crate) const CONSTANTS: [u32; 5] = [0x3b6a57b2, 0x26508e6d, 0x1ea119fa, 0x3d4233dd, 0x2a1462b3];
+// What the five top bits of the checksum's state fold in, the lowest bit first.
+const CONSTANTS: [u32; 5] = [0x3b6a57b2, 0x26508e6d, 0x1ea119fa, 0x3d4233dd, 0x2a1462b3];
+
+// What each number of five bits folds in: the exclusive or of the constants that its bits choose.
+const FOLDS: [u32; 32] = [
+    0,
+    CONSTANTS[0],
+    CONSTANTS[1],
+    CONSTANTS[0] ^ CONSTANTS[1],
+    CONSTANTS[2],
+    CONSTANTS[0] ^ CONSTANTS[2],
+    CONSTANTS[1] ^ CONSTANTS[2],
+    CONSTANTS[0] ^ CONSTANTS[1] ^ CONSTANTS[2],
+    CONSTANTS[3],
+    CONSTANTS[0] ^ CONSTANTS[3],
+    CONSTANTS[1] ^ CONSTANTS[3],
+    CONSTANTS[0] ^ CONSTANTS[1] ^ CONSTANTS[3],
+    CONSTANTS[2] ^ CONSTANTS[3],
+    CONSTANTS[0] ^ CONSTANTS[2] ^ CONSTANTS[3],
+    CONSTANTS[1] ^ CONSTANTS[2] ^ CONSTANTS[3],
+    CONSTANTS[0] ^ CONSTANTS[1] ^ CONSTANTS[2] ^ CONSTANTS[3],
+    CONSTANTS[4],
+    CONSTANTS[0] ^ CONSTANTS[4],
+    CONSTANTS[1] ^ CONSTANTS[4],
+    CONSTANTS[0] ^ CONSTANTS[1] ^ CONSTANTS[4],
+    CONSTANTS[2] ^ CONSTANTS[4],
+    CONSTANTS[0] ^ CONSTANTS[2] ^ CONSTANTS[4],
+    CONSTANTS[1] ^ CONSTANTS[2] ^ CONSTANTS[4],
+    CONSTANTS[0] ^ CONSTANTS[1] ^ CONSTANTS[2] ^ CONSTANTS[4],
+    CONSTANTS[3] ^ CONSTANTS[4],
+    CONSTANTS[0] ^ CONSTANTS[3] ^ CONSTANTS[4],
+    CONSTANTS[1] ^ CONSTANTS[3] ^ CONSTANTS[4],
+    CONSTANTS[0] ^ CONSTANTS[1] ^ CONSTANTS[3] ^ CONSTANTS[4],
+    CONSTANTS[2] ^ CONSTANTS[3] ^ CONSTANTS[4],
+    CONSTANTS[0] ^ CONSTANTS[2] ^ CONSTANTS[3] ^ CONSTANTS[4],
+    CONSTANTS[1] ^ CONSTANTS[2] ^ CONSTANTS[3] ^ CONSTANTS[4],
+    CONSTANTS[0] ^ CONSTANTS[1] ^ CONSTANTS[2] ^ CONSTANTS[3] ^ CONSTANTS[4],
+];
 
 // The character of each value, in lower and in upper case.
 pub const ALPHABET: [u8; 32] = *b"qpzry9x8gf2tvdw0s3jn54khce6mua7l";
 
 pub const CAPITALS: [u8; 32] = *b"QPZRY9X8GF2TVDW0S3JN54KHCE6MUA7L";
 
-// The largest value.
-pub(crate) const LAST_SYMBOL: u8 = 31;
+// How many symbols there are: a value of so much is none.
+pub(crate) const SYMBOLS: u8 = 32;
 
 // How far a letter in lower case stands over its capital.
 pub const CASE: u8 = b'a' - b'A';
@@ -282,6 +318,13 @@ pub fn values() -> [u8; 256]
     ensures { λ r. ⌜ Values r ⌝ }
 {
     VALUES
+}
+
+// The table of folds by value: a pass over symbols copies it once and lends it to each step.
+pub(crate) fn folds() -> [u32; 32]
+    ensures { λ r. ⌜ Folds r ⌝ }
+{
+    FOLDS
 }
 
 fn wide(b: u8) -> usize

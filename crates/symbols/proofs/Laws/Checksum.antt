@@ -3,16 +3,16 @@ use Prim.Native.Nat.{ℕ, zero, suc, _+_, _*_, _/_, _%_, _<_, _≤_}
 use mathlib.Core.Path.{_≡_, refl, sym, ap, ap₂, _∙_}
 use mathlib.Core.Bool.{true}
 use mathlib.Core.List.{List, [], _∷_, _++_}
-use lib.Bits.{bitXor, differ, xor-zero-l, xor-zero-r, xor-self, xor-shr, xor-mod, xor-block, xor-shifted, xor-lt}
+use lib.Bits.{bitXor, differ, xor-zero-l, xor-zero-r, xor-self, xor-comm, xor-shr, xor-mod, xor-block, xor-shifted, xor-lt}
 use lib.Dec.{eqb, ltb}
-use lib.ListN.{length, drop, getD, drop-of-length-le}
+use lib.ListN.{length, getD}
 use native.Mathlib.Nat.{add-zero, div-div-eq-div-mul}
 use native.Mathlib.Omega.{arith}
 use borrow.Author.Tests.{ltb-true, lt-ltb}
 use Rattle.refusal.specs.Run.{all}
 use Rattle.refusal.proofs.Laws.Booleans.{and-true, cases}
-use Rattle.refusal.proofs.Laws.Lists.{drop-one}
 use Rattle.symbols.specs.Checksum.{areSymbols, constants, taken, folded, stepped, polymod, sixSymbols, checksum}
+use Rattle.symbols.specs.Steps.{Folds}
 use Rattle.symbols.proofs.Laws.Xor.{xor-assoc, xor-exchange, xor-right-comm, xor-cancel, xor-half, xor-odd}
 
 -- ---- one step
@@ -71,14 +71,30 @@ step-small x v hx hv =
     let d : x / 33554432 ≡ 0 = omega arith in
     rw (m, d, folded-zero constants (bitXor (x * 32) v)) (xor-shifted x 5 v hv)
 
--- one constant on, in a loop over them
-pub folded-at : (gs : List ℕ) (i c bits : ℕ) → i < length gs → folded c (drop i gs) bits ≡ folded (bitXor c (taken (bits % 2) (getD gs i 0))) (drop (i + 1) gs) (bits / 2)
+-- the five low bits choose
+chosen-low : (a n : ℕ) → folded a constants (n % 32) ≡ folded a constants n
 unfolding folded
-folded-at gs i c bits h = rw (drop-one gs i 0 h)
+chosen-low a n =
+    let d1 : n % 32 % 2 ≡ n % 2 = omega arith in
+    let h1 : n % 32 / 2 ≡ n / 2 % 16 = omega (arith, div-div-eq-div-mul n 2 16) in
+    let d2 : n / 2 % 16 % 2 ≡ n / 2 % 2 = omega arith in
+    let h2 : n / 2 % 16 / 2 ≡ n / 2 / 2 % 8 = omega (arith, div-div-eq-div-mul (n / 2) 2 8) in
+    let d3 : n / 2 / 2 % 8 % 2 ≡ n / 2 / 2 % 2 = omega arith in
+    let h3 : n / 2 / 2 % 8 / 2 ≡ n / 2 / 2 / 2 % 4 = omega (arith, div-div-eq-div-mul (n / 2 / 2) 2 4) in
+    let d4 : n / 2 / 2 / 2 % 4 % 2 ≡ n / 2 / 2 / 2 % 2 = omega arith in
+    let h4 : n / 2 / 2 / 2 % 4 / 2 ≡ n / 2 / 2 / 2 / 2 % 2 = omega (arith, div-div-eq-div-mul (n / 2 / 2 / 2) 2 2) in
+    let d5 : n / 2 / 2 / 2 / 2 % 2 % 2 ≡ n / 2 / 2 / 2 / 2 % 2 = omega arith in
+    rw (d1, h1, d2, h2, d3, h3, d4, h4, d5)
 
-pub folded-end : (gs : List ℕ) (i c bits : ℕ) → length gs ≤ i → folded c (drop i gs) bits ≡ c
-unfolding folded
-folded-end gs i c bits h = rw (drop-of-length-le gs h)
+-- the step by the table of folds is the step by the constants, for every state and value
+pub step-table : (t : List ℕ) → Folds t → (c v : ℕ) → bitXor (bitXor (c % 33554432 * 32) v) (getD t (c / 33554432 % 32) 0) ≡ stepped c v
+unfolding stepped
+step-table t f c v =
+    let a : ℕ = bitXor (c % 33554432 * 32) v in
+    ap (bitXor a) (f (c / 33554432 % 32) (omega arith) ∙ chosen-low 0 (c / 33554432))
+    ∙ xor-comm a (folded 0 constants (c / 33554432))
+    ∙ sym (folded-xor constants 0 a (c / 33554432))
+    ∙ ap (λ x. folded x constants (c / 33554432)) (xor-zero-l a)
 
 -- ---- six symbols
 

@@ -14,11 +14,11 @@ use Rattle.symbols.proofs.checksum.fold_low.Statement.{statement}
 use Rattle.symbols.proofs.checksum.fold_low.Tie as tie
 
 abbrev Inv-loop : tie.InvT-loop
-Inv-loop human from state₀ i₀ state i =
+Inv-loop folds human from state₀ i₀ state i =
     (i ≤ length human) × (polymod from (map (λ b. lower b % 32) human) ≡ polymod state (map (λ b. lower b % 32) (drop i human)))
 
 abbrev μ-loop : tie.MeasureT-loop
-μ-loop human from state₀ i₀ state i = length human - i
+μ-loop folds human from state₀ i₀ state i = length human - i
 
 loop-holds : tie.Need-loop-holds Inv-loop μ-loop
 loop-holds c = (search needs, refl)
@@ -30,7 +30,7 @@ wide-requires : tie.Need-wide-requires Inv-loop μ-loop
 wide-requires c κs = search needs
 
 step-requires : tie.Need-step-requires Inv-loop μ-loop
-step-requires c κs = search needs
+step-requires c κs = c .before .before .before .before .before .pre
 
 add-i : tie.Need-add-i Inv-loop μ-loop
 add-i c = search needs

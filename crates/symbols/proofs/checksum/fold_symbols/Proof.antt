@@ -13,11 +13,14 @@ use Rattle.symbols.proofs.checksum.fold_symbols.Statement.{statement}
 use Rattle.symbols.proofs.checksum.fold_symbols.Tie as tie
 
 abbrev Inv-loop : tie.InvT-loop
-Inv-loop symbols from state₀ i₀ state i =
+Inv-loop symbols from folds state₀ i₀ state i =
     (i ≤ length symbols) × (polymod from (map (λ b. b) symbols) ≡ polymod state (map (λ b. b) (drop i symbols)))
 
 abbrev μ-loop : tie.MeasureT-loop
-μ-loop symbols from state₀ i₀ state i = length symbols - i
+μ-loop symbols from folds state₀ i₀ state i = length symbols - i
+
+folds-requires : tie.Need-folds-requires Inv-loop μ-loop
+folds-requires c κs = search needs
 
 loop-holds : tie.Need-loop-holds Inv-loop μ-loop
 loop-holds c = (search needs, refl)
@@ -29,7 +32,7 @@ wide-requires : tie.Need-wide-requires Inv-loop μ-loop
 wide-requires c κs = search needs
 
 step-requires : tie.Need-step-requires Inv-loop μ-loop
-step-requires c κs = search needs
+step-requires c κs = c .before .before .before .before .before .folds .ensures
 
 add-i : tie.Need-add-i Inv-loop μ-loop
 add-i c = search needs
@@ -38,10 +41,10 @@ loop-less : tie.Need-loop-less Inv-loop μ-loop
 loop-less c = search needs
 
 loop-again : tie.Need-loop-again Inv-loop μ-loop
-loop-again c = (search needs, rw (c .step .ensures, c .before .wide .ensures) (c .before .before .before .before .loop .inv .1 ∙ polymod-at (λ b. b) (now (c .before .before .before .before .before .before .args .symbols)) (c .before .before .before .before .loop .i) (c .before .before .before .before .loop .state) (omega arith)))
+loop-again c = (search needs, rw (c .step .ensures, c .before .wide .ensures) (c .before .before .before .before .before .loop .inv .1 ∙ polymod-at (λ b. b) (now (c .before .before .before .before .before .before .before .before .args .symbols)) (c .before .before .before .before .before .loop .i) (c .before .before .before .before .before .loop .state) (omega arith)))
 
 returns : tie.Need-returns Inv-loop μ-loop
-returns c = sym (ap (polymod (c .before .before .before .args .from)) (sym (map-id (now (c .before .before .before .args .symbols)))) ∙ c .before .loop .inv .1 ∙ polymod-end (λ b. b) (now (c .before .before .before .args .symbols)) (c .before .loop .i) (c .before .loop .state) (omega arith))
+returns c = sym (ap (polymod (c .before .before .before .before .args .from)) (sym (map-id (now (c .before .before .before .before .args .symbols)))) ∙ c .before .loop .inv .1 ∙ polymod-end (λ b. b) (now (c .before .before .before .before .args .symbols)) (c .before .loop .i) (c .before .loop .state) (omega arith))
 
 pub fold-symbols-spec : {M : Type 1} → statement M
 fold-symbols-spec =
@@ -49,6 +52,7 @@ fold-symbols-spec =
     (tie.spec
     Inv-loop
     μ-loop
+    folds-requires
     loop-holds
     shared-slice-read-wide
     wide-requires
