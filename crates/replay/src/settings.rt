@@ -16,6 +16,7 @@ use script::EndChoice;
 use script::Number;
 use script::ScreenChoice;
 use session::Opening;
+use session::Screen;
 use session::Session;
 
 // What such a line comes to, and how many bytes each buffer keeps; zeros stand behind them.
@@ -130,8 +131,8 @@ fn open_client(text: &[u8], w: Words, given: Lengths, host: Host) -> Setting {
     let name = word(text, w, 3);
     let screen = script::choose_screen(word(text, w, 4));
     let opening = match screen {
-        ScreenChoice::Shown => Session::open_with(machine, name, true),
-        ScreenChoice::Missing => Session::open_with(machine, name, false),
+        ScreenChoice::Shown => Session::open_with(machine, name, Screen::Shown),
+        ScreenChoice::Missing => Session::open_with(machine, name, Screen::Absent),
         ScreenChoice::Default => Session::open(machine, name),
         ScreenChoice::Other => {
             return unchanged(Answer::Bad, host);
