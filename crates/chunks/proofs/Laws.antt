@@ -28,3 +28,4 @@ pub mod Texts
 pub mod Rooms
 pub mod Bounds
 pub mod PhaseOne
+pub mod Screens

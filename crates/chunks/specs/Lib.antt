@@ -8,3 +8,4 @@ pub mod Reached
 pub mod Orders
 pub mod AnyCalls
 pub mod Sent
+pub mod Screens

@@ -10,7 +10,7 @@ use lib.ListN.{length, take}
 use Rattle.refusal.specs.Pick.{pick}
 use Rattle.stanza.specs.Automaton.{start}
 use Rattle.responses.specs.declared.Response.{Response}
-use Rattle.session.specs.Phases.{closes}
+use Rattle.session.specs.Phases.{closes, isDue}
 use Rattle.session.specs.Session.{Session, closed}
 use Rattle.session.specs.declared.phases.Phase.{Phase}
 use Rattle.session.specs.declared.phases.Phase.the-variants.{One, Two, Awaiting, Ended, Closed}
@@ -128,11 +128,7 @@ isOver Closed = true
 
 -- its host's reply is due
 abbrev pub isWaiting : End → Phase → Bool
-isWaiting client One = false
-isWaiting client Two = false
-isWaiting client (Awaiting w) = true
-isWaiting client Ended = false
-isWaiting client Closed = false
+isWaiting client p = isDue p
 isWaiting plugin p = false
 
 -- a reply that was not taken: No. 12 or 17, the command waits on. One that was taken has written its response

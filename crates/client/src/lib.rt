@@ -28,6 +28,7 @@ pub use refusal::number;
 pub use responses::Response;
 pub use session::Opening;
 pub use session::Phase;
+pub use session::Screen;
 pub use session::Session;
 pub use session::WordTwo;
 pub use session::front;

@@ -4,6 +4,7 @@ mod print;
 
 use client::Received;
 use client::Response;
+use client::Screen;
 use client::Session;
 use client::WordOne;
 use print::print;
@@ -15,7 +16,7 @@ use print::print_written;
 const STORE: usize = 256;
 
 fn main() {
-    let opening = Session::open(b"recipient-v1", b"interop");
+    let opening = Session::open_with(b"recipient-v1", b"interop", Screen::Shown);
     let verdict = opening.verdict;
     print_verdict(b"open: ", verdict);
     let mut slots = Session::open_slots();

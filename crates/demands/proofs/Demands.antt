@@ -30,6 +30,7 @@ use Rattle.bech32.specs.declared.TextKind.{TextKind}
 use Rattle.bech32.specs.declared.TextKind.the-variants.{Recipient, Identity}
 use Rattle.responses.specs.Responses.{response, responseOf, responseLine}
 use Rattle.responses.specs.declared.Response.{Response}
+use Rattle.responses.specs.declared.Response.the-variants.{Fail}
 use Rattle.session.specs.declared.words.WordTwo.{WordTwo}
 use Rattle.session.specs.declared.words.WordTwo.the-variants.{Other}
 use Rattle.tables.specs.Tables.{Row, view, found, shown, Looked}
@@ -46,7 +47,7 @@ use Rattle.conversation.specs.Agreement.{Alike, Agreed, SameViews}
 use Rattle.conversation.specs.Allowed.{Allowed, AllowedTwo, Exchange, isDoneSent, sendingCalls, AllowedSent, leftOf, capacityOf}
 use Rattle.conversation.specs.Answers.{events, Paired}
 use Rattle.conversation.specs.Calls.{Call, receive, send, receive-two, reply, send-two, isClient, outcome, writtenBy, State, stateOf, after, broughtBy, rowsBrought, acceptedRows, AllZero, Accepted, Refused}
-use Rattle.conversation.specs.CommandsTwo.{lineSent, commandTwo, wordTwo, textOfWord}
+use Rattle.conversation.specs.CommandsTwo.{ask, lineSent, commandTwo, wordTwo, textOfWord}
 use Rattle.conversation.specs.Given.{GivenBack}
 use Rattle.conversation.specs.Kinds.{AnyKind, Buffers, tableOf, viewOf, ofFile}
 use Rattle.conversation.specs.Numbers.{Condition, orderOf, FirstOf, bufferFor}
@@ -62,7 +63,7 @@ use Rattle.conversation.specs.TurnsTwo.{turnTwo}
 use Rattle.conversation.specs.SentOne as sent-one
 use Rattle.session.specs.Opening.{OpenedWith}
 use Rattle.session.specs.Tables.{Tables}
-use Rattle.session.specs.Session.{Session, openedSession, moved, opened}
+use Rattle.session.specs.Session.{Session, openedSession, moved, opened, openedUntold}
 use Rattle.look_up.specs.ErrorNames.{namesIn, nameAt}
 use Rattle.look_up.specs.LookUp.{entryText, errorNamed, messageOf, stanzaOf, keyOf, LookedOf, Told}
 use Rattle.conversation.specs.WrittenRead.{OneReadsBack, TwoReadsBack, ResponseReadsBack, ReceivedAgain}
@@ -77,6 +78,7 @@ use Rattle.chunks.specs.Calls as chunk-calls
 use Rattle.chunks.specs.Calls.{callsFor, lastFrom, AsCalls}
 use Rattle.chunks.specs.Reached.{AnyCall, sends-one, Has, intakeAfter, AnyWith, intakeAfterAll, Bounded, isIdle}
 use Rattle.chunks.specs.Orders.{uncutCalls, amples, IsCut, endOf, OneByOne, AllTaken, SameCuts}
+use Rattle.chunks.specs.Screens.{answerTo, AnsweredAtOnce, NothingWaits}
 use Rattle.chunks.specs.AnyCalls.{afterAny, numbersAny, InTurn, callsAll, ComesTo}
 use Rattle.chunks.specs.Sent.{sentAny, OfBytes, textSent, stanzasSent, textsSent}
 use Rattle.refusal.proofs.Laws.Output as outputs
@@ -119,6 +121,7 @@ use Rattle.chunks.proofs.Laws.Last as last-taken
 use Rattle.chunks.proofs.Laws.Orders as orders-of-cuts
 use Rattle.chunks.proofs.Laws.Prefix as prefixes
 use Rattle.chunks.proofs.Laws.Reached as reaching
+use Rattle.chunks.proofs.Laws.Screens as screens
 use Rattle.chunks.proofs.Laws.Sent as sending-over
 use Rattle.chunks.proofs.Laws.Short as too-short
 use Rattle.chunks.proofs.Laws.Together as chunks-together
@@ -515,6 +518,24 @@ demand-2-word-two = words-two.word-text
 
 pub demand-2-response : (line : List ℕ) (r : Response) → (responseOf line ≡ response r) ↔ (line ≡ responseLine r)
 demand-2-response line r = (response-texts.line-read line r, λ e. ap responseOf e ∙ response-texts.read-line r)
+
+-- ---- Without a screen (document 02, No. 5: "A client session now opens without a screen, so msg, confirm and both requests are answered fail at once")
+
+-- an opening that is not told is one without a screen
+pub screen-untold : (machine name : List ℕ) → openedUntold machine name ≡ opened machine name false
+screen-untold = openings.untold
+
+-- without one each msg, confirm and request that is accepted is answered fail
+pub screen-fail : (machine : Machine) (t : List ℕ) (w : WordTwo) → commandIn machine t ≡ ask w → answerTo machine false t ≡ stanzaText (responseLine Fail) []
+screen-fail = screens.fail-at-once
+
+-- .. in the same call: what a chunk writes are the answers to the stanzas that it took, one behind the other
+pub screen-at-once : (i : Intake) (b : Buffers) (bytes out : List ℕ) → AnsweredAtOnce i b bytes (chunked client i b bytes out)
+screen-at-once = screens.answered-at-once
+
+-- .. and nothing waits, behind any calls from an opening without a screen, refused ones included, each lent buffers of its own
+pub screen-nothing-waits : (machine name : List ℕ) (before : List (AnyWith client)) → NothingWaits (kept client machine name false before)
+screen-nothing-waits = screens.nothing-waits
 
 -- ---- Input in chunks: "However a conversation is cut .. responses, tables and the closing number are those of the uncut one"
 

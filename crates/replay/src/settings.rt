@@ -13,6 +13,7 @@ use replay_lines::lengths_of;
 use replay_lines::word;
 use script::ScreenChoice;
 use session::Opening;
+use session::Screen;
 use session::Session;
 
 // What such a line comes to, and how many bytes each buffer keeps; zeros stand behind them.
@@ -69,8 +70,8 @@ fn set_host(setting: Setting, given: Lengths, text: &[u8], w: Words, host: Host)
 // The client end is told of a screen, or left to its default.
 fn open_client(machine: &[u8], name: &[u8], screen: ScreenChoice) -> Opening {
     match screen {
-        ScreenChoice::Shown => Session::open_with(machine, name, true),
-        ScreenChoice::Missing => Session::open_with(machine, name, false),
+        ScreenChoice::Shown => Session::open_with(machine, name, Screen::Shown),
+        ScreenChoice::Missing => Session::open_with(machine, name, Screen::Absent),
         _ => Session::open(machine, name),
     }
 }

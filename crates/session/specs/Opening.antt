@@ -1,7 +1,7 @@
 -- Openings: the machine by its name, byte for byte, and the plugin's name (document 01, "Numbers given back": 18, "neither machine's name", then 17).
 use Prim.Native.Nat.{ℕ}
 use mathlib.Core.Path.{_≡_}
-use mathlib.Core.Bool.{true, false}
+use mathlib.Core.Bool.{Bool, true, false}
 use mathlib.Core.List.{List, [], _∷_}
 use mathlib.Core.Logic.{_⊎_, _↔_}
 use Rattle.refusal.specs.Pick.{pick}
@@ -14,6 +14,8 @@ use Rattle.refusal.specs.Verdict.{verdictSaid}
 use Rattle.session.specs.declared.opening.Settings.{Settings as CodeSettings}
 use Rattle.session.specs.declared.opening.Machine.{Machine}
 use Rattle.session.specs.declared.opening.Machine.the-variants.{RecipientV1, IdentityV1}
+use Rattle.session.specs.declared.opening.Screen.{Screen}
+use Rattle.session.specs.declared.opening.Screen.the-variants.{Shown, Absent}
 use Rattle.session.specs.declared.opening.MachineFound.{MachineFound as CodeFound}
 use Rattle.session.specs.declared.opening.MachineFound.the-variants as the
 
@@ -40,6 +42,11 @@ abbrev pub machineNamed : List ℕ → MachineFound
 machineNamed t = pick (same t recipientV1) (named RecipientV1) (pick (same t identityV1) (named IdentityV1) nameless)
 
 -- ---- what an opening is given
+
+-- there is a screen
+abbrev pub isShown : Screen → Bool
+isShown Shown = true
+isShown Absent = false
 
 -- the name that the code's value holds
 abbrev pub nameOf : Name → List ℕ

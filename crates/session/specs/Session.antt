@@ -1,6 +1,6 @@
 -- A session of either end, and its opening (document 01, "Phase one": "Both ends open with a machine's and a plugin's name"; "Numbers given back": 18, then 17).
 use Prim.Native.Nat.{ℕ}
-use mathlib.Core.Bool.{Bool}
+use mathlib.Core.Bool.{Bool, false}
 use mathlib.Core.List.{List}
 use Rattle.bech32.specs.declared.human.Name.{Name}
 use Rattle.refusal.specs.Verdict.{verdictSaid}
@@ -68,6 +68,14 @@ opened machine name screen =
       number = given .number;
       session = record { machine = given .machine; name = given .name; screen = screen; phase = phaseOpened (given .number); tables = openedTables };
     }
+
+-- "A client session now opens without a screen" (document 02, No. 5), unless it is told otherwise
+abbrev pub defaultScreen : Bool
+defaultScreen = false
+
+-- an opening that is not told
+abbrev pub openedUntold : List ℕ → List ℕ → Opening
+openedUntold machine name = opened machine name defaultScreen
 
 -- the code's opening, with slots that are open
 abbrev pub openingSaid : CodeOpening → Opening

@@ -13,6 +13,7 @@ pub use kinds::Tables;
 pub use kinds::span_of;
 pub use marks::Mark;
 pub use opening::Machine;
+pub use opening::Screen;
 pub use output::Composed;
 pub use output::check_output;
 pub use output::compose;

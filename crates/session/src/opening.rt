@@ -1,6 +1,6 @@
-// The machines, and what an opening is given: a machine and a plugin by their names.
+// The machines, and what an opening is given: a machine and a plugin by their names, and whether there is a screen.
 ghost use mathlib.Core.Path.{_≡_};
-ghost use Rattle.session.specs.Opening.{machineNamed, namedSaid, held, settingsSaid, settingsNamed, settings};
+ghost use Rattle.session.specs.Opening.{isShown, machineNamed, namedSaid, held, settingsSaid, settingsNamed, settings};
 use bech32::Name;
 use refusal::Refusal;
 use refusal::Verdict;
@@ -12,6 +12,21 @@ const IDENTITY_V1: [u8; 11] = *b"identity-v1";
 pub enum Machine {
     RecipientV1,
     IdentityV1,
+}
+
+// Whether the client's host can show what the plugin asks.
+pub enum Screen {
+    Shown,
+    Absent,
+}
+
+pub(crate) fn is_shown(screen: Screen) -> bool
+    ensures { λ r. ⌜ r ≡ isShown screen ⌝ }
+{
+    match screen {
+        Screen::Shown => true,
+        Screen::Absent => false,
+    }
 }
 
 // The machine of a name, or none.

@@ -1,11 +1,13 @@
 // The session that an end keeps between calls, and its opening. It goes by value: payloads and entries lie in buffers and slots that each call is lent.
 ghost use mathlib.Core.Path.{_≡_};
-ghost use mathlib.Core.Bool.{true, false};
-ghost use Rattle.session.specs.Opening.{held};
-ghost use Rattle.session.specs.Session.{opened, openingSaid, carriedBy, carriedFirst};
+ghost use mathlib.Core.Bool.{false};
+ghost use Rattle.session.specs.Opening.{held, isShown};
+ghost use Rattle.session.specs.Session.{opened, openedUntold, openingSaid, carriedBy, carriedFirst};
 use crate::kinds::Tables;
 use crate::kinds::open_tables;
 use crate::opening::Machine;
+use crate::opening::Screen;
+use crate::opening::is_shown;
 use crate::opening::read_settings;
 use crate::phases::Phase;
 use crate::phases::phase_opened;
@@ -33,8 +35,8 @@ pub struct Opening {
 }
 
 impl Session {
-    // A client session opens with a screen unless told otherwise.
-    pub const SCREEN: bool = true;
+    // A client session opens without a screen unless told otherwise.
+    pub const SCREEN: Screen = Screen::Absent;
 
     // How many entries each kind has at most.
     pub const RECIPIENTS: usize = 64;
@@ -64,19 +66,20 @@ impl Session {
 
     pub const CLIENT_INPUT: usize = 2 * stanza::LONGEST;
 
-    // A client session in phase one with empty tables.
+    // A client session in phase one with empty tables, and without a screen: msg, confirm and the requests are answered fail at once.
     pub fn open(machine: &[u8], name: &[u8]) -> Opening
-        ensures opening { λ r. ⌜ openingSaid r ≡ opened (now (machine .entry)) (now (name .entry)) true ⌝ }
-        ensures carried { λ r. ⌜ carriedBy (r .session) ≡ carriedFirst (held (opened (now (machine .entry)) (now (name .entry)) true .session .name)) ⌝ }
+        ensures opening { λ r. ⌜ openingSaid r ≡ openedUntold (now (machine .entry)) (now (name .entry)) ⌝ }
+        ensures carried { λ r. ⌜ carriedBy (r .session) ≡ carriedFirst (held (openedUntold (now (machine .entry)) (now (name .entry)) .session .name)) ⌝ }
     {
         Session::open_with(machine, name, Session::SCREEN)
     }
 
-    // The same, told whether there is a screen.
-    pub fn open_with(machine: &[u8], name: &[u8], screen: bool) -> Opening
-        ensures opening { λ r. ⌜ openingSaid r ≡ opened (now (machine .entry)) (now (name .entry)) screen ⌝ }
-        ensures carried { λ r. ⌜ carriedBy (r .session) ≡ carriedFirst (held (opened (now (machine .entry)) (now (name .entry)) screen .session .name)) ⌝ }
+    // The same, told by name whether there is a screen.
+    pub fn open_with(machine: &[u8], name: &[u8], screen: Screen) -> Opening
+        ensures opening { λ r. ⌜ openingSaid r ≡ opened (now (machine .entry)) (now (name .entry)) (isShown screen) ⌝ }
+        ensures carried { λ r. ⌜ carriedBy (r .session) ≡ carriedFirst (held (opened (now (machine .entry)) (now (name .entry)) (isShown screen) .session .name)) ⌝ }
     {
+        let shown = is_shown(screen);
         let given = read_settings(machine, name);
         let verdict = given.verdict;
         let phase = phase_opened(verdict);
@@ -88,7 +91,7 @@ impl Session {
             session: Session {
                 machine: machine,
                 phase: phase,
-                screen: screen,
+                screen: shown,
                 name: name,
                 tables: tables,
                 reading: Place::Start,
@@ -103,7 +106,7 @@ impl Session {
         ensures opening { λ r. ⌜ openingSaid r ≡ opened (now (machine .entry)) (now (name .entry)) false ⌝ }
         ensures carried { λ r. ⌜ carriedBy (r .session) ≡ carriedFirst (held (opened (now (machine .entry)) (now (name .entry)) false .session .name)) ⌝ }
     {
-        Session::open_with(machine, name, false)
+        Session::open_with(machine, name, Screen::Absent)
     }
 
     // The same session in another phase and with other tables.

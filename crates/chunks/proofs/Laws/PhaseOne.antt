@@ -11,7 +11,7 @@ use borrow.Author.Tests.{eqb-false, le-leb}
 use Rattle.refusal.specs.Pick.{pick}
 use Rattle.refusal.proofs.Laws.Booleans.{true-and}
 use Rattle.stanza.specs.Reading.{Reading, stanza, refused, readFirst}
-use Rattle.session.specs.Phases.{closes}
+use Rattle.session.specs.Phases.{closes, isDue}
 use Rattle.session.specs.Session.{Session, moved, closed}
 use Rattle.session.specs.declared.phases.Phase.{Phase}
 use Rattle.session.specs.declared.phases.Phase.the-variants.{One, Two, Awaiting, Ended, Closed}
@@ -24,9 +24,9 @@ use Rattle.conversation.specs.Receiving.{took, Received, received, receivedAs, 
 use Rattle.conversation.proofs.Laws.Refusals.{either}
 use Rattle.conversation.proofs.Laws.Accepted.{text-number}
 use Rattle.chunks.specs.Cutting.{Rest, unfinished, impossible, bytesOf, cut}
-use Rattle.chunks.specs.Taking.{client, plugin, Turn, reads, drops, keeps-back, turnAt, stanzaCall, awaitedBehind, Intake, Taken, noMore, emptied, takenRest, takenAll}
+use Rattle.chunks.specs.Taking.{plugin, Turn, reads, drops, keeps-back, turnAt, stanzaCall, awaitedBehind, Intake, Taken, noMore, emptied, takenRest, takenAll}
 use Rattle.chunks.specs.Chunks.{Outcome, isHeld, taken, chunked}
-use Rattle.chunks.specs.Uncut.{isWaiting, isClosed}
+use Rattle.chunks.specs.Uncut.{isClosed}
 use Rattle.chunks.proofs.Laws.Bounds.{plugin-kept}
 use Rattle.chunks.proofs.Laws.Cases.{drops-not-reads, stanza-cases, chunk-cases, isTurned}
 use Rattle.chunks.proofs.Laws.Numbers.{Faulty, cut-faulty}
@@ -34,7 +34,7 @@ use Rattle.chunks.proofs.Laws.Short.{taken-not-short}
 
 -- no response is due
 abbrev pub NoneDue : Phase → Type 0
-NoneDue p = isWaiting client p ≡ false
+NoneDue p = isDue p ≡ false
 
 -- ---- one command
 

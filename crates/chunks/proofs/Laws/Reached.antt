@@ -21,6 +21,7 @@ use Rattle.session.specs.declared.phases.Phase.{Phase}
 use Rattle.session.specs.declared.phases.Phase.the-variants.{One, Two, Awaiting, Ended, Closed}
 use Rattle.session.specs.Phases.{closes}
 use Rattle.session.specs.Session.{Session, closed, opened}
+use Rattle.session.proofs.Laws.Opening.{opened-undue}
 use Rattle.phase_one.specs.Commands as one-command
 use Rattle.phase_one.specs.Commands.{WordOne}
 use Rattle.phase_one.specs.PhaseOne as one
@@ -216,14 +217,13 @@ calls-keep e i [] k = k
 calls-keep e i (c ∷ cs) k = calls-keep e (intakeAfter e i (c .buffers) (c .call)) cs (call-keeps e i (c .buffers) (c .call) (c .has) k)
 
 -- an opening, accepted or refused
-opened-waits : (e : End) (f : Bool) → isWaiting e (pick f One Closed) ≡ false
-opened-waits client true = refl
-opened-waits client false = refl
-opened-waits plugin f = refl
+opened-waits : (e : End) (machine name : List ℕ) (screen : Bool) → isWaiting e (opened machine name screen .session .phase) ≡ false
+opened-waits client machine name screen = opened-undue machine name screen
+opened-waits plugin machine name screen = refl
 
 pub opened-keeps : (e : End) (machine name : List ℕ) (screen : Bool) → Keeps e (emptied (opened machine name screen .session) [])
 opened-keeps e machine name screen = record {
-  settled = emptied-settled e (opened machine name screen .session) [] (waits-none e (opened machine name screen .session .phase) (opened-waits e (eqb (opened machine name screen .number) 0)));
+  settled = emptied-settled e (opened machine name screen .session) [] (waits-none e (opened machine name screen .session .phase) (opened-waits e machine name screen));
   bound = none-bound;
 }
 

@@ -1,10 +1,10 @@
 -- Openings: a plugin's name by value, by the tests of the code; and exactly when an opening is refused.
 use Prim.Native.Nat.{ℕ, _≤_}
-use mathlib.Core.Path.{_≡_, sym, ap, ap₂, _∙_}
+use mathlib.Core.Path.{_≡_, refl, sym, ap, ap₂, _∙_}
 use mathlib.Core.Bool.{Bool, true, false, _&&_, false≢true}
 use mathlib.Core.Logic.{_⊎_, inl, inr, ⊎-elim}
 use mathlib.Core.List.{List, []}
-use lib.Dec.{leb}
+use lib.Dec.{leb, eqb}
 use lib.ListN.{length, take, replicate}
 use lib.Seq.{take-append-seam}
 use native.Mathlib.Omega.{arith}
@@ -19,9 +19,11 @@ use Rattle.bech32.specs.Calls.{padded, givenName}
 use Rattle.bech32.specs.Text.{isName, isNameByte}
 use Rattle.bech32.specs.declared.human.Name.{Name}
 use Rattle.session.specs.Opening.{held, recipientV1, identityV1, named, nameless, machineNamed, settingsOf, settingsNamed, refusedSettings, settings, IsMachine, OpenedWith}
-use Rattle.session.specs.Session.{opened}
+use Rattle.session.specs.Phases.{isDue}
+use Rattle.session.specs.Session.{opened, openedUntold}
 use Rattle.session.specs.declared.opening.Machine.{Machine}
 use Rattle.session.specs.declared.opening.Machine.the-variants.{RecipientV1, IdentityV1}
+use Rattle.session.specs.declared.phases.Phase.the-variants.{One, Closed}
 
 name-some : (t : List ℕ) → isName t ≡ true → 1 ≤ length t
 unfolding isName
@@ -107,3 +109,16 @@ opened-with machine name screen =
     cases (isName name) (λ f. with-0 machine name n (w .0) f (ap (λ x. x .number) s ∙ rw f)) (λ f. with-17 machine name n (w .0) f (ap (λ x. x .number) s ∙ rw f)))
     (λ w. with-18 machine name n (w .0) (ap (λ x. settingsOf x name .number) (w .1)))
     (machine-found machine)
+
+-- ---- what is opened
+
+-- an opening that is not told is one without a screen
+pub untold : (machine name : List ℕ) → openedUntold machine name ≡ opened machine name false
+untold machine name = refl
+
+-- an opened session is in phase one, a refused one closed; so nothing is due
+pub opened-phase : (machine name : List ℕ) (screen : Bool) → (opened machine name screen .session .phase ≡ One) ⊎ (opened machine name screen .session .phase ≡ Closed)
+opened-phase machine name screen = cases (eqb (opened machine name screen .number) 0) (λ f. inl (rw f)) (λ f. inr (rw f))
+
+pub opened-undue : (machine name : List ℕ) (screen : Bool) → isDue (opened machine name screen .session .phase) ≡ false
+opened-undue machine name screen = ⊎-elim (ap isDue) (ap isDue) (opened-phase machine name screen)
