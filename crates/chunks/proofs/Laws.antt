@@ -29,3 +29,4 @@ pub mod Rooms
 pub mod Bounds
 pub mod PhaseOne
 pub mod Screens
+pub mod NothingDue

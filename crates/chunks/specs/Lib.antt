@@ -9,3 +9,4 @@ pub mod Orders
 pub mod AnyCalls
 pub mod Sent
 pub mod Screens
+pub mod PhaseOne

@@ -78,6 +78,7 @@ use Rattle.chunks.specs.Calls as chunk-calls
 use Rattle.chunks.specs.Calls.{callsFor, lastFrom, AsCalls}
 use Rattle.chunks.specs.Reached.{AnyCall, sends-one, Has, intakeAfter, AnyWith, intakeAfterAll, Bounded, isIdle}
 use Rattle.chunks.specs.Orders.{uncutCalls, amples, IsCut, endOf, OneByOne, AllTaken, SameCuts}
+use Rattle.chunks.specs.PhaseOne.{Lasts, NothingDue, BehindDone}
 use Rattle.chunks.specs.Screens.{answerTo, AnsweredAtOnce, NothingWaits}
 use Rattle.chunks.specs.AnyCalls.{afterAny, numbersAny, InTurn, callsAll, ComesTo}
 use Rattle.chunks.specs.Sent.{sentAny, OfBytes, textSent, stanzasSent, textsSent}
@@ -118,6 +119,7 @@ use Rattle.chunks.proofs.Laws.Cut as cutting
 use Rattle.chunks.proofs.Laws.Finish as finishing
 use Rattle.chunks.proofs.Laws.Itself as itself
 use Rattle.chunks.proofs.Laws.Last as last-taken
+use Rattle.chunks.proofs.Laws.NothingDue as phase-one
 use Rattle.chunks.proofs.Laws.Orders as orders-of-cuts
 use Rattle.chunks.proofs.Laws.Prefix as prefixes
 use Rattle.chunks.proofs.Laws.Reached as reaching
@@ -536,6 +538,21 @@ screen-at-once = screens.answered-at-once
 -- .. and nothing waits, behind any calls from an opening without a screen, refused ones included, each lent buffers of its own
 pub screen-nothing-waits : (machine name : List ℕ) (before : List (AnyWith client)) → NothingWaits (kept client machine name false before)
 screen-nothing-waits = screens.nothing-waits
+
+-- ---- The plugin's phase one (document 02, No. 10: "Nothing is ever due there .. 14 is then only for a call of the other phase")
+
+-- behind any calls from an opening, refused ones included, each lent buffers of its own: until done is taken no answer is due
+pub nothing-due : (machine name : List ℕ) (before : List (AnyWith plugin)) → Lasts (emptied (opened machine name false .session) []) before → NothingDue (kept plugin machine name false before)
+nothing-due = phase-one.nothing-due
+
+-- 14 in phase one: a chunk gives it only behind its done, for bytes that are phase two's
+pub nothing-due-chunk : (machine name : List ℕ) (before : List (AnyWith plugin)) (b : Buffers) (bytes out : List ℕ) → let i = kept plugin machine name false before in
+    i .session .phase ≡ One → chunked plugin i b bytes out .number ≡ 14 → BehindDone i b bytes (chunked plugin i b bytes out)
+nothing-due-chunk machine name before b bytes out = phase-one.chunk-behind-done (kept plugin machine name false before) b bytes out (reaching.reached-bounded plugin machine name false before)
+
+-- .. and a command of phase two always
+pub nothing-due-send : (s : Session) (b : Buffers) (word : WordTwo) (arguments body out : List ℕ) → s .phase ≡ One → outcome s b (send-two word arguments body out) .number ≡ 14
+nothing-due-send = phase-one.send-out-of-turn
 
 -- ---- Input in chunks: "However a conversation is cut .. responses, tables and the closing number are those of the uncut one"
 

@@ -53,10 +53,10 @@ module _ (s : Session) (b : Buffers) (t : List ℕ) (z : outcome s b (receive t)
   behind = ap (λ x. x .phase) (accepted s b (receive t) z .applied .session)
 
   -- an accepted done leads to phase two, and any other command leaves phase one
-  behind-done : isDone t ≡ true → outcome s b (receive t) .session .phase ≡ Two
+  pub behind-done : isDone t ≡ true → outcome s b (receive t) .session .phase ≡ Two
   behind-done d = behind ∙ done-phase (s .tables) (b .first) _ (isBare (lineIn t) (length (bodyIn t)) 0) c (one-done (s .machine) (s .name) (lineIn t) (bodyIn t) d) (accepted s b (receive t) z .applied .faultless)
 
-  behind-other : isDone t ≡ false → outcome s b (receive t) .session .phase ≡ One
+  pub behind-other : isDone t ≡ false → outcome s b (receive t) .session .phase ≡ One
   behind-other d = behind ∙ proper-phase c (subst (λ f. Proper f c) d (proper (s .machine) (s .name) t))
 
   begun : BeginsWhole t
