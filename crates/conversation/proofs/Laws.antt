@@ -25,6 +25,7 @@ pub mod Receiving
 pub mod ReceivingTwo
 pub mod Refusals
 pub mod Replying
+pub mod ReportedTwo
 pub mod Responding
 pub mod RowsOne
 pub mod RowsTwo

@@ -21,7 +21,7 @@ use Rattle.phase_one.specs.Views as one-kind
 use Rattle.phase_one.specs.Views.{recipients, identities, keys, headers}
 use Rattle.session.specs.declared.opening.Machine.{Machine}
 use Rattle.conversation.specs.Calls.{Call, send-two, respond, State}
-use Rattle.conversation.specs.Kinds.{Buffers}
+use Rattle.conversation.specs.Kinds.{Buffers, ofFile}
 use Rattle.conversation.specs.CommandsTwo as two-command
 use Rattle.conversation.specs.CommandsTwo.{CommandTwo, lineSent}
 use Rattle.conversation.specs.PhaseTwo as two
@@ -100,7 +100,7 @@ isRightTwo two-command.done = true
 isRightTwo two-command.other = true
 isRightTwo (two-command.bad n) = false
 
--- 6: "the index is a file key's number"; "only for an index that phase one named"; what an error names is there, and "stanza i must belong to file f"
+-- 6: "the index is a file key's number"; "only for an index that phase one named"; what an error names is there, "i counts the header stanzas of file f from 0"
 abbrev pub Present : Left → CommandTwo → Type 0
 Present left (two-command.ask w) = Unit
 Present left (two-command.stanza f) = f < length (left keys)
@@ -108,7 +108,7 @@ Present left (two-command.key f) = (i : ℕ) × RowAt (λ r. r .index ≡ f) (le
 Present left (two-command.error two-command.internal) = Unit
 Present left (two-command.error (two-command.identity i)) = i < length (left identities)
 Present left (two-command.error (two-command.recipient i)) = i < length (left recipients)
-Present left (two-command.error (two-command.header f i)) = RowAt (λ r. r .index ≡ f) (left headers) i
+Present left (two-command.error (two-command.header f i)) = i < length (ofFile f (left headers))
 Present left two-command.done = Unit
 Present left two-command.other = Unit
 Present left (two-command.bad n) = Unit
@@ -285,7 +285,7 @@ Unheld left (two-command.key f) = NoneInvalid left × All (λ r. r .mark ≡ 1 �
 Unheld left (two-command.error two-command.internal) = Unit
 Unheld left (two-command.error (two-command.identity i)) = Unit
 Unheld left (two-command.error (two-command.recipient i)) = Unit
-Unheld left (two-command.error (two-command.header f i)) = RowAt (λ r. r .mark ≡ 2 → ⊥) (left headers) i
+Unheld left (two-command.error (two-command.header f i)) = RowAt (λ r. r .mark ≡ 2 → ⊥) (ofFile f (left headers)) i
 Unheld left two-command.done = Unit
 Unheld left two-command.other = Unit
 Unheld left (two-command.bad n) = Unit
@@ -304,7 +304,8 @@ Reported Owes Names n (r ∷ rs) cs = (Owes r → Some (Names n) cs) × Reported
 pub record AllReported (left : Left) (cs : List Said) : Type 0 where
   pub of-recipients : Reported (λ r. r .mark ≡ 0 → ⊥) (λ n c. c ≡ two-command.error (two-command.recipient n)) 0 (left recipients) cs
   pub of-identities : Reported (λ r. r .mark ≡ 0 → ⊥) (λ n c. c ≡ two-command.error (two-command.identity n)) 0 (left identities) cs
-  pub of-headers : Reported (λ r. r .mark ≡ 1) (λ n c. (f : ℕ) × (c ≡ two-command.error (two-command.header f n))) 0 (left headers) cs
+  -- a faulty stanza, the i-th of its file f, error stanza f i
+  pub of-headers : (f i : ℕ) → RowAt (λ r. r .mark ≡ 1) (ofFile f (left headers)) i → Some (λ c. c ≡ two-command.error (two-command.header f i)) cs
 
 -- one exchange by itself
 pub record RightExchange (machine : Machine) (left : Left) (x : Exchange) : Type 0 where

@@ -206,8 +206,8 @@ pub data Missing (Says : SayingTwo ℕ → Type 0) (rows : AnyKind → List Row)
   no-file : (f : ℕ) → Says (returns-key f) → (SomeRow (λ r. r .index ≡ f) (rows (first headers)) → ⊥) → Missing Says rows
   no-identity : (i : ℕ) → Says (reports (identity i)) → length (rows (first identities)) ≤ i → Missing Says rows
   no-recipient : (i : ℕ) → Says (reports (recipient i)) → length (rows (first recipients)) ≤ i → Missing Says rows
-  -- "i numbers all header stanzas of the session, and stanza i must belong to file f"
-  no-stanza : (f i : ℕ) → Says (reports (header f i)) → (RowAt (λ r. r .index ≡ f) (rows (first headers)) i → ⊥) → Missing Says rows
+  -- "in error stanza f i, i counts the header stanzas of file f from 0 in the order received": the file has i or fewer
+  no-stanza : (f i : ℕ) → Says (reports (header f i)) → length (ofFile f (rows (first headers))) ≤ i → Missing Says rows
 
 -- No. 7, "header stanza index falls": below that of the last one accepted
 pub record Falling (Says : SayingOne ℕ → Type 0) (rows : AnyKind → List Row) : Type 0 where
@@ -230,14 +230,14 @@ pub record TooMany (Says : SayingTwo ℕ → Type 0) (rows : AnyKind → List Ro
   pub said : Says (returns-stanza file)
   pub full : length (rows (first recipients)) + length (rows (first identities)) ≤ length (ofFile file (rows (second stanzas)))
 
--- No. 11, "work and error together". The mark 3 of an error: it names a header stanza, by its index
+-- No. 11, "work and error together". The mark 3 + f of an error: it names a header stanza of the file f
 pub data Together (Says : SayingTwo ℕ → Type 0) (rows : AnyKind → List Row) : Type 0 where
   -- "errors and stanzas don't both occur"
   stanza-with-errors : (f : ℕ) → Says (returns-stanza f) → 0 < length (rows (second errors)) → Together Says rows
   error-with-stanzas : (n : Naming ℕ) → Says (reports n) → 0 < length (rows (second stanzas)) → Together Says rows
   -- "error stanza f and file-key f don't both occur"
   key-with-error : (f : ℕ) → Says (returns-key f) →
-      SomeRow (λ e. (e .mark ≡ 3) × RowAt (λ r. r .index ≡ f) (rows (first headers)) (e .index)) (rows (second errors)) → Together Says rows
+      SomeRow (λ e. e .mark ≡ 3 + f) (rows (second errors)) → Together Says rows
   error-with-key : (f i : ℕ) → Says (reports (header f i)) → SomeRow (λ r. r .index ≡ f) (rows (second returned)) → Together Says rows
 
 -- an invalid recipient or identity has a mark other than 0
@@ -249,7 +249,7 @@ abbrev pub NoError : ℕ → ℕ → List Row → Type 0
 NoError mark n es = SomeRow (λ e. (e .mark ≡ mark) × (e .index ≡ n)) es → ⊥
 
 -- No. 19, "plugin end: held back by an unsound entry or faulty stanza, or error for an unknown stanza". A header stanza's mark: 1 nonconforming, 2 unknown; an
--- error's: 1 it names an identity, 2 a recipient, 3 a header stanza
+-- error's: 1 it names an identity, 2 a recipient, 3 + f a header stanza of the file f
 pub data Held (Says : SayingTwo ℕ → Type 0) (rows : AnyKind → List Row) : Type 0 where
   -- "while any recipient or identity is unsound it sends no stanza and no key"
   stanza-held : (f : ℕ) → Says (returns-stanza f) → SomeRow Invalid (rows (first recipients)) ⊎ SomeRow Invalid (rows (first identities)) → Held Says rows
@@ -257,11 +257,11 @@ pub data Held (Says : SayingTwo ℕ → Type 0) (rows : AnyKind → List Row) : 
   -- "it sends no key for a file with a faulty fido2-hmac stanza"
   key-nonconforming : (f : ℕ) → Says (returns-key f) → SomeRow (λ r. (r .mark ≡ 1) × (r .index ≡ f)) (rows (first headers)) → Held Says rows
   -- "the plugin end sends no error stanza for" an unknown stanza
-  error-unknown : (f i : ℕ) → Says (reports (header f i)) → RowAt (λ r. r .mark ≡ 2) (rows (first headers)) i → Held Says rows
+  error-unknown : (f i : ℕ) → Says (reports (header f i)) → RowAt (λ r. r .mark ≡ 2) (ofFile f (rows (first headers))) i → Held Says rows
   -- "It sends done only after each unsound entry and each faulty stanza has had its error"
   recipient-owed : Says ends-two → (n : ℕ) → RowAt Invalid (rows (first recipients)) n → NoError 2 n (rows (second errors)) → Held Says rows
   identity-owed : Says ends-two → (n : ℕ) → RowAt Invalid (rows (first identities)) n → NoError 1 n (rows (second errors)) → Held Says rows
-  stanza-owed : Says ends-two → (n : ℕ) → RowAt (λ r. r .mark ≡ 1) (rows (first headers)) n → NoError 3 n (rows (second errors)) → Held Says rows
+  stanza-owed : Says ends-two → (f i : ℕ) → RowAt (λ r. r .mark ≡ 1) (ofFile f (rows (first headers))) i → NoError (3 + f) i (rows (second errors)) → Held Says rows
 
 -- ---- No. 8, "no place, or room too short"
 

@@ -2,7 +2,7 @@
 -- tables only through the questions below.
 use Prim.Native.Nat.{ℕ, zero, suc, _+_}
 use mathlib.Core.Bool.{Bool, true, false, not, _&&_, _||_}
-use mathlib.Core.List.{List, [], _∷_, map}
+use mathlib.Core.List.{List, [], _∷_, _++_, map}
 use lib.Dec.{ltb, leb, eqb}
 use lib.ListN.{length, take}
 use Rattle.refusal.specs.Pick.{pick}
@@ -75,6 +75,11 @@ passes test [] n = false
 passes test (l ∷ ls) zero = test l
 passes test (l ∷ ls) (suc n) = passes test ls n
 
+-- those of them that do, in order
+unfoldable pub among : (Label → Bool) → List Label → List Label
+among test [] = []
+among test (l ∷ ls) = pick (test l) (l ∷ []) [] ++ among test ls
+
 -- ---- the questions
 
 -- a header stanza, a returned stanza or a returned key of the file f
@@ -85,9 +90,13 @@ isFile f l = eqb (l .index) f
 abbrev pub namesFile : Tables → ℕ → Bool
 namesFile t f = isAny (isFile f) (labels (t .headers))
 
--- header stanza i, of all header stanzas of the session, belongs to the file f
-abbrev pub belongs : Tables → ℕ → ℕ → Bool
-belongs t f i = passes (isFile f) (labels (t .headers)) i
+-- the header stanzas of the file f, in the order received
+abbrev pub headersOf : Tables → ℕ → List Label
+headersOf t f = among (isFile f) (labels (t .headers))
+
+-- "i counts the header stanzas of file f from 0 in the order received": the file has more than i
+abbrev pub hasHeader : Tables → ℕ → ℕ → Bool
+hasHeader t f i = ltb i (howMany (isFile f) (labels (t .headers)))
 
 -- how many stanzas the file f has got
 abbrev pub stanzasFor : Tables → ℕ → ℕ
@@ -101,14 +110,14 @@ mostStanzas t = t .recipients .count + t .identities .count
 abbrev pub hasKey : Tables → ℕ → Bool
 hasKey t f = isAny (isFile f) (labels (t .returned))
 
--- an error's mark: what it names
+-- an error's mark: what it names; of a header stanza also the file, from 3 on
 abbrev pub markOf : Named → ℕ
 markOf internal = 0
 markOf (identity i) = 1
 markOf (recipient i) = 2
-markOf (header f i) = 3
+markOf (header f i) = 3 + f
 
--- an error's index: the number that it names. Of a header stanza the file is not kept: the stanza has it
+-- an error's index: the number that it names; of a header stanza the one within its file
 abbrev pub indexOf : Named → ℕ
 indexOf internal = 0
 indexOf (identity i) = i
@@ -120,12 +129,12 @@ abbrev pub isNaming : ℕ → ℕ → Label → Bool
 isNaming mark n l = eqb (l .mark) mark && eqb (l .index) n
 
 -- an error names a header stanza of the file f
-abbrev pub isAbout : List Label → ℕ → Label → Bool
-isAbout headers f l = eqb (l .mark) 3 && passes (isFile f) headers (l .index)
+abbrev pub isAbout : ℕ → Label → Bool
+isAbout f l = eqb (l .mark) (3 + f)
 
 -- there is an error stanza f
 abbrev pub hasErrorFor : Tables → ℕ → Bool
-hasErrorFor t f = isAny (isAbout (labels (t .headers)) f) (labels (t .errors))
+hasErrorFor t f = isAny (isAbout f) (labels (t .errors))
 
 -- ---- the decision: each fault by its number
 
@@ -137,7 +146,7 @@ isMissing t (key f) = not (namesFile t f)
 isMissing t (error internal) = false
 isMissing t (error (identity i)) = not (ltb i (t .identities .count))
 isMissing t (error (recipient i)) = not (ltb i (t .recipients .count))
-isMissing t (error (header f i)) = not (belongs t f i)
+isMissing t (error (header f i)) = not (hasHeader t f i)
 isMissing t done = false
 isMissing t other = false
 isMissing t (bad n) = false
@@ -216,18 +225,24 @@ unfoldable pub areReported : (Label → Bool) → ℕ → ℕ → List Label →
 areReported test mark n [] es = true
 areReported test mark n (l ∷ ls) es = (not (test l) || isAny (isNaming mark n) es) && areReported test mark (n + 1) ls es
 
+-- each nonconforming header stanza has had its error, the one of its file and its number there; `before` are the header stanzas before these
+unfoldable pub areStanzasReported : List Label → List Label → List Label → Bool
+areStanzasReported before [] es = true
+areStanzasReported before (l ∷ ls) es =
+    (not (isNonconforming l) || isAny (isNaming (3 + l .index) (howMany (isFile (l .index)) before)) es) && areStanzasReported (before ++ (l ∷ [])) ls es
+
 -- "each unsound entry and each faulty stanza has had its error"
 abbrev pub allReported : Tables → Bool
 allReported t =
     areReported isInvalid 2 0 (labels (t .recipients)) (labels (t .errors)) && areReported isInvalid 1 0 (labels (t .identities)) (labels (t .errors))
-    && areReported isNonconforming 3 0 (labels (t .headers)) (labels (t .errors))
+    && areStanzasReported [] (labels (t .headers)) (labels (t .errors))
 
 -- an error for an unknown stanza
 abbrev pub isForUnknown : Tables → Named → Bool
 isForUnknown t internal = false
 isForUnknown t (identity i) = false
 isForUnknown t (recipient i) = false
-isForUnknown t (header f i) = passes isUnknown (labels (t .headers)) i
+isForUnknown t (header f i) = passes isUnknown (headersOf t f) i
 
 -- No. 19, held back by an invalid entry or nonconforming stanza, or error for an unknown stanza
 abbrev pub isHeldBack : Tables → CommandTwo → Bool

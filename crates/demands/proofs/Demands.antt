@@ -38,7 +38,7 @@ use Rattle.phase_one.specs.Commands as one
 use Rattle.phase_one.specs.Commands.{WordOne}
 use Rattle.phase_one.specs.PhaseOne.{BuffersOne}
 use Rattle.phase_one.specs.Views as one-kind
-use Rattle.phase_one.specs.Views.{KindOne}
+use Rattle.phase_one.specs.Views.{KindOne, headers}
 use Rattle.phase_one.specs.Turns.{turnOne}
 use Rattle.session.specs.declared.opening.Machine.{Machine}
 use Rattle.session.specs.declared.phases.Phase.{Phase as SessionPhase}
@@ -46,12 +46,12 @@ use Rattle.session.specs.declared.phases.Phase.the-variants.{One, Two, Awaiting
 use Rattle.conversation.specs.Agreement.{Alike, Agreed, SameViews}
 use Rattle.conversation.specs.Allowed.{Allowed, AllowedTwo, Exchange, isDoneSent, sendingCalls, AllowedSent, leftOf, capacityOf}
 use Rattle.conversation.specs.Answers.{events, Paired}
-use Rattle.conversation.specs.Calls.{Call, receive, send, receive-two, reply, send-two, isClient, outcome, writtenBy, State, stateOf, after, broughtBy, rowsBrought, acceptedRows, AllZero, Accepted, Refused}
-use Rattle.conversation.specs.CommandsTwo.{ask, lineSent, commandTwo, wordTwo, textOfWord}
+use Rattle.conversation.specs.Calls.{Call, receive, send, receive-two, reply, send-two, isClient, outcome, writtenBy, State, stateOf, after, in-two, broughtBy, rowsBrought, acceptedRows, AllZero, Accepted, Refused}
+use Rattle.conversation.specs.CommandsTwo.{Named, ask, lineSent, commandTwo, wordTwo, textOfWord}
 use Rattle.conversation.specs.Given.{GivenBack}
-use Rattle.conversation.specs.Kinds.{AnyKind, Buffers, tableOf, viewOf, ofFile}
-use Rattle.conversation.specs.Numbers.{Condition, orderOf, FirstOf, bufferFor}
-use Rattle.conversation.specs.PhaseTwo.{stanzasFor, hasKey, isHeldBack}
+use Rattle.conversation.specs.Kinds.{AnyKind, first, Buffers, tableOf, viewOf, ofFile}
+use Rattle.conversation.specs.Numbers.{header, reports, SaysTwo, MissingIn, Condition, orderOf, FirstOf, bufferFor}
+use Rattle.conversation.specs.PhaseTwo.{stanzasFor, hasKey, markOf, indexOf, isHeldBack}
 use Rattle.conversation.specs.Phases.{All, Part, one-part, two-part, Phase, blocksOf, IsPhase, Supply, callsOf, LongEnough, Starts, JustDone, JustReceived, SameStart, Rearranged, SameTables, SameOutcome, commandIn, textsOf, CallWith, afterEach, Whole}
 use Rattle.conversation.specs.ReceivingTwo.{writes, atOnce}
 use Rattle.conversation.specs.Receiving.{received}
@@ -100,12 +100,14 @@ use Rattle.conversation.proofs.Laws.AllowedOne as one-accepted
 use Rattle.conversation.proofs.Laws.AllowedSent as sent-accepted
 use Rattle.conversation.proofs.Laws.Answers as answering
 use Rattle.conversation.proofs.Laws.CommandsTwo as words-two
+use Rattle.conversation.proofs.Laws.ConditionsTwo as conditions
 use Rattle.conversation.proofs.Laws.Given as giving
 use Rattle.conversation.proofs.Laws.Numbers as numbering
 use Rattle.conversation.proofs.Laws.Order as ordering
 use Rattle.conversation.proofs.Laws.OrderTwo as two-accepted
 use Rattle.conversation.proofs.Laws.Reached.{ReachedSession, opening-reached, each-reached, just-done, just-received-done}
 use Rattle.conversation.proofs.Laws.Refusals as refusals
+use Rattle.conversation.proofs.Laws.ReportedTwo as reported
 use Rattle.conversation.proofs.Laws.SentOne as sent-numbers
 use Rattle.conversation.proofs.Laws.ShapesOne as one-shaped
 use Rattle.conversation.proofs.Laws.ShapesSent as sent-shaped
@@ -520,6 +522,20 @@ demand-2-word-two = words-two.word-text
 
 pub demand-2-response : (line : List ℕ) (r : Response) → (responseOf line ≡ response r) ↔ (line ≡ responseLine r)
 demand-2-response line r = (response-texts.line-read line r, λ e. ap responseOf e ∙ response-texts.read-line r)
+
+-- ---- Number inside the file (document 02, No. 2: "in error stanza f i, i counts the header stanzas of file f from 0 in the order received")
+
+-- at both ends error stanza f i gives 6 exactly if file f has i or fewer
+pub in-file-six : (machine name : List ℕ) (screen : Bool) (cs : List CallWith) (b : Buffers) (line body : List ℕ) (f i : ℕ) → let s = afterEach (opened machine name screen .session) cs in
+    SaysTwo (s .machine) line body (reports (header f i)) → MissingIn s b (in-two line body) ↔ (length (ofFile f (viewOf (first headers) (s .tables) b)) ≤ i)
+in-file-six machine name screen cs b line body f i = conditions.stanza-missing (afterEach (opened machine name screen .session) cs) b (made machine name screen cs) line body f i
+
+-- what an error names is kept whole: two errors with equal entries name the same (`demand-2-errors`: a look-up gives it back)
+pub in-file-once : (n m : Named) → markOf n ≡ markOf m → indexOf n ≡ indexOf m → n ≡ m
+in-file-once = reported.named-once
+
+-- .. and the plugin end's done waits for error stanza f i of each nonconforming stanza, the i-th of its file f: `AllReported` in `demand-2-plugin`, `Held` in
+-- `demand-1-number`
 
 -- ---- Without a screen (document 02, No. 5: "A client session now opens without a screen, so msg, confirm and both requests are answered fail at once")
 

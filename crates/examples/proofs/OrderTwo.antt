@@ -336,23 +336,24 @@ pub turned-written : writtenIn two-part (start .session) (start .buffers) outs (
 unfolding writtenIn written numbers after callsOf replyCalls sending.sent sending.sentStanza receiving-two.received receiving-two.receivedStanza replying.repliedTo commandTwo decided howMany passes isCharacter valueOf characterOf encoded decoded endsWell wrapped unwrapped all run isGraphic isWordByte before words isArgument areArguments same next verdict scan found digits readIndex afterSpace
 turned-written = refl
 
--- ---- identity-v1: one identity and a header stanza for each of the files 3 and 5 are sent, then done
+-- ---- identity-v1: one identity, two header stanzas for file 3 and one for file 5 are sent, then done
 
 abbrev lentIdentity : Buffers
-lentIdentity = kinds.buffersOf (one.buffersOf [] (98 ∷ []) [] (97 ∷ 10 ∷ 97 ∷ 10 ∷ [])) (two.buffersOf (replicate 4 0) [] (replicate 16 0))
+lentIdentity = kinds.buffersOf (one.buffersOf [] (98 ∷ []) [] (97 ∷ 10 ∷ 97 ∷ 10 ∷ 97 ∷ 10 ∷ [])) (two.buffersOf (replicate 4 0) [] (replicate 16 0))
 
 abbrev startIdentity : State
 startIdentity =
     let b = lentIdentity .first in
-    let t = one.applied (one.applied (one.applied openedTables b (one-command.identity 16) (98 ∷ [])) b (one-command.header 3 2) (97 ∷ 10 ∷ [])) b (one-command.header 5 2) (97 ∷ 10 ∷ []) in
+    let twice = one.applied (one.applied (one.applied openedTables b (one-command.identity 16) (98 ∷ [])) b (one-command.header 3 2) (97 ∷ 10 ∷ [])) b (one-command.header 3 2) (97 ∷ 10 ∷ []) in
+    let t = one.applied twice b (one-command.header 5 2) (97 ∷ 10 ∷ []) in
     stateOf (record { machine = IdentityV1; name = plugin; screen = false; phase = Two; tables = t }) lentIdentity
 
--- "-> file-key 3" with its 16 bytes; "-> error stanza 5 1", "-> error internal", each with a message of one byte
+-- "-> file-key 3" with its 16 bytes; "-> error stanza 5 0", the third of the session and the first of its file, "-> error internal", each with a message of one byte
 abbrev fileKey : Block
 fileKey = alone (stanzaText (lineSent FileKey (51 ∷ [])) (replicate 16 9))
 
 abbrev errorHeader : Block
-errorHeader = alone (stanzaText (lineSent Error (stanzaWord ++ 32 ∷ 53 ∷ 32 ∷ 49 ∷ [])) (1 ∷ []))
+errorHeader = alone (stanzaText (lineSent Error (stanzaWord ++ 32 ∷ 53 ∷ 32 ∷ 48 ∷ [])) (1 ∷ []))
 
 abbrev errorInternal : Block
 errorInternal = alone (stanzaText (lineSent Error internalWord) (2 ∷ []))
@@ -372,9 +373,9 @@ pub both-accepted-identity : (numbers (startIdentity .session) (startIdentity .b
 unfolding numbers after callsOf replyCalls sending.sent sending.sentStanza receiving-two.received receiving-two.receivedStanza replying.repliedTo commandTwo decided howMany passes isCharacter valueOf characterOf encoded decoded endsWell wrapped unwrapped all run isGraphic isWordByte before words isArgument areArguments same next verdict scan found digits readIndex afterSpace
 both-accepted-identity = (refl, refl)
 
--- the tables: what an error names is its mark and its index, 3 and 1 for header stanza 1
+-- the tables: what an error names is its mark and its index, 3 + 5 and 0 for header stanza 0 of file 5
 abbrev errorRows : List Row
-errorRows = record { payload = 1 ∷ []; index = 1; mark = 3 } ∷ record { payload = 2 ∷ []; index = 0; mark = 0 } ∷ []
+errorRows = record { payload = 1 ∷ []; index = 0; mark = 8 } ∷ record { payload = 2 ∷ []; index = 0; mark = 0 } ∷ []
 
 abbrev keyRows : List Row
 keyRows = row 3 (replicate 16 9) ∷ []

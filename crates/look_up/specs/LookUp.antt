@@ -1,7 +1,7 @@
 -- Look-up for a host: an entry by kind and number (document 01, "Phase one": "Any caller may ask for an entry by kind (recipient or identity) and number"); which
 -- command awaits an answer; and, where its conversation has ended, what phase two brought: errors by number; "Returned stanzas are numbered from 0 within their
 -- file and keys go by file" (document 01, "Phase two").
-use Prim.Native.Nat.{ℕ, zero, suc, _<_, _≤_}
+use Prim.Native.Nat.{ℕ, zero, suc, _-_, _<_, _≤_}
 use mathlib.Core.Path.{_≡_}
 use mathlib.Core.Bool.{Bool}
 use mathlib.Core.List.{List, [], _∷_}
@@ -68,26 +68,20 @@ nameSaid (the.Recipient i) = recipient i ∷ []
 nameSaid (the.Header f i) = header f i ∷ []
 nameSaid the.Nothing = []
 
--- header stanza i: the stanza has the file
-abbrev pub headerNamed : ℕ → Found → List Named
-headerNamed i nothing = []
-headerNamed i (entry h) = header (h .index) i ∷ []
-
--- by the marks that an error is stored with; no call stores another
-abbrev pub namedBy : Table → Entry → List Named
-namedBy headers e =
+-- by the marks that an error is stored with: from 3 on, a header stanza's, with its file
+abbrev pub namedBy : Entry → List Named
+namedBy e =
     pick (eqb (e .mark) 0) (internal ∷ [])
-    (pick (eqb (e .mark) 1) (identity (e .index) ∷ [])
-    (pick (eqb (e .mark) 2) (recipient (e .index) ∷ []) (pick (eqb (e .mark) 3) (headerNamed (e .index) (found headers (e .index))) [])))
+    (pick (eqb (e .mark) 1) (identity (e .index) ∷ []) (pick (eqb (e .mark) 2) (recipient (e .index) ∷ []) (header (e .mark - 3) (e .index) ∷ [])))
 
 -- what was found, if anything
-abbrev pub namedIn : Table → Found → List Named
-namedIn headers nothing = []
-namedIn headers (entry e) = namedBy headers e
+abbrev pub namedIn : Found → List Named
+namedIn nothing = []
+namedIn (entry e) = namedBy e
 
 -- error k
 abbrev pub errorNamed : Tables → ℕ → List Named
-errorNamed t k = namedIn (t .headers) (found (t .errors) k)
+errorNamed t k = namedIn (found (t .errors) k)
 
 -- ---- "its message, the k-th stanza of a file, the key of a file, each as a part of its buffer .., and empty where there is none or the buffer is too short"
 

@@ -2,7 +2,9 @@
 mod entries;
 mod look_up;
 
+pub use entries::count_before;
 pub use entries::count_entries;
+pub use entries::count_file;
 pub use entries::has_file;
 pub use look_up::Awaited;
 pub use look_up::ErrorNamed;
@@ -15,4 +17,5 @@ pub use look_up::error_named;
 pub use look_up::find;
 pub use look_up::has_key;
 pub use look_up::key_of;
+pub use look_up::number_of;
 pub use look_up::stanza_of;

@@ -4,9 +4,9 @@ ghost use mathlib.Core.Path.{_≡_};
 ghost use mathlib.Core.List.{List};
 ghost use Prim.Native.Nat.{ℕ};
 ghost use Rattle.tables.specs.Tables.{tableIn, foundSaid, found as foundIn};
-ghost use Rattle.session.specs.Tables.{spanOf, tablesIn};
+ghost use Rattle.session.specs.Tables.{tablesIn};
 ghost use Rattle.conversation.specs.PhaseTwo.{labels, isFile, stanzasFor, hasKey};
-ghost use Rattle.look_up.specs.LookUp.{tableOf, entryText, awaitedSaid, awaitedIn, nameSaid, headerNamed, namedBy, errorNamed, numberOf, messageOf, stanzaOf, keyOf};
+ghost use Rattle.look_up.specs.LookUp.{tableOf, entryText, awaitedSaid, awaitedIn, nameSaid, namedBy, errorNamed, numberOf, messageOf, stanzaOf, keyOf};
 use crate::entries::count_entries;
 use crate::entries::count_file;
 use crate::entries::has_file;
@@ -119,20 +119,9 @@ pub fn has_key(tables: Tables, file: usize, slots: &[[usize; 4]]) -> bool
     has_file(tables.returned, span_of(Kind::Returned), file, slots)
 }
 
-// A header stanza, with its file.
-fn header_named(headers: Table, i: usize, header_slots: &[[usize; 4]]) -> ErrorNamed
-    ensures { λ r. ⌜ nameSaid r ≡ headerNamed i (foundIn (tableIn (spanOf Kind.Headers) headers (now («header_slots» .entry))) i) ⌝ }
-{
-    let header = headers.find(span_of(Kind::Headers), i, header_slots);
-    match header {
-        Found::Nothing => ErrorNamed::Nothing,
-        Found::Entry(h) => ErrorNamed::Header(h.index, i),
-    }
-}
-
 // What an error names, by its mark and its index.
-fn named_by(headers: Table, e: Entry, header_slots: &[[usize; 4]]) -> ErrorNamed
-    ensures { λ r. ⌜ nameSaid r ≡ namedBy (tableIn (spanOf Kind.Headers) headers (now («header_slots» .entry))) e ⌝ }
+fn named_by(e: Entry) -> ErrorNamed
+    ensures { λ r. ⌜ nameSaid r ≡ namedBy e ⌝ }
 {
     let mark = e.mark;
     let index = e.index;
@@ -145,25 +134,17 @@ fn named_by(headers: Table, e: Entry, header_slots: &[[usize; 4]]) -> ErrorNamed
     if mark == Mark::RECIPIENT {
         return ErrorNamed::Recipient(index);
     }
-    if mark == Mark::STANZA {
-        return header_named(headers, index, header_slots);
-    }
-    ErrorNamed::Nothing
+    ErrorNamed::Header(mark - Mark::STANZA, index)
 }
 
-// What the k-th error names.
-pub fn error_named(
-    tables: Tables,
-    k: usize,
-    slots: &[[usize; 4]],
-    header_slots: &[[usize; 4]],
-) -> ErrorNamed
-    ensures { λ r. ⌜ nameSaid r ≡ errorNamed (tablesIn tables (now (slots .entry)) (now («header_slots» .entry))) k ⌝ }
+// What the k-th error names; of a header stanza its file, and its number there.
+pub fn error_named(tables: Tables, k: usize, slots: &[[usize; 4]]) -> ErrorNamed
+    ensures { λ r. ⌜ ((hs : List (List ℕ)) → nameSaid r ≡ errorNamed (tablesIn tables (now (slots .entry)) hs) k) ⌝ }
 {
     let error = tables.errors.find(span_of(Kind::Errors), k, slots);
     match error {
         Found::Nothing => ErrorNamed::Nothing,
-        Found::Entry(e) => named_by(tables.headers, e, header_slots),
+        Found::Entry(e) => named_by(e),
     }
 }
 
@@ -180,7 +161,7 @@ pub fn error_message<'a>(
 }
 
 // The number, among all entries, of the k-th of a file; as many as there are where there is none.
-fn number_of(table: Table, span: Span, file: usize, k: usize, slots: &[[usize; 4]]) -> usize
+pub fn number_of(table: Table, span: Span, file: usize, k: usize, slots: &[[usize; 4]]) -> usize
     ensures { λ r. ⌜ r ≡ numberOf (isFile file) (labels (tableIn span table (now (slots .entry)))) k ⌝ }
 {
     let mut left = k;

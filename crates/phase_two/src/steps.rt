@@ -38,7 +38,7 @@ pub(crate) fn mark_of(named: Named) -> usize
         Named::Internal => Mark::INTERNAL,
         Named::Identity(_) => Mark::IDENTITY,
         Named::Recipient(_) => Mark::RECIPIENT,
-        Named::Header(_, _) => Mark::STANZA,
+        Named::Header(file, _) => Mark::STANZA + wide(file),
     }
 }
 

@@ -11,10 +11,10 @@ ghost use Rattle.conversation.specs.PhaseTwo.{isMissing, isSecondKey, isTooMany
 ghost use Rattle.phase_two_commands.specs.Commands.{namedSaid, commandSaid};
 use crate::questions::all_reported;
 use crate::questions::any_invalid;
-use crate::questions::belongs_to;
 use crate::questions::has_error_for;
+use crate::questions::has_header;
 use crate::questions::has_labelled;
-use crate::questions::is_unknown_at;
+use crate::questions::is_unknown_in;
 use look_up::count_stanzas;
 use look_up::has_file;
 use look_up::has_key;
@@ -43,7 +43,7 @@ fn is_nameless(tables: Tables, named: Named, header_slots: &[[usize; 4]]) -> boo
         Named::Internal => false,
         Named::Identity(i) => is_beyond(i, tables.identities.count),
         Named::Recipient(i) => is_beyond(i, tables.recipients.count),
-        Named::Header(file, i) => !belongs_to(tables.headers, wide(file), wide(i), header_slots),
+        Named::Header(file, i) => !has_header(tables.headers, wide(file), wide(i), header_slots),
     }
 }
 
@@ -137,23 +137,12 @@ fn is_against_work(tables: Tables, named: Named, slots: &[[usize; 4]]) -> bool
 }
 
 // 11: work and error together.
-fn is_clashing(
-    tables: Tables,
-    command: CommandTwo,
-    slots: &[[usize; 4]],
-    header_slots: &[[usize; 4]],
-) -> bool
-    ensures { λ r. ⌜ r ≡ isClashing (tablesIn tables (now (slots .entry)) (now («header_slots» .entry))) (commandSaid command) ⌝ }
+fn is_clashing(tables: Tables, command: CommandTwo, slots: &[[usize; 4]]) -> bool
+    ensures { λ r. ⌜ ((hs : List (List ℕ)) → r ≡ isClashing (tablesIn tables (now (slots .entry)) hs) (commandSaid command)) ⌝ }
 {
     match command {
         CommandTwo::Stanza(_) => 0 < tables.errors.count,
-        CommandTwo::Key(file) => has_error_for(
-            tables.headers,
-            tables.errors,
-            wide(file),
-            slots,
-            header_slots,
-        ),
+        CommandTwo::Key(file) => has_error_for(tables.errors, wide(file), slots),
         CommandTwo::Error(named) => is_against_work(tables, named, slots),
         CommandTwo::Ask(_) => false,
         CommandTwo::Done => false,
@@ -180,7 +169,7 @@ fn is_for_unknown(tables: Tables, named: Named, header_slots: &[[usize; 4]]) -> 
         Named::Internal => false,
         Named::Identity(_) => false,
         Named::Recipient(_) => false,
-        Named::Header(_, i) => is_unknown_at(tables.headers, wide(i), header_slots),
+        Named::Header(file, i) => is_unknown_in(tables.headers, wide(file), wide(i), header_slots),
     }
 }
 
@@ -281,7 +270,7 @@ pub fn rule_two(
     if is_too_many(tables, command, slots) {
         return Verdict::Refused(Refusal::TooManyStanzas);
     }
-    if is_clashing(tables, command, slots, header_slots) {
+    if is_clashing(tables, command, slots) {
         return Verdict::Refused(Refusal::WorkAndError);
     }
     if is_held_by(own, tables, command, slots, header_slots) {

@@ -1,11 +1,33 @@
 // What the decision of phase two asks of the tables, each question by the tables that it needs.
 ghost use mathlib.Core.Path.{_≡_};
 ghost use mathlib.Core.Bool.{not, _||_};
-ghost use Rattle.refusal.specs.Pick.{pick};
+ghost use mathlib.Core.List.{[]};
+ghost use Prim.Native.Nat.{_+_};
+ghost use lib.Dec.{ltb};
+ghost use lib.ListN.{take};
 ghost use Rattle.tables.specs.Tables.{tableIn};
 ghost use Rattle.session.specs.Tables.{spanOf, tablesIn};
-ghost use Rattle.conversation.specs.PhaseTwo.{labelOf, labels, isAny, passes, isFile, isNaming, isAbout, isInvalid, isNonconforming, isUnknown, areReported, allReported};
+ghost use Rattle.conversation.specs.PhaseTwo.{
+  labelOf,
+  labels,
+  howMany,
+  isAny,
+  passes,
+  among,
+  isFile,
+  isNaming,
+  isAbout,
+  isInvalid,
+  isNonconforming,
+  isUnknown,
+  areReported,
+  areStanzasReported,
+  allReported,
+};
+use look_up::count_before;
 use look_up::count_entries;
+use look_up::count_file;
+use look_up::number_of;
 use session::Kind;
 use session::Mark;
 use session::Tables;
@@ -15,57 +37,58 @@ use tables::Span;
 use tables::Table;
 use tables::entry_at;
 
-// Whether the header stanza of a number is of a file.
-pub(crate) fn belongs_to(headers: Table, file: usize, i: usize, header_slots: &[[usize; 4]]) -> bool
-    ensures { λ r. ⌜ r ≡ passes (isFile file) (labels (tableIn (spanOf Kind.Headers) headers (now («header_slots» .entry)))) i ⌝ }
+// Whether a file has a header stanza of a number: more than so many.
+pub(crate) fn has_header(headers: Table, file: usize, i: usize, header_slots: &[[usize; 4]]) -> bool
+    ensures { λ r. ⌜ r ≡ ltb i (howMany (isFile file) (labels (tableIn (spanOf Kind.Headers) headers (now («header_slots» .entry))))) ⌝ }
 {
-    let span = span_of(Kind::Headers);
-    if count_entries(headers, span, header_slots) <= i {
-        return false;
-    }
-    let e = entry_at(span, i, header_slots);
-    e.index == file
+    i < count_file(headers, span_of(Kind::Headers), file, header_slots)
 }
 
-// Whether the header stanza of a number is unknown.
-pub(crate) fn is_unknown_at(headers: Table, i: usize, header_slots: &[[usize; 4]]) -> bool
-    ensures { λ r. ⌜ r ≡ passes isUnknown (labels (tableIn (spanOf Kind.Headers) headers (now («header_slots» .entry)))) i ⌝ }
+// Whether the header stanza of a number, of all, is unknown.
+fn is_unknown_at(headers: Table, n: usize, header_slots: &[[usize; 4]]) -> bool
+    ensures { λ r. ⌜ r ≡ passes isUnknown (labels (tableIn (spanOf Kind.Headers) headers (now («header_slots» .entry)))) n ⌝ }
 {
     let span = span_of(Kind::Headers);
-    if count_entries(headers, span, header_slots) <= i {
+    if count_entries(headers, span, header_slots) <= n {
         return false;
     }
-    let e = entry_at(span, i, header_slots);
+    let e = entry_at(span, n, header_slots);
     e.mark == Mark::UNKNOWN
 }
 
-// Whether an entry is an error for a header stanza of a file.
-fn is_about(headers: Table, file: usize, e: Entry, header_slots: &[[usize; 4]]) -> bool
-    ensures { λ r. ⌜ r ≡ isAbout (labels (tableIn (spanOf Kind.Headers) headers (now («header_slots» .entry)))) file (labelOf e) ⌝ }
+// Whether the i-th header stanza of a file is unknown.
+pub(crate) fn is_unknown_in(
+    headers: Table,
+    file: usize,
+    i: usize,
+    header_slots: &[[usize; 4]],
+) -> bool
+    ensures { λ r. ⌜ r ≡ passes isUnknown (among (isFile file) (labels (tableIn (spanOf Kind.Headers) headers (now («header_slots» .entry))))) i ⌝ }
 {
-    if e.mark != Mark::STANZA {
+    let span = span_of(Kind::Headers);
+    let n = number_of(headers, span, file, i, header_slots);
+    is_unknown_at(headers, n, header_slots)
+}
+
+// Whether an entry is an error for a header stanza of a file.
+fn is_about(file: usize, e: Entry) -> bool
+    ensures { λ r. ⌜ r ≡ isAbout file (labelOf e) ⌝ }
+{
+    if e.mark < Mark::STANZA {
         return false;
     }
-    belongs_to(headers, file, e.index, header_slots)
+    e.mark - Mark::STANZA == file
 }
 
 // Whether there is an error for a header stanza of a file.
-pub(crate) fn has_error_for(
-    headers: Table,
-    errors: Table,
-    file: usize,
-    slots: &[[usize; 4]],
-    header_slots: &[[usize; 4]],
-) -> bool
-    ensures { λ r. ⌜ r ≡
-        isAny (isAbout (labels (tableIn (spanOf Kind.Headers) headers (now («header_slots» .entry)))) file)
-        (labels (tableIn (spanOf Kind.Errors) errors (now (slots .entry)))) ⌝ }
+pub(crate) fn has_error_for(errors: Table, file: usize, slots: &[[usize; 4]]) -> bool
+    ensures { λ r. ⌜ r ≡ isAny (isAbout file) (labels (tableIn (spanOf Kind.Errors) errors (now (slots .entry)))) ⌝ }
 {
     let span = span_of(Kind::Errors);
     let mut i = 0;
     while i < count_entries(errors, span, slots) {
         let e = entry_at(span, i, slots);
-        if is_about(headers, file, e, header_slots) {
+        if is_about(file, e) {
             return true;
         }
         i += 1;
@@ -119,16 +142,6 @@ pub(crate) fn has_labelled(
     false
 }
 
-// Whether an entry owes an error, by its mark: a header stanza that is nonconforming, another entry that is invalid.
-fn is_owing(header: bool, e: Entry) -> bool
-    ensures { λ r. ⌜ r ≡ pick header isNonconforming isInvalid (labelOf e) ⌝ }
-{
-    if header {
-        return e.mark == Mark::NONCONFORMING;
-    }
-    e.mark != Mark::VALID
-}
-
 // Whether an entry owes no error, or has had it.
 fn is_settled(owing: bool, errors: Table, mark: usize, n: usize, slots: &[[usize; 4]]) -> bool
     ensures { λ r. ⌜ r ≡ (not owing || isAny (isNaming mark n) (labels (tableIn (spanOf Kind.Errors) errors (now (slots .entry))))) ⌝ }
@@ -139,24 +152,84 @@ fn is_settled(owing: bool, errors: Table, mark: usize, n: usize, slots: &[[usize
     true
 }
 
-// Whether each entry of a table that owes an error has had it. `own` are the table's slots.
-fn are_reported(
-    header: bool,
-    table: Table,
-    span: Span,
-    own: &[[usize; 4]],
+// Whether each invalid entry of a table has had its error.
+fn are_reported(table: Table, span: Span, errors: Table, mark: usize, slots: &[[usize; 4]]) -> bool
+    ensures { λ r. ⌜ r ≡
+        areReported isInvalid mark 0 (labels (tableIn span table (now (slots .entry)))) (labels (tableIn (spanOf Kind.Errors) errors (now (slots .entry)))) ⌝ }
+{
+    let mut i = 0;
+    while i < count_entries(table, span, slots) {
+        let e = entry_at(span, i, slots);
+        if !is_settled(e.mark != Mark::VALID, errors, mark, i, slots) {
+            return false;
+        }
+        i += 1;
+    }
+    true
+}
+
+// Whether an entry is the error for the i-th header stanza of a file.
+fn names_stanza(file: usize, i: usize, e: Entry) -> bool
+    ensures { λ r. ⌜ r ≡ isNaming (3 + file) i (labelOf e) ⌝ }
+{
+    if !is_about(file, e) {
+        return false;
+    }
+    e.index == i
+}
+
+// Whether the i-th header stanza of a file has had its error.
+fn has_stanza_error(errors: Table, file: usize, i: usize, slots: &[[usize; 4]]) -> bool
+    ensures { λ r. ⌜ r ≡ isAny (isNaming (3 + file) i) (labels (tableIn (spanOf Kind.Errors) errors (now (slots .entry)))) ⌝ }
+{
+    let span = span_of(Kind::Errors);
+    let mut k = 0;
+    while k < count_entries(errors, span, slots) {
+        let e = entry_at(span, k, slots);
+        if names_stanza(file, i, e) {
+            return true;
+        }
+        k += 1;
+    }
+    false
+}
+
+// Whether a header stanza, the n-th of all, conforms or is unknown, or has had its error: the one of its file and its number there.
+fn is_stanza_settled(
+    headers: Table,
+    e: Entry,
+    n: usize,
+    header_slots: &[[usize; 4]],
     errors: Table,
-    mark: usize,
+    slots: &[[usize; 4]],
+) -> bool
+    ensures { λ r. ⌜ r ≡ (not (isNonconforming (labelOf e)) || isAny
+        (isNaming (3 + e .index) (howMany (isFile (e .index)) (take n (labels (tableIn (spanOf Kind.Headers) headers (now («header_slots» .entry)))))))
+        (labels (tableIn (spanOf Kind.Errors) errors (now (slots .entry))))) ⌝ }
+{
+    if e.mark != Mark::NONCONFORMING {
+        return true;
+    }
+    let i = count_before(headers, span_of(Kind::Headers), e.index, n, header_slots);
+    has_stanza_error(errors, e.index, i, slots)
+}
+
+// Whether each nonconforming header stanza has had its error.
+fn are_stanzas_reported(
+    headers: Table,
+    header_slots: &[[usize; 4]],
+    errors: Table,
     slots: &[[usize; 4]],
 ) -> bool
     ensures { λ r. ⌜ r ≡
-        areReported (pick header isNonconforming isInvalid) mark 0 (labels (tableIn span table (now (own .entry))))
+        areStanzasReported [] (labels (tableIn (spanOf Kind.Headers) headers (now («header_slots» .entry))))
         (labels (tableIn (spanOf Kind.Errors) errors (now (slots .entry)))) ⌝ }
 {
+    let span = span_of(Kind::Headers);
     let mut i = 0;
-    while i < count_entries(table, span, own) {
-        let e = entry_at(span, i, own);
-        if !is_settled(is_owing(header, e), errors, mark, i, slots) {
+    while i < count_entries(headers, span, header_slots) {
+        let e = entry_at(span, i, header_slots);
+        if !is_stanza_settled(headers, e, i, header_slots, errors, slots) {
             return false;
         }
         i += 1;
@@ -175,10 +248,8 @@ pub(crate) fn all_reported(
     let errors = tables.errors;
     let recipients = span_of(Kind::Recipients);
     if !are_reported(
-        false,
         tables.recipients,
         recipients,
-        slots,
         errors,
         Mark::RECIPIENT,
         slots,
@@ -186,25 +257,8 @@ pub(crate) fn all_reported(
         return false;
     }
     let identities = span_of(Kind::Identities);
-    if !are_reported(
-        false,
-        tables.identities,
-        identities,
-        slots,
-        errors,
-        Mark::IDENTITY,
-        slots,
-    ) {
+    if !are_reported(tables.identities, identities, errors, Mark::IDENTITY, slots) {
         return false;
     }
-    let headers = span_of(Kind::Headers);
-    are_reported(
-        true,
-        tables.headers,
-        headers,
-        header_slots,
-        errors,
-        Mark::STANZA,
-        slots,
-    )
+    are_stanzas_reported(tables.headers, header_slots, errors, slots)
 }

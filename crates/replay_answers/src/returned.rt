@@ -2,7 +2,6 @@
 use crate::print::Output;
 use crate::print::print_row;
 use crate::print::put_number;
-use crate::show::HeaderSlots;
 use crate::show::Slots;
 use look_up::ErrorNamed;
 use replay_lines::append;
@@ -19,7 +18,6 @@ const NO_FILE: usize = usize::MAX;
 pub fn print_errors(
     tables: Tables,
     slots: &Slots,
-    header_slots: &HeaderSlots,
     errors: &[u8],
     out: &mut Output,
     at: usize,
@@ -28,7 +26,7 @@ pub fn print_errors(
     let mut next = at;
     let mut n: usize = 0;
     while n < count {
-        let named = look_up::error_named(tables, n, slots, header_slots);
+        let named = look_up::error_named(tables, n, slots);
         next = print_error(
             n,
             named,

@@ -142,7 +142,7 @@ fn show(
         d,
     );
     let e = rear(recipients, lengths.errors);
-    let l = print_errors(tables, slots, header_slots, e, out, j);
+    let l = print_errors(tables, slots, e, out, j);
     let s = rear(identities, lengths.stanzas);
     let m = print_stanzas(tables, slots, s, out, l);
     let f = rear(keys, lengths.returned);

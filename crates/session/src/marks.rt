@@ -16,6 +16,7 @@ impl Mark {
 
     pub const RECIPIENT: usize = 2;
 
+    // The first of a header stanza's: 3 and its file.
     pub const STANZA: usize = 3;
 
     // File keys, returned stanzas and returned keys have none.

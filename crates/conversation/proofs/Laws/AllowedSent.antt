@@ -1,5 +1,5 @@
 -- Phase two at the plugin end: exactly the allowed lists of exchanges are accepted.
-use Prim.Native.Nat.{ℕ, zero, suc, _+_, _≤_}
+use Prim.Native.Nat.{ℕ, zero, suc, _+_, _<_, _≤_}
 use mathlib.Core.Path.{_≡_, refl, sym, ap, ap₂, _∙_, subst, subst₂}
 use mathlib.Core.Bool.{Bool, true, false, not, _&&_, _||_, true≢false, false≢true}
 use mathlib.Core.Logic.{_⊎_, inl, inr, ⊎-elim, _↔_}
@@ -26,8 +26,8 @@ use Rattle.phase_one.specs.Views.{recipients, identities, headers}
 use Rattle.session.specs.declared.phases.Phase.the-variants.{Two, Awaiting, Ended}
 use Rattle.conversation.specs.Calls.{Call, send-two, respond, sentNumber, respondedNumber, outcome, writtenBy, stateOf, after, numbers, lineRead, bodyRead, AllZero, Accepted}
 use Rattle.conversation.specs.CommandsTwo.{Named, internal, identity, recipient, header, CommandTwo, ask, stanza, key, error, done, other, bad, wordOf}
-use Rattle.conversation.specs.Kinds.{Buffers, buffersOf}
-use Rattle.conversation.specs.PhaseTwo.{Label, labels, howMany, isAny, passes, isFile, markOf, indexOf, isNaming, isInvalid, anyInvalid, isNonconforming, isUnknown, areReported, allReported, isHeldBack, decided, applied, filledBy, rowsOf, errors}
+use Rattle.conversation.specs.Kinds.{Buffers, buffersOf, ofFile}
+use Rattle.conversation.specs.PhaseTwo.{Label, labels, howMany, isAny, passes, among, isFile, markOf, indexOf, isNaming, isInvalid, anyInvalid, isNonconforming, isUnknown, areReported, areStanzasReported, allReported, isHeldBack, decided, applied, filledBy, rowsOf, errors}
 use Rattle.conversation.specs.Phases.{All, bodyIn, isError, Supply, skip, LongEnough}
 use Rattle.conversation.specs.Responding as responding
 use Rattle.conversation.specs.Responding.{respondedAs, respondedText}
@@ -39,13 +39,14 @@ use Rattle.conversation.proofs.Laws.Accepted.{accepted}
 use Rattle.conversation.proofs.Laws.AllowedTwo.{Standing, decided-exact, standing-with, Fitting, fitting-front, fitting-one, fitting-rest, done-word}
 use Rattle.conversation.proofs.Laws.CommandsTwo.{Proper, command-proper}
 use Rattle.conversation.proofs.Laws.Firsts.{first-iff}
-use Rattle.conversation.proofs.Laws.DecidedTwo.{decided-iff, rowLabel, rowLabels, labels-view, many-append}
+use Rattle.conversation.proofs.Laws.DecidedTwo.{decided-iff, rowLabel, rowLabels, labels-view, many-append, of-file-among}
 use Rattle.conversation.proofs.Laws.OrderTwo.{begins, two-session, fitting-all}
 use Rattle.conversation.proofs.Laws.PresentTwo.{Shows}
 use Rattle.conversation.proofs.Laws.Reached.{JustReached}
+use Rattle.conversation.proofs.Laws.ReportedTwo as reported
 use Rattle.conversation.proofs.Laws.Runs.{accepted-append, enough-append}
 use Rattle.conversation.proofs.Laws.StepsTwo.{long-enough, at, Settled}
-use Rattle.conversation.proofs.Laws.SumsTwo.{With, not-any, none-any, or-false, false-or, not-is}
+use Rattle.conversation.proofs.Laws.SumsTwo.{With, not-any, none-any, or-false, false-or, assured, not-is}
 use Rattle.conversation.proofs.Laws.ViewsTwo.{applied-view-two}
 use Rattle.conversation.proofs.Laws.WrittenRead.{front}
 
@@ -75,11 +76,11 @@ conforming-same f r = (
 )
 
 -- the stanza of a number that is there is known
-known-iff : (P : Row → Type 0) (rs : List Row) (i : ℕ) → RowAt P rs i → (passes isUnknown (rowLabels rs) i ≡ false) ↔ RowAt (λ r. r .mark ≡ 2 → ⊥) rs i
+known-iff : (rs : List Row) (i : ℕ) → i < length rs → (passes isUnknown (rowLabels rs) i ≡ false) ↔ RowAt (λ r. r .mark ≡ 2 → ⊥) rs i
 unfolding passes RowAt
-known-iff P [] i h = absurd h
-known-iff P (r ∷ rs) zero h = (eqb-false (r .mark) 2, ne-eqb (r .mark) 2)
-known-iff P (r ∷ rs) (suc i) h = known-iff P rs i h
+known-iff [] i h = absurd (omega arith)
+known-iff (r ∷ rs) zero h = (eqb-false (r .mark) 2, ne-eqb (r .mark) 2)
+known-iff (r ∷ rs) (suc i) h = known-iff rs i (omega arith)
 
 or-iff : {X Y : Type 0} (a b : Bool) → (a ≡ false) ↔ X → (b ≡ false) ↔ Y → ((a || b) ≡ false) ↔ (X × Y)
 or-iff a b i j = (λ e. let h = or-false a b e in (i .0 (h .0), j .0 (h .1)), λ h. false-or a b (i .1 (h .0)) (j .1 (h .1)))
@@ -99,7 +100,9 @@ module _ (t : Tables) (left : Left) (s : Shows t left) where
   unheld-iff (error internal) d p = (λ e. tt, λ e. refl)
   unheld-iff (error (identity i)) d p = (λ e. tt, λ e. refl)
   unheld-iff (error (recipient i)) d p = (λ e. tt, λ e. refl)
-  unheld-iff (error (header f i)) d p = subst (λ l. (passes isUnknown l i ≡ false) ↔ RowAt (λ r. r .mark ≡ 2 → ⊥) (left headers) i) (sym (s .labelled headers)) (known-iff (λ r. r .index ≡ f) (left headers) i p)
+  unheld-iff (error (header f i)) d p =
+      subst (λ l. (passes isUnknown l i ≡ false) ↔ RowAt (λ r. r .mark ≡ 2 → ⊥) (ofFile f (left headers)) i) (sym (ap (among (isFile f)) (s .labelled headers) ∙ of-file-among f (left headers)))
+      (known-iff (ofFile f (left headers)) i p)
   unheld-iff done d p = absurd (false≢true d)
   unheld-iff other d p = (λ e. tt, λ e. refl)
   unheld-iff (bad n) d p = (λ e. tt, λ e. refl)
@@ -153,23 +156,33 @@ module _ (q : Label → Bool) (P : CommandTwo → Type 0) (same : (x : Named) �
       let j = some-iff cs in
       (λ e. ⊎-elim (λ h. inl (i .0 h)) (λ h. inr (j .0 h)) (a .0 e), λ h. a .1 (⊎-elim (λ h. inl (i .1 h)) (λ h. inr (j .1 h)) h))
 
+-- the mark of a header stanza's error is no other's
+apart : (m f n i : ℕ) → (3 + f ≡ m → ⊥) → (eqb (3 + f) m && eqb i n) ≡ true → ⊥
+apart m f n i d e = d (eqb-true (3 + f) m (and-true (eqb (3 + f) m) (eqb i n) e .0))
+
+other-mark : (m f n i : ℕ) → (m ≡ 3 + f → ⊥) → (eqb m (3 + f) && eqb i n) ≡ true → ⊥
+other-mark m f n i d e = d (eqb-true m (3 + f) (and-true (eqb m (3 + f)) (eqb i n) e .0))
+
 names-recipient : (n : ℕ) (x : Named) → (isNaming 2 n (labelNamed x) ≡ true) ↔ (error x ≡ error (recipient n))
 names-recipient n internal = (λ e. absurd (false≢true e), λ e. let z : _≡_ {A = ℕ} 0 1 = cc in absurd (omega arith))
 names-recipient n (identity i) = (λ e. absurd (false≢true e), λ e. let z : _≡_ {A = ℕ} 0 1 = cc in absurd (omega arith))
 names-recipient n (recipient i) = (λ e. ap (λ j. error (recipient j)) (eqb-true i n e), λ e. let z : i ≡ n = cc in eq-eqb i n z)
-names-recipient n (header f i) = (λ e. absurd (false≢true e), λ e. let z : _≡_ {A = ℕ} 0 1 = cc in absurd (omega arith))
+names-recipient n (header f i) = (λ e. absurd (apart 2 f n i (λ z. omega arith) e), λ e. let z : _≡_ {A = ℕ} 0 1 = cc in absurd (omega arith))
 
 names-identity : (n : ℕ) (x : Named) → (isNaming 1 n (labelNamed x) ≡ true) ↔ (error x ≡ error (identity n))
 names-identity n internal = (λ e. absurd (false≢true e), λ e. let z : _≡_ {A = ℕ} 0 1 = cc in absurd (omega arith))
 names-identity n (identity i) = (λ e. ap (λ j. error (identity j)) (eqb-true i n e), λ e. let z : i ≡ n = cc in eq-eqb i n z)
 names-identity n (recipient i) = (λ e. absurd (false≢true e), λ e. let z : _≡_ {A = ℕ} 0 1 = cc in absurd (omega arith))
-names-identity n (header f i) = (λ e. absurd (false≢true e), λ e. let z : _≡_ {A = ℕ} 0 1 = cc in absurd (omega arith))
+names-identity n (header f i) = (λ e. absurd (apart 1 f n i (λ z. omega arith) e), λ e. let z : _≡_ {A = ℕ} 0 1 = cc in absurd (omega arith))
 
-names-header : (n : ℕ) (x : Named) → (isNaming 3 n (labelNamed x) ≡ true) ↔ ((f : ℕ) × (error x ≡ error (header f n)))
-names-header n internal = (λ e. absurd (false≢true e), λ q. let e = q .1 in let z : _≡_ {A = ℕ} 0 1 = cc in absurd (omega arith))
-names-header n (identity i) = (λ e. absurd (false≢true e), λ q. let e = q .1 in let z : _≡_ {A = ℕ} 0 1 = cc in absurd (omega arith))
-names-header n (recipient i) = (λ e. absurd (false≢true e), λ q. let e = q .1 in let z : _≡_ {A = ℕ} 0 1 = cc in absurd (omega arith))
-names-header n (header f i) = (λ e. (f, ap (λ j. error (header f j)) (eqb-true i n e)), λ q. let e = q .1 in let z : i ≡ n = cc in eq-eqb i n z)
+names-header : (f n : ℕ) (x : Named) → (isNaming (3 + f) n (labelNamed x) ≡ true) ↔ (error x ≡ error (header f n))
+names-header f n internal = (λ e. absurd (other-mark 0 f n 0 (λ z. omega arith) e), λ e. let z : _≡_ {A = ℕ} 0 1 = cc in absurd (omega arith))
+names-header f n (identity i) = (λ e. absurd (other-mark 1 f n i (λ z. omega arith) e), λ e. let z : _≡_ {A = ℕ} 0 1 = cc in absurd (omega arith))
+names-header f n (recipient i) = (λ e. absurd (other-mark 2 f n i (λ z. omega arith) e), λ e. let z : _≡_ {A = ℕ} 0 1 = cc in absurd (omega arith))
+names-header f n (header g i) = (
+  λ e. let a = and-true (eqb (3 + g) (3 + f)) (eqb i n) e in let z : 3 + g ≡ 3 + f = eqb-true (3 + g) (3 + f) (a .0) in let k : g ≡ f = omega arith in ap₂ (λ f i. error (header f i)) k (eqb-true i n (a .1)),
+  λ e. let y : g ≡ f = cc in let z : i ≡ n = cc in true-and (eqb (3 + g) (3 + f)) (eqb i n) (eq-eqb (3 + g) (3 + f) (ap (λ f. 3 + f) y)) (eq-eqb i n z),
+)
 
 -- each row that owes an error has had it
 module _ (test : Label → Bool) (Owes : Row → Type 0) (same : (r : Row) → (test (rowLabel r) ≡ true) ↔ Owes r) (mark : ℕ) (Names : ℕ → CommandTwo → Type 0) (es : List Label) (cs : List Said)
@@ -188,19 +201,31 @@ module _ (test : Label → Bool) (Owes : Row → Type 0) (same : (r : Row) → (
 invalid-same : (r : Row) → (isInvalid (rowLabel r) ≡ true) ↔ (r .mark ≡ 0 → ⊥)
 invalid-same r = (λ e z. true≢false (sym e ∙ valid-same r .1 z), λ h. rw (ne-eqb (r .mark) 0 h))
 
-nonconforming-same : (r : Row) → (isNonconforming (rowLabel r) ≡ true) ↔ (r .mark ≡ 1)
-nonconforming-same r = (eqb-true (r .mark) 1, eq-eqb (r .mark) 1)
-
 -- no error is owed exactly if the list of commands reports all; the errors' table holds those of the list
 pub all-reported-iff : (t : Tables) (left : Left) (cs : List Said) → Shows t left → labels (t .errors) ≡ namedIn cs → (allReported t ≡ true) ↔ AllReported left cs
 all-reported-iff t left cs s e =
     let r = of recipients isInvalid (λ r. r .mark ≡ 0 → ⊥) invalid-same 2 (λ n c. c ≡ error (recipient n)) names-recipient (λ n c h. ap isError h) in
     let i = of identities isInvalid (λ r. r .mark ≡ 0 → ⊥) invalid-same 1 (λ n c. c ≡ error (identity n)) names-identity (λ n c h. ap isError h) in
-    let h = of headers isNonconforming (λ r. r .mark ≡ 1) nonconforming-same 3 (λ n c. (f : ℕ) × (c ≡ error (header f n))) names-header (λ n c h. ap isError (h .1)) in (
+    let h = subst₂ (λ l es. (areStanzasReported [] l es ≡ true) ↔ ((f i : ℕ) → RowAt (λ r. r .mark ≡ 1) (ofFile f (left headers)) i → Some (λ c. c ≡ error (header f i)) cs)) (sym (s .labelled headers)) (sym e) stanzas-iff in (
       λ z. let a = and-true _ _ z in let b = and-true _ _ (a .0) in record { of-recipients = r .0 (b .0); of-identities = i .0 (b .1); of-headers = h .0 (a .1) },
       λ y. true-and _ _ (true-and _ _ (r .1 (y .of-recipients)) (i .1 (y .of-identities))) (h .1 (y .of-headers)),
     )
   where
+    -- error stanza f i
+    had : (f i : ℕ) → (isAny (isNaming (3 + f) i) (namedIn cs) ≡ true) ↔ Some (λ c. c ≡ error (header f i)) cs
+    had f i = some-iff (isNaming (3 + f) i) (λ c. c ≡ error (header f i)) (names-header f i) (λ c h. ap isError h) cs
+
+    none-before : (f i : ℕ) → length (ofFile f []) + i ≡ i
+    none-before f i = unfold ofFile in omega arith
+
+    stanzas-iff : (areStanzasReported [] (rowLabels (left headers)) (namedIn cs) ≡ true) ↔ ((f i : ℕ) → RowAt (λ r. r .mark ≡ 1) (ofFile f (left headers)) i → Some (λ c. c ≡ error (header f i)) cs)
+    stanzas-iff = (
+      λ z f i h. cases (isAny (isNaming (3 + f) i) (namedIn cs)) (λ y. had f i .0 y)
+          (λ y. absurd (true≢false (sym z ∙ reported.owed-to (namedIn cs) _ had [] (left headers) (f, i, h, λ x. true≢false (sym (had f i .1 (subst (λ n. Some (λ c. c ≡ error (header f n)) cs) (none-before f i) x)) ∙ y))))),
+      λ h. assured (areStanzasReported [] (rowLabels (left headers)) (namedIn cs))
+          (λ z. let k = reported.owed-from (namedIn cs) _ had [] (left headers) z in k .3 (subst (λ n. Some (λ c. c ≡ error (header (k .0) n)) cs) (sym (none-before (k .0) (k .1))) (h (k .0) (k .1) (k .2)))),
+    )
+
     of : (k : one-kind.KindOne) (test : Label → Bool) (Owes : Row → Type 0) → ((r : Row) → (test (rowLabel r) ≡ true) ↔ Owes r) → (mark : ℕ) (Names : ℕ → CommandTwo → Type 0) →
         ((n : ℕ) (x : Named) → (isNaming mark n (labelNamed x) ≡ true) ↔ Names n (error x)) → ((n : ℕ) (c : CommandTwo) → Names n c → isError c ≡ true) →
         (areReported test mark 0 (labels (one-kind.tableOf k t)) (labels (t .errors)) ≡ true) ↔ Reported Owes Names 0 (left k) cs

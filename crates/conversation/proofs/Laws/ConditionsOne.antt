@@ -20,7 +20,8 @@ use Rattle.stanza.specs.Arguments.{argumentOf}
 use Rattle.conversation.specs.PhaseTwo.{when}
 use Rattle.conversation.specs.Kinds.{AnyKind, first, Buffers, viewOf}
 use Rattle.conversation.specs.Numbers.{SayingOne, SaysOne, Falling, Full, stanzaPayload, SpacelessOne, recipient-spaceless, identity-spaceless, key-spaceless, header-spaceless}
-use Rattle.conversation.proofs.Laws.ConditionsTwo.{assured, kept-any, full-iff}
+use Rattle.conversation.proofs.Laws.ConditionsTwo.{kept-any, full-iff}
+use Rattle.conversation.proofs.Laws.SumsTwo.{assured}
 use Rattle.conversation.proofs.Laws.Limits.{lastOf, last-is, no-fall}
 use Rattle.conversation.proofs.Laws.Reached.{ReachedSession}
 use Rattle.conversation.proofs.Laws.RowsOne.{SaidOne, says-recipient, says-identity, says-key, says-header}

@@ -3,12 +3,11 @@ use Prim.Native.Nat.{ℕ, zero, suc, _+_, _<_, _≤_}
 use mathlib.Core.Path.{_≡_, refl, sym, ap, _∙_, subst}
 use mathlib.Core.Bool.{Bool, true, false, not, _&&_, _||_, true≢false, false≢true}
 use mathlib.Core.Logic.{_⊎_, inl, inr, ⊎-elim, _↔_}
-use mathlib.Core.List.{List, [], _∷_, _++_}
+use mathlib.Core.List.{List, [], _∷_}
 use lib.Dec.{ltb, leb, eqb}
 use lib.ListN.{length, length-map}
 use native.Mathlib.Omega.{arith}
 use borrow.Author.Tests.{ltb-true, ltb-false, leb-true, leb-false, lt-ltb, le-ltb, le-leb, lt-leb, eqb-true, eqb-false, eq-eqb, ne-eqb, not-true, not-false}
-use Rattle.refusal.specs.Pick.{pick}
 use Rattle.refusal.proofs.Laws.Booleans.{and-true, true-and}
 use Rattle.tables.specs.declared.slots.Entry.{Entry}
 use Rattle.tables.specs.Tables.{Row, fits, rowOf}
@@ -21,28 +20,19 @@ use Rattle.phase_one.proofs.Laws.Views.{Reached}
 use Rattle.conversation.specs.CommandsTwo as command
 use Rattle.conversation.specs.CommandsTwo.{CommandTwo, ask, stanza, key, error, done, other, bad, commandTwo, payloadOf}
 use Rattle.conversation.specs.PhaseTwo as two
-use Rattle.conversation.specs.PhaseTwo.{errors, stanzas, returned, Label, labels, howMany, isAny, passes, isFile, isNaming, isAbout, stanzasFor, mostStanzas, hasKey, isMissing, isSecondKey, isTooMany, isAgainstKey, isClashing, isSpaceless, isInvalid, anyInvalid, isNonconforming, isUnknown, areReported, isHeldBack}
+use Rattle.conversation.specs.PhaseTwo.{errors, stanzas, returned, Label, labels, howMany, isAny, passes, among, isFile, headersOf, hasHeader, isNaming, isAbout, stanzasFor, mostStanzas, hasKey, isMissing, isSecondKey, isTooMany, isAgainstKey, isClashing, isSpaceless, isInvalid, anyInvalid, isNonconforming, isUnknown, areReported, areStanzasReported, isHeldBack}
 use Rattle.conversation.specs.Kinds.{AnyKind, first, second, Buffers, tableOf, viewOf, ofFile}
 use Rattle.conversation.specs.Allowed.{RowAt}
 use Rattle.conversation.specs.Numbers.{Naming, internal, identity, recipient, header, SayingTwo, returns-stanza, returns-key, reports, ends-two, SaysTwo, SomeRow, Missing, no-file-key, no-file, no-identity, no-recipient, no-stanza, Second, TooMany, Together, stanza-with-errors, error-with-stanzas, key-with-error, error-with-key, Invalid, NoError, Held, stanza-held, key-held, key-nonconforming, error-unknown, recipient-owed, identity-owed, stanza-owed, entriesOf, lengthsOf, slotsFor, bufferFor, Full, stanzaPayload, SpacelessTwo, stanza-spaceless, returned-spaceless, error-spaceless}
-use Rattle.conversation.proofs.Laws.DecidedTwo.{rowLabel, rowLabels, labels-view}
+use Rattle.conversation.proofs.Laws.DecidedTwo.{rowLabel, rowLabels, labels-view, of-file-many, of-file-among}
 use Rattle.conversation.proofs.Laws.PresentTwo.{at-iff, any-iff}
 use Rattle.conversation.proofs.Laws.Reached.{ReachedSession}
+use Rattle.conversation.proofs.Laws.ReportedTwo as reported
 use Rattle.conversation.proofs.Laws.RowsTwo.{commandSaid, namingOf, SaidTwo, says-command}
-use Rattle.conversation.proofs.Laws.SumsTwo.{or-false, false-or}
+use Rattle.conversation.proofs.Laws.SumsTwo.{or-false, false-or, refuted, and-false, false-and}
 use Rattle.conversation.proofs.Laws.ViewsTwo.{kept-two}
 
 -- ---- tests
-
--- a test that cannot hold
-pub refuted : (f : Bool) → (f ≡ true → ⊥) → f ≡ false
-refuted true h = absurd (h refl)
-refuted false h = refl
-
--- one that cannot fail
-pub assured : (f : Bool) → (f ≡ false → ⊥) → f ≡ true
-assured true h = refl
-assured false h = absurd (h refl)
 
 or-true : (a b : Bool) → (a || b) ≡ true → (a ≡ true) ⊎ (b ≡ true)
 or-true true b e = inl refl
@@ -52,14 +42,6 @@ pub true-or : (a b : Bool) → (a ≡ true) ⊎ (b ≡ true) → (a || b) ≡ tr
 true-or true b h = refl
 true-or false b h = ⊎-elim (λ e. absurd (false≢true e)) (λ e. e) h
 
-and-false : (a b : Bool) → (a && b) ≡ false → (a ≡ false) ⊎ (b ≡ false)
-and-false true b e = inr e
-and-false false b e = inl refl
-
-false-and : (a b : Bool) → (a ≡ false) ⊎ (b ≡ false) → (a && b) ≡ false
-false-and true b h = ⊎-elim (λ e. absurd (true≢false e)) (λ e. e) h
-false-and false b h = refl
-
 -- ---- what the tables of a session that calls can reach show
 
 -- entries one behind the other have their lengths' sum
@@ -67,16 +49,6 @@ chain-sum : (es : List Entry) (s u : ℕ) → Chained s es u → s + lengthsOf e
 unfolding Chained lengthsOf
 chain-sum [] s u h = omega arith
 chain-sum (e ∷ es) s u h = omega (arith, chain-sum es (s + e .length) u (h .1))
-
--- as many rows of a file as labels of it
-of-file-many : (f : ℕ) (rs : List Row) → howMany (isFile f) (rowLabels rs) ≡ length (ofFile f rs)
-unfolding howMany ofFile
-of-file-many f [] = refl
-of-file-many f (r ∷ rs) = go (eqb (r .index) f) (of-file-many f rs)
-  where
-    go : (g : Bool) → howMany (isFile f) (rowLabels rs) ≡ length (ofFile f rs) → pick g 1 0 + howMany (isFile f) (rowLabels rs) ≡ length (pick g (r ∷ []) [] ++ ofFile f rs)
-    go true e = omega arith
-    go false e = omega arith
 
 -- an error is owed: a row that owes one has had none with its number; the first row has the number n
 module _ (test : Label → Bool) (Owes : Row → Type 0) (same : (x : Row) → (test (rowLabel x) ≡ true) ↔ Owes x) (mark : ℕ) (es : List Label) (Had : ℕ → Type 0)
@@ -148,8 +120,15 @@ module _ (s : Session) (b : Buffers) (r : ReachedSession s) where
   some-of : (f : ℕ) (k : AnyKind) → (isAny (isFile f) (labels (tableOf k t)) ≡ true) ↔ SomeRow (λ x. x .index ≡ f) (rows k)
   some-of f k = some-row (isFile f) (λ x. x .index ≡ f) (of-file f) k
 
-  at-of : (f i : ℕ) → (passes (isFile f) (labels (t .headers)) i ≡ true) ↔ RowAt (λ x. x .index ≡ f) (rows (first headers)) i
-  at-of f i = row-at (isFile f) (λ x. x .index ≡ f) (of-file f) (first headers) i
+  -- how many of a file there are
+  many-of : (f : ℕ) (k : AnyKind) → howMany (isFile f) (labels (tableOf k t)) ≡ length (ofFile f (rows k))
+  many-of f k = ap (howMany (isFile f)) (labelled k) ∙ of-file-many f (rows k)
+
+  -- the i-th header stanza of a file is there
+  not-there : (f i : ℕ) → (not (hasHeader t f i) ≡ true) ↔ (length (ofFile f (rows (first headers))) ≤ i)
+  not-there f i =
+      let n = howMany (isFile f) (labels (t .headers)) in
+      (λ e. omega (arith, ltb-false i n (not-true _ e), many-of f (first headers)), λ h. ap not (le-ltb i n (omega (arith, many-of f (first headers)))))
 
   some-there : (k : AnyKind) → (ltb 0 (tableOf k t .count) ≡ true) ↔ (0 < length (rows k))
   some-there k = (λ e. omega (arith, ltb-true 0 (tableOf k t .count) e, counted k), λ h. lt-ltb 0 (tableOf k t .count) (omega (arith, counted k)))
@@ -205,7 +184,7 @@ module _ (s : Session) (b : Buffers) (r : ReachedSession s) where
     missing-to (no-file f h n) = tested (isMissing t) (returns-key f) h (ap not (refuted _ (λ e. n (some-of f (first headers) .0 e))))
     missing-to (no-identity i h l) = tested (isMissing t) (reports (identity i)) h (not-below i (first identities) .1 l)
     missing-to (no-recipient i h l) = tested (isMissing t) (reports (recipient i)) h (not-below i (first recipients) .1 l)
-    missing-to (no-stanza f i h n) = tested (isMissing t) (reports (header f i)) h (ap not (refuted _ (λ e. n (at-of f i .0 e))))
+    missing-to (no-stanza f i h n) = tested (isMissing t) (reports (header f i)) h (not-there f i .1 n)
 
     pub missing-from : (c : CommandTwo) → Said c → isMissing t c ≡ true → Missing Says rows
     missing-from (ask w) h e = absurd (false≢true e)
@@ -214,10 +193,14 @@ module _ (s : Session) (b : Buffers) (r : ReachedSession s) where
     missing-from (error command.internal) h e = absurd (false≢true e)
     missing-from (error (command.identity i)) h e = no-identity i h (not-below i (first identities) .0 e)
     missing-from (error (command.recipient i)) h e = no-recipient i h (not-below i (first recipients) .0 e)
-    missing-from (error (command.header f i)) h e = no-stanza f i h (λ j. true≢false (sym (at-of f i .1 j) ∙ not-true _ e))
+    missing-from (error (command.header f i)) h e = no-stanza f i h (not-there f i .0 e)
     missing-from done h e = absurd (false≢true e)
     missing-from other h e = absurd (false≢true e)
     missing-from (bad n) h e = absurd (false≢true e)
+
+    -- of an error stanza f i: exactly if the file has i or fewer
+    pub stanza-missing : (f i : ℕ) → Says (reports (header f i)) → Missing Says rows ↔ (length (ofFile f (rows (first headers))) ≤ i)
+    stanza-missing f i h = (λ m. not-there f i .0 (sym (ap (isMissing t) (says-command (s .machine) line body (reports (header f i)) h)) ∙ missing-to m), λ l. no-stanza f i h l)
 
     -- No. 9
     pub second-to : Second Says rows → isSecondKey t said ≡ true
@@ -233,15 +216,12 @@ module _ (s : Session) (b : Buffers) (r : ReachedSession s) where
     second-from (bad n) h e = absurd (false≢true e)
 
     -- No. 10
-    many-of : (f : ℕ) → howMany (isFile f) (labels (t .stanzas)) ≡ length (ofFile f (rows (second stanzas)))
-    many-of f = ap (howMany (isFile f)) (labelled (second stanzas)) ∙ of-file-many f (rows (second stanzas))
-
     pub too-many-to : TooMany Says rows → isTooMany t said ≡ true
-    too-many-to x = tested (isTooMany t) (returns-stanza (x .file)) (x .said) (le-leb (mostStanzas t) (stanzasFor t (x .file)) (omega (arith, x .full, many-of (x .file), counted (first recipients), counted (first identities))))
+    too-many-to x = tested (isTooMany t) (returns-stanza (x .file)) (x .said) (le-leb (mostStanzas t) (stanzasFor t (x .file)) (omega (arith, x .full, many-of (x .file) (second stanzas), counted (first recipients), counted (first identities))))
 
     pub too-many-from : (c : CommandTwo) → Said c → isTooMany t c ≡ true → TooMany Says rows
     too-many-from (ask w) h e = absurd (false≢true e)
-    too-many-from (stanza f) h e = record { file = f; said = h; full = omega (arith, leb-true (mostStanzas t) (stanzasFor t f) e, many-of f, counted (first recipients), counted (first identities)) }
+    too-many-from (stanza f) h e = record { file = f; said = h; full = omega (arith, leb-true (mostStanzas t) (stanzasFor t f) e, many-of f (second stanzas), counted (first recipients), counted (first identities)) }
     too-many-from (key f) h e = absurd (false≢true e)
     too-many-from (error n) h e = absurd (false≢true e)
     too-many-from done h e = absurd (false≢true e)
@@ -249,11 +229,8 @@ module _ (s : Session) (b : Buffers) (r : ReachedSession s) where
     too-many-from (bad n) h e = absurd (false≢true e)
 
     -- No. 11
-    about : (f : ℕ) (e : Row) → (isAbout (labels (t .headers)) f (rowLabel e) ≡ true) ↔ ((e .mark ≡ 3) × RowAt (λ x. x .index ≡ f) (rows (first headers)) (e .index))
-    about f e = (
-      λ h. let a = and-true (eqb (e .mark) 3) (passes (isFile f) (labels (t .headers)) (e .index)) h in (eqb-true (e .mark) 3 (a .0), at-of f (e .index) .0 (a .1)),
-      λ h. true-and (eqb (e .mark) 3) (passes (isFile f) (labels (t .headers)) (e .index)) (eq-eqb (e .mark) 3 (h .0)) (at-of f (e .index) .1 (h .1)),
-    )
+    about : (f : ℕ) (e : Row) → (isAbout f (rowLabel e) ≡ true) ↔ (e .mark ≡ 3 + f)
+    about f e = (eqb-true (e .mark) (3 + f), eq-eqb (e .mark) (3 + f))
 
     pub together-to : Together Says rows → isClashing t said ≡ true
     together-to (stanza-with-errors f h l) = tested (isClashing t) (returns-stanza f) h (some-there (second errors) .1 l)
@@ -304,8 +281,10 @@ module _ (s : Session) (b : Buffers) (r : ReachedSession s) where
       λ h. true-and (eqb (x .mark) 1) (eqb (x .index) f) (eq-eqb (x .mark) 1 (h .0)) (eq-eqb (x .index) f (h .1)),
     )
 
-    unknown-at : (i : ℕ) → (passes isUnknown (labels (t .headers)) i ≡ true) ↔ RowAt (λ x. x .mark ≡ 2) (rows (first headers)) i
-    unknown-at i = row-at isUnknown (λ x. x .mark ≡ 2) (λ x. (eqb-true (x .mark) 2, eq-eqb (x .mark) 2)) (first headers) i
+    unknown-at : (f i : ℕ) → (passes isUnknown (headersOf t f) i ≡ true) ↔ RowAt (λ x. x .mark ≡ 2) (ofFile f (rows (first headers))) i
+    unknown-at f i =
+        subst (λ l. (passes isUnknown l i ≡ true) ↔ RowAt (λ x. x .mark ≡ 2) (ofFile f (rows (first headers))) i) (sym (ap (among (isFile f)) (labelled (first headers)) ∙ of-file-among f (rows (first headers))))
+        (at-iff isUnknown (λ x. x .mark ≡ 2) (λ x. (eqb-true (x .mark) 2, eq-eqb (x .mark) 2)) (ofFile f (rows (first headers))) i)
 
     any-invalid : (anyInvalid t ≡ true) ↔ (SomeRow Invalid (rows (first recipients)) ⊎ SomeRow Invalid (rows (first identities)))
     any-invalid =
@@ -340,19 +319,35 @@ module _ (s : Session) (b : Buffers) (r : ReachedSession s) where
     identitiesReported = areReported isInvalid 1 0 (labels (t .identities)) (labels (t .errors))
 
     abbrev headersReported : Bool
-    headersReported = areReported isNonconforming 3 0 (labels (t .headers)) (labels (t .errors))
+    headersReported = areStanzasReported [] (labels (t .headers)) (labels (t .errors))
+
+    -- there is none before the first
+    none-of : (f : ℕ) → length (ofFile f []) ≡ 0
+    unfolding ofFile
+    none-of f = refl
+
+    -- the stanza that is owed an error
+    stanza-is-owed : headersReported ≡ false → (f : ℕ) × (i : ℕ) × RowAt (λ x. x .mark ≡ 1) (ofFile f (rows (first headers))) i × NoError (3 + f) i (rows (second errors))
+    stanza-is-owed e =
+        let j = reported.owed-from (labels (t .errors)) _ (λ f i. had (3 + f) i) [] (rows (first headers)) (ap (λ l. areStanzasReported [] l (labels (t .errors))) (sym (labelled (first headers))) ∙ e) in
+        (j .0, j .1, j .2, subst (λ n. NoError (3 + j .0) n (rows (second errors))) (omega (arith, none-of (j .0))) (j .3))
+
+    stanza-owes : (f i : ℕ) → RowAt (λ x. x .mark ≡ 1) (ofFile f (rows (first headers))) i → NoError (3 + f) i (rows (second errors)) → headersReported ≡ false
+    stanza-owes f i h y =
+        ap (λ l. areStanzasReported [] l (labels (t .errors))) (labelled (first headers))
+        ∙ reported.owed-to (labels (t .errors)) _ (λ f i. had (3 + f) i) [] (rows (first headers)) (f, i, h, subst (λ n. NoError (3 + f) n (rows (second errors))) (omega (arith, none-of f)) y)
 
     pub held-to : Held Says rows → isHeldBack t said ≡ true
     held-to (stanza-held f h u) = tested (isHeldBack t) (returns-stanza f) h (any-invalid .1 u)
     held-to (key-held f h u) = tested (isHeldBack t) (returns-key f) h (true-or _ _ (inl (any-invalid .1 u)))
     held-to (key-nonconforming f h u) = tested (isHeldBack t) (returns-key f) h (true-or (anyInvalid t) _ (inr (some-row _ _ (nonconforming-of f) (first headers) .1 u)))
-    held-to (error-unknown f i h u) = tested (isHeldBack t) (reports (header f i)) h (unknown-at i .1 u)
+    held-to (error-unknown f i h u) = tested (isHeldBack t) (reports (header f i)) h (unknown-at f i .1 u)
     held-to (recipient-owed h n u y) =
         tested (isHeldBack t) ends-two h (ap not (false-and (recipientsReported && identitiesReported) headersReported (inl (false-and recipientsReported identitiesReported (inl (owes isInvalid Invalid invalid 2 (first recipients) n u y))))))
     held-to (identity-owed h n u y) =
         tested (isHeldBack t) ends-two h (ap not (false-and (recipientsReported && identitiesReported) headersReported (inl (false-and recipientsReported identitiesReported (inr (owes isInvalid Invalid invalid 1 (first identities) n u y))))))
-    held-to (stanza-owed h n u y) =
-        tested (isHeldBack t) ends-two h (ap not (false-and (recipientsReported && identitiesReported) headersReported (inr (owes isNonconforming (λ x. x .mark ≡ 1) nonconforming 3 (first headers) n u y))))
+    held-to (stanza-owed h f i u y) =
+        tested (isHeldBack t) ends-two h (ap not (false-and (recipientsReported && identitiesReported) headersReported (inr (stanza-owes f i u y))))
 
     done-owes : Says ends-two → not (recipientsReported && identitiesReported && headersReported) ≡ true → Held Says rows
     done-owes h e =
@@ -361,7 +356,7 @@ module _ (s : Session) (b : Buffers) (r : ReachedSession s) where
         (λ z. let j = owed isInvalid Invalid invalid 2 (first recipients) z in recipient-owed h (j .0) (j .1) (j .2))
         (λ z. let j = owed isInvalid Invalid invalid 1 (first identities) z in identity-owed h (j .0) (j .1) (j .2))
         (and-false recipientsReported identitiesReported q))
-        (λ z. let j = owed isNonconforming (λ x. x .mark ≡ 1) nonconforming 3 (first headers) z in stanza-owed h (j .0) (j .1) (j .2))
+        (λ z. let j = stanza-is-owed z in stanza-owed h (j .0) (j .1) (j .2) (j .3))
         (and-false (recipientsReported && identitiesReported) headersReported (not-true _ e))
 
     pub held-from : (c : CommandTwo) → Said c → isHeldBack t c ≡ true → Held Says rows
@@ -371,7 +366,7 @@ module _ (s : Session) (b : Buffers) (r : ReachedSession s) where
     held-from (error command.internal) h e = absurd (false≢true e)
     held-from (error (command.identity i)) h e = absurd (false≢true e)
     held-from (error (command.recipient i)) h e = absurd (false≢true e)
-    held-from (error (command.header f i)) h e = error-unknown f i h (unknown-at i .0 e)
+    held-from (error (command.header f i)) h e = error-unknown f i h (unknown-at f i .0 e)
     held-from done h e = done-owes h e
     held-from other h e = absurd (false≢true e)
     held-from (bad n) h e = absurd (false≢true e)

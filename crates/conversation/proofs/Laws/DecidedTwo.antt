@@ -1,14 +1,13 @@
 -- The decision of phase two, test by test: it finds no fault exactly if the command is right, what it names is there, and the sums of the tables with what it adds
 -- keep the limits.
-use Prim.Native.Nat.{ℕ, zero, suc, _+_}
+use Prim.Native.Nat.{ℕ, _+_}
 use mathlib.Core.Path.{_≡_, refl, sym, ap, _∙_}
-use mathlib.Core.Bool.{Bool, true, false, _&&_, false≢true}
+use mathlib.Core.Bool.{Bool, true, false, _&&_}
 use mathlib.Core.Logic.{_↔_}
-use mathlib.Core.List.{List, [], _∷_, _++_, map, map-append}
+use mathlib.Core.List.{List, [], _∷_, _++_, map, map-append, append-assoc}
 use lib.Dec.{eqb}
 use lib.ListN.{length, take}
 use native.Mathlib.Omega.{arith}
-use borrow.Author.Tests.{eqb-true}
 use Rattle.refusal.specs.Pick.{pick}
 use Rattle.refusal.proofs.Laws.Booleans.{cases}
 use Rattle.tables.specs.declared.slots.Entry.{Entry}
@@ -16,7 +15,8 @@ use Rattle.tables.specs.Tables.{Table, Row, fits, entered, rowOf, view, kept}
 use Rattle.tables.proofs.Laws.Tables.{Kept, entered-view}
 use Rattle.session.specs.Tables.{Tables}
 use Rattle.conversation.specs.CommandsTwo.{CommandTwo}
-use Rattle.conversation.specs.PhaseTwo.{BuffersTwo, Label, labelOf, labels, howMany, passes, isFile, isMissing, isSecondKey, isTooMany, isClashing, isSpaceless, isHeldBack, faultOf, ruled, decided}
+use Rattle.conversation.specs.Kinds.{ofFile}
+use Rattle.conversation.specs.PhaseTwo.{BuffersTwo, Label, labelOf, labels, howMany, among, isFile, isMissing, isSecondKey, isTooMany, isClashing, isSpaceless, isHeldBack, faultOf, ruled, decided}
 use Rattle.conversation.proofs.Laws.Firsts.{first-iff}
 
 -- ---- the first fault
@@ -93,9 +93,30 @@ pub many-one : (q : Label → Bool) (l : Label) → howMany q (l ∷ []) ≡ pic
 unfolding howMany
 many-one q l = omega arith
 
--- the label of a number that is of one file is of another file exactly if they are the same
-pub passes-file : (ls : List Label) (f g i : ℕ) → passes (isFile f) ls i ≡ true → passes (isFile g) ls i ≡ eqb f g
-unfolding passes
-passes-file [] f g i e = absurd (false≢true e)
-passes-file (l ∷ ls) f g zero e = ap (λ j. eqb j g) (eqb-true (l .index) f e)
-passes-file (l ∷ ls) f g (suc i) e = passes-file ls f g i e
+-- ---- the rows of a file
+
+-- as many as labels of it
+pub of-file-many : (f : ℕ) (rs : List Row) → howMany (isFile f) (rowLabels rs) ≡ length (ofFile f rs)
+unfolding howMany ofFile
+of-file-many f [] = refl
+of-file-many f (r ∷ rs) = go (eqb (r .index) f) (of-file-many f rs)
+  where
+    go : (g : Bool) → howMany (isFile f) (rowLabels rs) ≡ length (ofFile f rs) → pick g 1 0 + howMany (isFile f) (rowLabels rs) ≡ length (pick g (r ∷ []) [] ++ ofFile f rs)
+    go true e = omega arith
+    go false e = omega arith
+
+-- and their labels are those of it
+pub of-file-among : (f : ℕ) (rs : List Row) → among (isFile f) (rowLabels rs) ≡ rowLabels (ofFile f rs)
+unfolding among ofFile
+of-file-among f [] = refl
+of-file-among f (r ∷ rs) = go (eqb (r .index) f) (of-file-among f rs)
+  where
+    go : (g : Bool) → among (isFile f) (rowLabels rs) ≡ rowLabels (ofFile f rs) → pick g (rowLabel r ∷ []) [] ++ among (isFile f) (rowLabels rs) ≡ rowLabels (pick g (r ∷ []) [] ++ ofFile f rs)
+    go true e = ap (λ l. rowLabel r ∷ l) e
+    go false e = e
+
+-- the rows of one file, of two lists together
+pub of-file-append : (f : ℕ) (a b : List Row) → ofFile f (a ++ b) ≡ ofFile f a ++ ofFile f b
+unfolding ofFile
+of-file-append f [] b = refl
+of-file-append f (x ∷ a) b = ap (λ l. pick (eqb (x .index) f) (x ∷ []) [] ++ l) (of-file-append f a b) ∙ sym (append-assoc (pick (eqb (x .index) f) (x ∷ []) []) (ofFile f a) (ofFile f b))

@@ -47,7 +47,8 @@ use Rattle.conversation.specs.Sending.{shortness}
 use Rattle.conversation.specs.TurnsTwo.{turnTwo, dueIn}
 use Rattle.conversation.specs.Numbers.{Question, message, confirmation, public-value, secret-value, Naming, internal, identity, recipient, header, SayingTwo, asks, returns-stanza, returns-key, reports, SaysTwo, WrittenAtOnce, for-stanza, for-key, for-error, for-other, for-question, RowOne, RowTwo, KnownOne, KnownTwo, indicesOne, indicesTwo, Wrong, Misindexed, WrongIn, MisindexedIn, MissingIn, FallingIn, SpacelessIn, SecondIn, TooManyIn, TogetherIn, Fitting, msg-answered, confirm-answered, public-given, public-failed, secret-given, secret-failed, stanza-answered, key-answered, error-answered, other-answered, Over, InTurn, ReadsAs, Unwritten, Holds, Condition, orderOf, FirstOf, no-number, this-number, later-number}
 use Rattle.conversation.proofs.Laws.ConditionsOne.{faultOne, isFalling, isSpacelessOne, decided-tests, falling-to, falling-from, spaceless-one-to, spaceless-one-from}
-use Rattle.conversation.proofs.Laws.ConditionsTwo.{refuted, missing-to, missing-from, second-to, second-from, too-many-to, too-many-from, together-to, together-from, spaceless-to, spaceless-from, held-to, held-from}
+use Rattle.conversation.proofs.Laws.ConditionsTwo.{missing-to, missing-from, second-to, second-from, too-many-to, too-many-from, together-to, together-from, spaceless-to, spaceless-from, held-to, held-from}
+use Rattle.conversation.proofs.Laws.SumsTwo.{refuted}
 use Rattle.conversation.proofs.Laws.NumberParts.{asRead, decidedOne, decidedTwo, atOnceText, byDue, unfitness, given-receive, given-send, given-receive-two, given-send-two, given-reply, given-respond}
 use Rattle.conversation.proofs.Laws.Reached.{ReachedSession, opening-reached, each-reached}
 use Rattle.conversation.proofs.Laws.RowsOne.{SaidOne, said-one, misindexed-one, wrong-one}

@@ -27,7 +27,7 @@ use Rattle.conversation.specs.Phases.{All, keep, commandIn, payloadIn, i
 use Rattle.session.specs.Session.{Session, moved}
 use Rattle.conversation.specs.Allowed.{Left, isRightTwo, Present, isKeyFor, Said, Sum, keys-for, stanzas-for, errors-for, entries, bytes, weight, total, slotsTwo, Limits, saidBy, Answered, RightBlock, AllowedTwo, leftOf, capacityOf}
 use Rattle.conversation.proofs.Laws.AllowedTwo.{limits-same, Standing, Fitting, accepted-from}
-use Rattle.conversation.proofs.Laws.DecidedTwo.{labels-view}
+use Rattle.conversation.proofs.Laws.DecidedTwo.{labels-view, of-file-append}
 use Rattle.conversation.proofs.Laws.LeftTwo.{rowsBy, rowsIn, Grown, left-from}
 use Rattle.conversation.proofs.Laws.Lists.{all-append, all-permuted, all-kept, sumOf, sum-append, sum-permuted, sum-kept, length-keep, keep-permuted-once, keep-kept}
 use Rattle.conversation.proofs.Laws.OrderOne.{turned}
@@ -35,7 +35,6 @@ use Rattle.conversation.proofs.Laws.PresentTwo.{Shows, most-is}
 use Rattle.conversation.proofs.Laws.Reached.{LaterOpened, ReachedSession, JustReached}
 use Rattle.conversation.proofs.Laws.StepsTwo.{at}
 use Rattle.conversation.proofs.Laws.SumsTwo.{sumsIn, Kept-limits, or-false}
-use Rattle.conversation.proofs.Laws.Tables.{of-file-append}
 
 -- ---- a session that has just sent done
 
@@ -50,7 +49,7 @@ sums-opened : (t : Tables) → LaterOpened t → (m : Sum) → sumsIn t m ≡ 0
 unfolding howMany
 sums-opened t l (keys-for f) = ap (λ x. howMany (isFile f) (labels x)) (l .2)
 sums-opened t l (stanzas-for f) = ap (λ x. howMany (isFile f) (labels x)) (l .1)
-sums-opened t l (errors-for f) = ap (λ x. howMany (isAbout (labels (t .headers)) f) (labels x)) (l .0)
+sums-opened t l (errors-for f) = ap (λ x. howMany (isAbout f) (labels x)) (l .0)
 sums-opened t l (entries k) = ap (λ x. x .count) (second-opened t l k)
 sums-opened t l (bytes k) = ap (λ x. x .used) (second-opened t l k)
 

@@ -14,9 +14,10 @@ use Rattle.session.specs.Tables.{Tables}
 use Rattle.phase_one.specs.Views as one-kind
 use Rattle.phase_one.specs.Views.{recipients, identities, keys, headers}
 use Rattle.conversation.specs.CommandsTwo.{internal, identity, recipient, header, CommandTwo, ask, stanza, key, error, done, other, bad}
+use Rattle.conversation.specs.Kinds.{ofFile}
 use Rattle.conversation.specs.PhaseTwo.{Label, labels, howMany, isAny, passes, isFile, mostStanzas, isMissing, BuffersTwo, applied}
 use Rattle.conversation.specs.Allowed.{Left, RowAt, Present}
-use Rattle.conversation.proofs.Laws.DecidedTwo.{rowLabel, rowLabels}
+use Rattle.conversation.proofs.Laws.DecidedTwo.{rowLabel, rowLabels, of-file-many}
 use Rattle.conversation.proofs.Laws.SumsTwo.{not-is}
 use Rattle.conversation.proofs.Laws.ViewsTwo.{two-leaves}
 
@@ -80,7 +81,8 @@ present-iff t left s (key f) = not-iff (isAny (isFile f) (labels (t .headers))) 
 present-iff t left s (error internal) = (λ e. tt, λ e. refl)
 present-iff t left s (error (identity i)) = below-iff i (t .identities .count) (length (left identities)) (s .counts identities)
 present-iff t left s (error (recipient i)) = below-iff i (t .recipients .count) (length (left recipients)) (s .counts recipients)
-present-iff t left s (error (header f i)) = not-iff (passes (isFile f) (labels (t .headers)) i) (subst (λ l. (passes (isFile f) l i ≡ true) ↔ RowAt (λ r. r .index ≡ f) (left headers) i) (sym (s .labelled headers)) (at-iff (isFile f) (λ r. r .index ≡ f) (file-same f) (left headers) i))
+present-iff t left s (error (header f i)) =
+    below-iff i (howMany (isFile f) (labels (t .headers))) (length (ofFile f (left headers))) (ap (howMany (isFile f)) (s .labelled headers) ∙ of-file-many f (left headers))
 present-iff t left s done = (λ e. tt, λ e. refl)
 present-iff t left s other = (λ e. tt, λ e. refl)
 present-iff t left s (bad n) = (λ e. tt, λ e. refl)

@@ -2,30 +2,30 @@
 -- exactly if the command is right, what it names is there, and the sums with its weight keep the limits.
 use Prim.Native.Nat.{ℕ, _+_, _<_, _≤_}
 use mathlib.Core.Path.{_≡_, refl, sym, ap, _∙_}
-use mathlib.Core.Bool.{Bool, true, false, not, _||_, true≢false, false≢true}
+use mathlib.Core.Bool.{Bool, true, false, not, _&&_, _||_, true≢false, false≢true}
 use mathlib.Core.Logic.{_⊎_, inl, inr, ⊎-elim, _↔_}
 use mathlib.Core.List.{List}
 use lib.Dec.{ltb, leb, eqb}
 use lib.ListN.{length}
 use native.Mathlib.Omega.{arith}
-use borrow.Author.Tests.{ltb-true, ltb-false, leb-true, leb-false, lt-ltb, le-ltb, le-leb, lt-leb, eqb-true, eq-eqb, not-false}
+use borrow.Author.Tests.{ltb-true, ltb-false, leb-true, leb-false, lt-ltb, le-ltb, le-leb, lt-leb, eqb-true, eqb-false, eq-eqb, ne-eqb, not-false}
 use Rattle.refusal.specs.Pick.{pick}
 use Rattle.refusal.proofs.Laws.Booleans.{and-true, true-and, cases}
 use Rattle.tables.specs.Tables.{Table, fits, entered}
 use Rattle.tables.proofs.Laws.Tables.{Kept}
 use Rattle.session.specs.Tables.{Tables}
 use Rattle.conversation.specs.CommandsTwo.{Named, internal, identity, recipient, header, CommandTwo, ask, stanza, key, error, done, other, bad}
-use Rattle.conversation.specs.PhaseTwo.{KindTwo, errors, stanzas, returned, BuffersTwo, tableOf, bufferOf, Label, labels, howMany, isAny, isFile, mostStanzas, hasKey, markOf, indexOf, isAbout, isMissing, isSecondKey, isTooMany, isAgainstKey, isClashing, isSpaceless, applied}
+use Rattle.conversation.specs.PhaseTwo.{KindTwo, errors, stanzas, returned, BuffersTwo, tableOf, bufferOf, Label, labels, howMany, isAny, isFile, mostStanzas, hasKey, markOf, indexOf, isAbout, isSecondKey, isTooMany, isAgainstKey, isClashing, isSpaceless, applied}
 use Rattle.conversation.specs.Allowed.{isKeyFor, isErrorFor, isKind, Said, Sum, keys-for, stanzas-for, errors-for, entries, bytes, weight, slotsTwo, Limits}
 use Rattle.conversation.specs.Phases.{isStanzaFor}
-use Rattle.conversation.proofs.Laws.DecidedTwo.{Faultless, labels-more, many-append, many-one, passes-file}
+use Rattle.conversation.proofs.Laws.DecidedTwo.{Faultless, labels-more, many-append, many-one}
 
 -- ---- the sums of tables
 
 abbrev pub sumsIn : Tables → Sum → ℕ
 sumsIn t (keys-for f) = howMany (isFile f) (labels (t .returned))
 sumsIn t (stanzas-for f) = howMany (isFile f) (labels (t .stanzas))
-sumsIn t (errors-for f) = howMany (isAbout (labels (t .headers)) f) (labels (t .errors))
+sumsIn t (errors-for f) = howMany (isAbout f) (labels (t .errors))
 sumsIn t (entries k) = tableOf k t .count
 sumsIn t (bytes k) = tableOf k t .used
 
@@ -68,6 +68,24 @@ or-false false b e = (refl, e)
 pub false-or : (a b : Bool) → a ≡ false → b ≡ false → (a || b) ≡ false
 false-or true b p q = p
 false-or false b p q = q
+
+-- a test that cannot hold
+pub refuted : (f : Bool) → (f ≡ true → ⊥) → f ≡ false
+refuted true h = absurd (h refl)
+refuted false h = refl
+
+-- one that cannot fail
+pub assured : (f : Bool) → (f ≡ false → ⊥) → f ≡ true
+assured true h = refl
+assured false h = absurd (h refl)
+
+pub and-false : (a b : Bool) → (a && b) ≡ false → (a ≡ false) ⊎ (b ≡ false)
+and-false true b e = inr e
+and-false false b e = inl refl
+
+pub false-and : (a b : Bool) → (a ≡ false) ⊎ (b ≡ false) → (a && b) ≡ false
+false-and true b h = ⊎-elim (λ e. absurd (true≢false e)) (λ e. e) h
+false-and false b h = refl
 
 pub not-is : (a : Bool) → a ≡ true → not a ≡ false
 not-is true e = refl
@@ -132,7 +150,7 @@ module _ (t : Tables) (b : BuffersTwo) (g : Going t) (l : Kept-limits t b) (p : 
   apart-file-with (stanza x) e f = old-file f 0 0 refl refl
   apart-file-with (key x) e f =
       cases (eqb x f)
-      (λ q. inl (rw (← eqb-true x f q) (omega (arith, not-any (isAbout (labels (t .headers)) x) (labels (t .errors)) e))))
+      (λ q. inl (rw (← eqb-true x f q) (omega (arith, not-any (isAbout x) (labels (t .errors)) e))))
       (λ q. old-file f 0 (pick (eqb x f) 1 0) refl (rw q))
   apart-file-with (error internal) e f = old-file f 0 0 refl refl
   apart-file-with (error (identity i)) e f = old-file f 0 0 refl refl
@@ -210,7 +228,7 @@ module _ (t : Tables) (b : BuffersTwo) (g : Going t) (p : List ℕ) where
   apart-by : (c : CommandTwo) → With t b c p → isClashing t c ≡ false
   apart-by (ask w) l = refl
   apart-by (stanza x) l = le-ltb 0 (t .errors .count) (⊎-elim (λ z. omega arith) (λ z. absurd (omega arith)) (l .apart))
-  apart-by (key x) l = none-any (isAbout (labels (t .headers)) x) (labels (t .errors)) (⊎-elim (λ z. omega arith) (λ z. absurd (omega (arith, own-file x))) (l .apart-file x))
+  apart-by (key x) l = none-any (isAbout x) (labels (t .errors)) (⊎-elim (λ z. omega arith) (λ z. absurd (omega (arith, own-file x))) (l .apart-file x))
   apart-by (error n) l = false-or (ltb 0 (t .stanzas .count)) (isAgainstKey t n) (le-ltb 0 (t .stanzas .count) (⊎-elim (λ z. absurd (omega arith)) (λ z. omega arith) (l .apart))) (against-by n l)
   apart-by done l = refl
   apart-by other l = refl
@@ -283,22 +301,22 @@ module _ (t : Tables) (b : BuffersTwo) (g : Going t) (p : List ℕ) where
   key-adds x e (bytes returned) = used-grown returned x 0 e
 
   -- an error names a header stanza of the file exactly if it says so
-  about-is : (n : Named) → isMissing t (error n) ≡ false → (f : ℕ) → isAbout (labels (t .headers)) f (record { index = indexOf n; mark = markOf n }) ≡ isErrorFor f (error n)
-  about-is internal h f = refl
-  about-is (identity i) h f = refl
-  about-is (recipient i) h f = refl
-  about-is (header x i) h f = passes-file (labels (t .headers)) x f i (not-false _ h)
+  about-is : (n : Named) (f : ℕ) → isAbout f (record { index = indexOf n; mark = markOf n }) ≡ isErrorFor f (error n)
+  about-is internal f = ne-eqb 0 (3 + f) (λ e. omega arith)
+  about-is (identity i) f = ne-eqb 1 (3 + f) (λ e. omega arith)
+  about-is (recipient i) f = ne-eqb 2 (3 + f) (λ e. omega arith)
+  about-is (header x i) f = cases (eqb x f) (λ e. eq-eqb (3 + x) (3 + f) (ap (λ n. 3 + n) (eqb-true x f e)) ∙ sym e) (λ e. ne-eqb (3 + x) (3 + f) (λ z. eqb-false x f e (omega arith)) ∙ sym e)
 
-  error-adds : (n : Named) → isMissing t (error n) ≡ false → not (fits (t .errors) (length p) (length (b .errors))) ≡ false → Adds (error n)
-  error-adds n h e (keys-for f) = nothing-added _
-  error-adds n h e (stanzas-for f) = nothing-added _
-  error-adds n h e (errors-for f) = many-grown errors (indexOf n) (markOf n) e (isAbout (labels (t .headers)) f) ∙ ap (λ x. howMany (isAbout (labels (t .headers)) f) (labels (t .errors)) + pick x 1 0) (about-is n h f)
-  error-adds n h e (entries errors) = count-grown errors (indexOf n) (markOf n) e
-  error-adds n h e (entries stanzas) = nothing-added _
-  error-adds n h e (entries returned) = nothing-added _
-  error-adds n h e (bytes errors) = used-grown errors (indexOf n) (markOf n) e
-  error-adds n h e (bytes stanzas) = nothing-added _
-  error-adds n h e (bytes returned) = nothing-added _
+  error-adds : (n : Named) → not (fits (t .errors) (length p) (length (b .errors))) ≡ false → Adds (error n)
+  error-adds n e (keys-for f) = nothing-added _
+  error-adds n e (stanzas-for f) = nothing-added _
+  error-adds n e (errors-for f) = many-grown errors (indexOf n) (markOf n) e (isAbout f) ∙ ap (λ x. howMany (isAbout f) (labels (t .errors)) + pick x 1 0) (about-is n f)
+  error-adds n e (entries errors) = count-grown errors (indexOf n) (markOf n) e
+  error-adds n e (entries stanzas) = nothing-added _
+  error-adds n e (entries returned) = nothing-added _
+  error-adds n e (bytes errors) = used-grown errors (indexOf n) (markOf n) e
+  error-adds n e (bytes stanzas) = nothing-added _
+  error-adds n e (bytes returned) = nothing-added _
 
   idle-adds : (c : CommandTwo) → ((m : Sum) → weight m (said c p) ≡ 0) → applied t b c p ≡ t → Adds c
   idle-adds c w e m = ap (λ t. sumsIn t m) e ∙ nothing-added (sumsIn t m) ∙ ap (λ n. sumsIn t m + n) (sym (w m))
@@ -314,7 +332,7 @@ module _ (t : Tables) (b : BuffersTwo) (g : Going t) (p : List ℕ) where
   adds own (ask w) f = idle-adds (ask w) (λ m. weightless m (ask w) (λ f. refl) (λ f. refl) (λ f. refl) (λ k. refl)) refl
   adds own (stanza x) f = stanza-adds x (f .space)
   adds own (key x) f = key-adds x (f .space)
-  adds own (error n) f = error-adds n (f .there) (f .space)
+  adds own (error n) f = error-adds n (f .space)
   adds own done f = idle-adds done (λ m. weightless m done (λ f. refl) (λ f. refl) (λ f. refl) (λ k. refl)) refl
   adds own other f = idle-adds other (λ m. weightless m other (λ f. refl) (λ f. refl) (λ f. refl) (λ k. refl)) refl
   adds own (bad n) f = idle-adds (bad n) (λ m. weightless m (bad n) (λ f. refl) (λ f. refl) (λ f. refl) (λ k. refl)) refl

@@ -32,6 +32,7 @@ use Rattle.conversation.specs.SendingTwo.{phaseSent}
 use Rattle.conversation.specs.Numbers.{bufferFor}
 use Rattle.conversation.specs.Tables.{Numbered, NumberedInFile, Ignored, phaseIgnored}
 use Rattle.conversation.specs.Calls.{Call, receive, send, receive-two, reply, send-two, respond, Outcome, outcome, after, lineRead, bodyRead, broughtBy, rowsOne, rowsTwo, rowsBrought, acceptedRows}
+use Rattle.conversation.proofs.Laws.DecidedTwo.{of-file-append}
 use Rattle.conversation.proofs.Laws.Accepted.{AppliedOne, AppliedTwo, commandAt, payloadAt, applied-rows, AcceptedBy, accepted}
 use Rattle.conversation.proofs.Laws.Reached.{ReachedSession, empty-reached, opening-tables, opening-reached, call-reached, after-reached}
 use Rattle.conversation.proofs.Laws.Refusals.{refusal}
@@ -145,12 +146,6 @@ numbered s b c k row r z q =
     }
 
 -- ---- numbers within a file
-
--- the rows of one file, of two lists together
-pub of-file-append : (f : ℕ) (a b : List Row) → ofFile f (a ++ b) ≡ ofFile f a ++ ofFile f b
-unfolding ofFile
-of-file-append f [] b = refl
-of-file-append f (x ∷ a) b = ap (λ l. pick (eqb (x .index) f) (x ∷ []) [] ++ l) (of-file-append f a b) ∙ sym (append-assoc (pick (eqb (x .index) f) (x ∷ []) []) (ofFile f a) (ofFile f b))
 
 own-file : (f : ℕ) (row : Row) → row .index ≡ f → ofFile f (row ∷ []) ≡ row ∷ []
 unfolding ofFile

@@ -2,14 +2,16 @@
 use Prim.Native.Nat.{ℕ, _+_, _<_, _≤_, min}
 use mathlib.Core.Path.{_≡_, sym, ap, _∙_}
 use mathlib.Core.Bool.{Bool, true, false}
-use mathlib.Core.List.{[], _∷_}
+use mathlib.Core.List.{[], _∷_, _++_}
 use lib.ListN.{length, take, drop, getD, length-take, length-map, drop-of-length-le, List·getD-map}
-use lib.Seq.{drop-cons, getD-take}
+use lib.Seq.{drop-cons, getD-take, take-all, take-length, take-suc}
+use native.Mathlib.Decide.{decLt}
 use native.Mathlib.Numerals.{add-one}
 use native.Mathlib.Omega.{arith}
 use Rattle.refusal.specs.Pick.{pick}
 use Rattle.tables.specs.Tables.{Table, empty}
 use Rattle.conversation.specs.PhaseTwo.{Label, labelOf, labels, howMany}
+use Rattle.conversation.proofs.Laws.DecidedTwo.{many-append, many-one}
 
 -- ---- how many labels there are
 
@@ -59,3 +61,31 @@ module _ (q : Label → Bool) (t : Table) where
   -- one that does not
   pub left-none : (i : ℕ) → i < length (labels t) → q (slotLabel t i) ≡ false → left i ≡ left (i + 1)
   left-none i h e = let a = left-at i h ∙ ap (λ b. pick b 1 0 + left (i + 1)) e in omega arith
+
+-- ---- how many pass of those before a slot
+
+module _ (q : Label → Bool) (t : Table) where
+  abbrev pub passed : ℕ → ℕ
+  passed i = howMany q (take i (labels t))
+
+  passed-at : (i : ℕ) → i < length (labels t) → passed (i + 1) ≡ passed i + pick (q (slotLabel t i)) 1 0
+  passed-at i h =
+      ap passed (add-one i) ∙ ap (howMany q) (take-suc (labels t) i (labelOf empty) h ∙ ap (λ l. take i (labels t) ++ (l ∷ [])) (label-is t i h)) ∙ many-append q (take i (labels t)) (slotLabel t i ∷ [])
+      ∙ ap (λ n. passed i + n) (many-one q (slotLabel t i))
+
+  pub passed-one : (i : ℕ) → i < length (labels t) → q (slotLabel t i) ≡ true → passed (i + 1) ≡ passed i + 1
+  passed-one i h e = passed-at i h ∙ ap (λ b. passed i + pick b 1 0) e
+
+  pub passed-none : (i : ℕ) → i < length (labels t) → q (slotLabel t i) ≡ false → passed (i + 1) ≡ passed i
+  passed-none i h e = let a = passed-at i h ∙ ap (λ b. passed i + pick b 1 0) e in omega arith
+
+  -- beyond the last there is none
+  pub passed-least : (n : ℕ) → passed (min n (length (labels t))) ≡ passed n
+  passed-least n =
+      elim (decLt n (length (labels t))) [
+        | yes h ↦ let e : min n (length (labels t)) ≡ n = omega arith in ap passed e
+        | no h ↦ let e : min n (length (labels t)) ≡ length (labels t) = omega arith in ap (howMany q) (ap (λ m. take m (labels t)) e ∙ take-length (labels t) ∙ sym (take-all n (labels t) (omega arith)))
+      ]
+
+  pub passed-all : passed (length (labels t)) ≡ howMany q (labels t)
+  passed-all = ap (howMany q) (take-length (labels t))

@@ -1,13 +1,20 @@
 -- The questions, by the loops of the code.
-use Prim.Native.Nat.{ℕ, zero, suc, _+_, _<_, _≤_}
+use Prim.Native.Nat.{ℕ, zero, suc, _+_, _-_, _<_, _≤_}
 use mathlib.Core.Path.{_≡_, refl, sym, ap, _∙_}
 use mathlib.Core.Bool.{Bool, true, false, not, _&&_, _||_}
-use mathlib.Core.List.{List, [], _∷_}
-use lib.ListN.{length, drop, getD}
+use mathlib.Core.List.{List, [], _∷_, _++_}
+use lib.Dec.{eqb}
+use lib.ListN.{length, take, drop, getD}
+use lib.Seq.{take-suc}
+use native.Mathlib.Numerals.{add-one}
 use native.Mathlib.Omega.{arith}
-use borrow.Author.Tests.{lt-ltb, le-ltb}
+use borrow.Author.Tests.{lt-ltb, le-ltb, eqb-true, eqb-false, eq-eqb, ne-eqb}
+use Rattle.refusal.specs.Pick.{pick}
+use Rattle.refusal.proofs.Laws.Booleans.{cases}
+use Rattle.tables.specs.declared.slots.Entry.{Entry}
 use Rattle.tables.specs.Tables.{Table, empty}
-use Rattle.conversation.specs.PhaseTwo.{Label, labelOf, labels, howMany, isAny, passes, areReported, isNaming}
+use Rattle.conversation.specs.PhaseTwo.{Label, labelOf, labels, howMany, isAny, passes, among, isFile, isNonconforming, areReported, areStanzasReported, isNaming}
+use Rattle.look_up.specs.LookUp.{numberOf}
 use Rattle.look_up.proofs.Laws.Labels.{slotLabel, label-is, labels-at, labels-end, left, left-one, left-none, left-end}
 
 -- ---- a label that passes
@@ -69,3 +76,59 @@ module _ (q : Label → Bool) (mark : ℕ) (t : Table) (es : List Label) where
   pub reported-all : (i : ℕ) → reported i ≡ reported 0 → length (labels t) ≤ i → true ≡ reported 0
   unfolding areReported
   reported-all i e h = sym (ap (λ ls. areReported q mark i ls es) (labels-end t i h)) ∙ e
+
+-- ---- an error for a file's header stanza, by its mark
+
+pub about-low : (m f : ℕ) → m < 3 → false ≡ eqb m (3 + f)
+about-low m f h = sym (ne-eqb m (3 + f) (λ e. omega arith))
+
+pub about-high : (m f : ℕ) → 3 ≤ m → eqb (m - 3) f ≡ eqb m (3 + f)
+about-high m f h = cases (eqb (m - 3) f) (λ e. let z = eqb-true (m - 3) f e in e ∙ sym (eq-eqb m (3 + f) (omega arith))) (λ e. let z = eqb-false (m - 3) f e in e ∙ sym (ne-eqb m (3 + f) (λ y. z (omega arith))))
+
+-- ---- the i-th of those that pass a test
+
+pub passes-among : (q test : Label → Bool) (ls : List Label) (i : ℕ) → passes q ls (numberOf test ls i) ≡ passes q (among test ls) i
+unfolding passes among numberOf
+passes-among q test [] i = refl
+passes-among q test (l ∷ ls) zero = go (test l) (passes-among q test ls zero)
+  where
+    go : (f : Bool) → passes q ls (numberOf test ls 0) ≡ passes q (among test ls) 0 → passes q (l ∷ ls) (pick f 0 (suc (numberOf test ls 0))) ≡ passes q (pick f (l ∷ []) [] ++ among test ls) 0
+    go true e = refl
+    go false e = e
+passes-among q test (l ∷ ls) (suc i) = go (test l) (passes-among q test ls i) (passes-among q test ls (suc i))
+  where
+    go : (f : Bool) → passes q ls (numberOf test ls i) ≡ passes q (among test ls) i → passes q ls (numberOf test ls (suc i)) ≡ passes q (among test ls) (suc i) →
+        passes q ls (numberOf test ls (pick f i (suc i))) ≡ passes q (pick f (l ∷ []) [] ++ among test ls) (suc i)
+    go true e z = e
+    go false e z = z
+
+-- ---- each nonconforming header stanza has had its error: what is left, from a slot on
+
+module _ (t : Table) (es : List Label) where
+  -- the label of a slot owes no error, or has had it
+  abbrev pub isSettled : ℕ → Bool
+  isSettled i = let l = slotLabel t i in not (isNonconforming l) || isAny (isNaming (3 + l .index) (howMany (isFile (l .index)) (take i (labels t)))) es
+
+  -- those from a slot on
+  abbrev pub stanzasReported : ℕ → Bool
+  stanzasReported i = areStanzasReported (take i (labels t)) (drop i (labels t)) es
+
+  -- by the entry of the slot
+  pub settled-is : (i : ℕ) (e : Entry) → e ≡ getD (t .slots) i empty → isSettled i ≡ (not (isNonconforming (labelOf e)) || isAny (isNaming (3 + e .index) (howMany (isFile (e .index)) (take i (labels t)))) es)
+  settled-is i e h = ap (λ (e : Entry). not (isNonconforming (labelOf e)) || isAny (isNaming (3 + e .index) (howMany (isFile (e .index)) (take i (labels t)))) es) (sym h)
+
+  stanzas-at : (i : ℕ) → i < length (labels t) → stanzasReported i ≡ (isSettled i && stanzasReported (i + 1))
+  unfolding areStanzasReported
+  stanzas-at i h =
+      ap (λ ls. areStanzasReported (take i (labels t)) ls es) (labels-at t i h)
+      ∙ ap (λ ls. isSettled i && areStanzasReported ls (drop (i + 1) (labels t)) es) (sym (ap (λ n. take n (labels t)) (add-one i) ∙ take-suc (labels t) i (labelOf empty) h ∙ ap (λ l. take i (labels t) ++ (l ∷ [])) (label-is t i h)))
+
+  pub stanzas-not : (i : ℕ) → stanzasReported i ≡ stanzasReported 0 → i < length (labels t) → isSettled i ≡ false → false ≡ stanzasReported 0
+  stanzas-not i e h p = sym (ap (λ b. b && stanzasReported (i + 1)) p) ∙ sym (stanzas-at i h) ∙ e
+
+  pub stanzas-on : (i : ℕ) → stanzasReported i ≡ stanzasReported 0 → i < length (labels t) → isSettled i ≡ true → stanzasReported (i + 1) ≡ stanzasReported 0
+  stanzas-on i e h p = sym (ap (λ b. b && stanzasReported (i + 1)) p) ∙ sym (stanzas-at i h) ∙ e
+
+  pub stanzas-all : (i : ℕ) → stanzasReported i ≡ stanzasReported 0 → length (labels t) ≤ i → true ≡ stanzasReported 0
+  unfolding areStanzasReported
+  stanzas-all i e h = sym (ap (λ ls. areStanzasReported (take i (labels t)) ls es) (labels-end t i h)) ∙ e

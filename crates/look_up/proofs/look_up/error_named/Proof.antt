@@ -21,10 +21,10 @@ named-by-requires : tie.Need-named-by-requires
 named-by-requires c κs = search needs
 
 returns : tie.Need-returns
-returns c = rw (sym (rw (c .before .before .before .span-of .ensures) at (c .before .before .find .ensures)) ∙ ap foundSaid (c .enum-told .given .1))
+returns c = λ hs. rw (sym (rw (c .before .before .before .span-of .ensures) at (c .before .before .find .ensures)) ∙ ap foundSaid (c .enum-told .given .1))
 
 returns-2 : tie.Need-returns-2
-returns-2 c = rw (sym (rw (c .before .before .before .before .before .span-of .ensures) at (c .before .before .before .before .find .ensures)) ∙ ap foundSaid (c .before .before .error .given .1)) (c .named-by .ensures)
+returns-2 c = λ hs. rw (sym (rw (c .before .before .before .before .before .span-of .ensures) at (c .before .before .before .before .find .ensures)) ∙ ap foundSaid (c .before .before .error .given .1)) (c .named-by .ensures)
 
 pub error-named-spec : {M : Type 1} → statement M
 error-named-spec =

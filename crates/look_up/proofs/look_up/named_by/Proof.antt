@@ -1,6 +1,6 @@
--- The marks are asked in the definition's order.
-use borrow.Author.Tests.{eq-eqb, ne-eqb}
+-- The marks are asked in the definition's order; what is none of the first three is a header stanza's.
 use borrow.Author.Needs.{needs}
+use borrow.Author.Tests.{eq-eqb, ne-eqb}
 use Rattle.look_up.proofs.look_up.named_by.Statement.{statement}
 use Rattle.look_up.proofs.look_up.named_by.Tie as tie
 
@@ -13,15 +13,11 @@ returns-2 c = rw (ne-eqb _ _ (c .before .if1 .left), eq-eqb _ _ (c .if2 .taken))
 returns-3 : tie.Need-returns-3
 returns-3 c = rw (ne-eqb _ _ (c .before .before .if1 .left), ne-eqb _ _ (c .before .if2 .left), eq-eqb _ _ (c .if3 .taken))
 
-header-named-requires : tie.Need-header-named-requires
-header-named-requires c κs = search needs
+sub-t5 : tie.Need-sub-t5
+sub-t5 c = search needs
 
 returns-4 : tie.Need-returns-4
-returns-4 c = rw (ne-eqb _ _ (c .before .before .before .before .if1 .left), ne-eqb _ _ (c .before .before .before .if2 .left), ne-eqb _ _ (c .before .before .if3 .left), eq-eqb _ _ (c .before .if4 .taken)) (c .header-named .ensures)
-
-returns-5 : tie.Need-returns-5
-returns-5 c = rw (ne-eqb _ _ (c .before .before .before .if1 .left), ne-eqb _ _ (c .before .before .if2 .left), ne-eqb _ _ (c .before .if3 .left), ne-eqb _ _ (c .if4 .left))
+returns-4 c = rw (ne-eqb _ _ (c .before .before .if1 .left), ne-eqb _ _ (c .before .if2 .left), ne-eqb _ _ (c .if3 .left))
 
 pub named-by-spec : {M : Type 1} → statement M
-named-by-spec =
-    tie.close (tie.spec returns returns-2 returns-3 header-named-requires returns-4 returns-5)
+named-by-spec = tie.close (tie.spec returns returns-2 returns-3 sub-t5 returns-4)

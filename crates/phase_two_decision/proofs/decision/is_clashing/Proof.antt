@@ -1,5 +1,4 @@
 -- A stanza is asked for errors, a key for errors of its file, an error for work; no other command clashes.
-use denote.Ref.{now}
 use borrow.Author.Needs.{needs}
 use Rattle.phase_two_decision.proofs.decision.is_clashing.Statement.{statement}
 use Rattle.phase_two_decision.proofs.decision.is_clashing.Tie as tie
@@ -35,25 +34,25 @@ enum-told-5 : tie.Need-enum-told-5
 enum-told-5 c = search needs
 
 returns : tie.Need-returns
-returns c = rw (c .before .enum-told .given .1)
+returns c = λ hs. rw (c .before .enum-told .given .1)
 
 returns-2 : tie.Need-returns-2
-returns-2 c = rw (c .before .before .before .command .given .1) (rw (c .before .wide .ensures) at (c .has-error-for .ensures))
+returns-2 c = λ hs. rw (c .before .before .before .command .given .1) (rw (c .before .wide .ensures) at (c .has-error-for .ensures))
 
 returns-3 : tie.Need-returns-3
-returns-3 c = rw (c .before .before .command2 .given .1) (c .is-against-work .ensures (now (c .before .before .before .before .args .header-slots)))
+returns-3 c = λ hs. rw (c .before .before .command2 .given .1) (c .is-against-work .ensures hs)
 
 returns-4 : tie.Need-returns-4
-returns-4 c = rw (c .enum-told2 .given .1)
+returns-4 c = λ hs. rw (c .enum-told2 .given .1)
 
 returns-5 : tie.Need-returns-5
-returns-5 c = rw (c .enum-told3 .given .1)
+returns-5 c = λ hs. rw (c .enum-told3 .given .1)
 
 returns-6 : tie.Need-returns-6
-returns-6 c = rw (c .enum-told4 .given .1)
+returns-6 c = λ hs. rw (c .enum-told4 .given .1)
 
 returns-7 : tie.Need-returns-7
-returns-7 c = rw (c .enum-told5 .given .1)
+returns-7 c = λ hs. rw (c .enum-told5 .given .1)
 
 pub is-clashing-spec : {M : Type 1} → statement M
 is-clashing-spec =

@@ -18,8 +18,11 @@ enum-known-named c = search needs
 wide-requires : tie.Need-wide-requires
 wide-requires c κs = search needs
 
-is-unknown-at-requires : tie.Need-is-unknown-at-requires
-is-unknown-at-requires c κs = search needs
+wide-requires-2 : tie.Need-wide-requires-2
+wide-requires-2 c κs = search needs
+
+is-unknown-in-requires : tie.Need-is-unknown-in-requires
+is-unknown-in-requires c κs = search needs
 
 returns : tie.Need-returns
 returns c = λ xs. rw (c .enum-told .given .1)
@@ -31,7 +34,7 @@ returns-3 : tie.Need-returns-3
 returns-3 c = λ xs. rw (c .enum-told3 .given .1)
 
 returns-4 : tie.Need-returns-4
-returns-4 c = λ xs. rw (c .before .before .before .named .given .1) (rw (c .before .wide .ensures) at (c .is-unknown-at .ensures))
+returns-4 c = λ xs. rw (c .before .before .before .before .named .given .1) (rw (c .before .before .wide .ensures, c .before .wide2 .ensures) at (c .is-unknown-in .ensures))
 
 pub is-for-unknown-spec : {M : Type 1} → statement M
 is-for-unknown-spec =
@@ -42,7 +45,8 @@ is-for-unknown-spec =
     enum-told-3
     enum-known-named
     wide-requires
-    is-unknown-at-requires
+    wide-requires-2
+    is-unknown-in-requires
     returns
     returns-2
     returns-3

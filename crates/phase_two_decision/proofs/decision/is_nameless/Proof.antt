@@ -29,8 +29,8 @@ wide-requires c κs = search needs
 wide-requires-2 : tie.Need-wide-requires-2
 wide-requires-2 c κs = search needs
 
-belongs-to-requires : tie.Need-belongs-to-requires
-belongs-to-requires c κs = search needs
+has-header-requires : tie.Need-has-header-requires
+has-header-requires c κs = search needs
 
 returns : tie.Need-returns
 returns c = λ xs. rw (c .enum-told .given .1)
@@ -42,7 +42,7 @@ returns-3 : tie.Need-returns-3
 returns-3 c = λ xs. rw (c .before .before .named2 .given .1) (c .is-beyond2 .ensures)
 
 returns-4 : tie.Need-returns-4
-returns-4 c = λ xs. rw (c .before .before .before .before .named3 .given .1) (ap not (rw (c .before .before .wide .ensures, c .before .wide2 .ensures) at (c .belongs-to .ensures)))
+returns-4 c = λ xs. rw (c .before .before .before .before .named3 .given .1) (ap not (rw (c .before .before .wide .ensures, c .before .wide2 .ensures) at (c .has-header .ensures)))
 
 pub is-nameless-spec : {M : Type 1} → statement M
 is-nameless-spec =
@@ -56,7 +56,7 @@ is-nameless-spec =
     enum-known-named-3
     wide-requires
     wide-requires-2
-    belongs-to-requires
+    has-header-requires
     returns
     returns-2
     returns-3

@@ -41,16 +41,16 @@ is-clashing-requires : tie.Need-is-clashing-requires
 is-clashing-requires c κs = search needs
 
 returns-5 : tie.Need-returns-5
-returns-5 c = rw (sym (c .before .before .before .before .before .before .before .before .before .before .fault-of .ensures) ∙ ap verdictSaid (c .before .before .before .before .before .before .before .before .enum-told2 .given .1), sym (c .before .before .before .before .before .before .before .is-missing .ensures (now (c .before .before .before .before .before .before .before .before .before .before .before .args .slots))) ∙ c .before .before .before .before .before .before .if1 .left, sym (c .before .before .before .before .before .is-second-key .ensures (now (c .before .before .before .before .before .before .before .before .before .before .before .args .header-slots))) ∙ c .before .before .before .before .if2 .left, sym (c .before .before .before .is-too-many .ensures (now (c .before .before .before .before .before .before .before .before .before .before .before .args .header-slots))) ∙ c .before .before .if3 .left, sym (c .before .is-clashing .ensures) ∙ c .if4 .taken)
+returns-5 c = rw (sym (c .before .before .before .before .before .before .before .before .before .before .fault-of .ensures) ∙ ap verdictSaid (c .before .before .before .before .before .before .before .before .enum-told2 .given .1), sym (c .before .before .before .before .before .before .before .is-missing .ensures (now (c .before .before .before .before .before .before .before .before .before .before .before .args .slots))) ∙ c .before .before .before .before .before .before .if1 .left, sym (c .before .before .before .before .before .is-second-key .ensures (now (c .before .before .before .before .before .before .before .before .before .before .before .args .header-slots))) ∙ c .before .before .before .before .if2 .left, sym (c .before .before .before .is-too-many .ensures (now (c .before .before .before .before .before .before .before .before .before .before .before .args .header-slots))) ∙ c .before .before .if3 .left, sym (c .before .is-clashing .ensures (now (c .before .before .before .before .before .before .before .before .before .before .before .args .header-slots))) ∙ c .if4 .taken)
 
 is-held-by-requires : tie.Need-is-held-by-requires
 is-held-by-requires c κs = search needs
 
 returns-6 : tie.Need-returns-6
-returns-6 c = rw (sym (c .before .before .before .before .before .before .before .before .before .before .before .before .fault-of .ensures) ∙ ap verdictSaid (c .before .before .before .before .before .before .before .before .before .before .enum-told2 .given .1), sym (c .before .before .before .before .before .before .before .before .before .is-missing .ensures (now (c .before .before .before .before .before .before .before .before .before .before .before .before .before .args .slots))) ∙ c .before .before .before .before .before .before .before .before .if1 .left, sym (c .before .before .before .before .before .before .before .is-second-key .ensures (now (c .before .before .before .before .before .before .before .before .before .before .before .before .before .args .header-slots))) ∙ c .before .before .before .before .before .before .if2 .left, sym (c .before .before .before .before .before .is-too-many .ensures (now (c .before .before .before .before .before .before .before .before .before .before .before .before .before .args .header-slots))) ∙ c .before .before .before .before .if3 .left, sym (c .before .before .before .is-clashing .ensures) ∙ c .before .before .if4 .left, sym (c .before .is-held-by .ensures) ∙ c .if5 .taken)
+returns-6 c = rw (sym (c .before .before .before .before .before .before .before .before .before .before .before .before .fault-of .ensures) ∙ ap verdictSaid (c .before .before .before .before .before .before .before .before .before .before .enum-told2 .given .1), sym (c .before .before .before .before .before .before .before .before .before .is-missing .ensures (now (c .before .before .before .before .before .before .before .before .before .before .before .before .before .args .slots))) ∙ c .before .before .before .before .before .before .before .before .if1 .left, sym (c .before .before .before .before .before .before .before .is-second-key .ensures (now (c .before .before .before .before .before .before .before .before .before .before .before .before .before .args .header-slots))) ∙ c .before .before .before .before .before .before .if2 .left, sym (c .before .before .before .before .before .is-too-many .ensures (now (c .before .before .before .before .before .before .before .before .before .before .before .before .before .args .header-slots))) ∙ c .before .before .before .before .if3 .left, sym (c .before .before .before .is-clashing .ensures (now (c .before .before .before .before .before .before .before .before .before .before .before .before .before .args .header-slots))) ∙ c .before .before .if4 .left, sym (c .before .is-held-by .ensures) ∙ c .if5 .taken)
 
 returns-7 : tie.Need-returns-7
-returns-7 c = rw (sym (c .before .before .before .before .before .before .before .before .before .before .before .before .fault-of .ensures) ∙ ap verdictSaid (c .before .before .before .before .before .before .before .before .before .before .enum-told2 .given .1), sym (c .before .before .before .before .before .before .before .before .before .is-missing .ensures (now (c .before .before .before .before .before .before .before .before .before .before .before .before .before .args .slots))) ∙ c .before .before .before .before .before .before .before .before .if1 .left, sym (c .before .before .before .before .before .before .before .is-second-key .ensures (now (c .before .before .before .before .before .before .before .before .before .before .before .before .before .args .header-slots))) ∙ c .before .before .before .before .before .before .if2 .left, sym (c .before .before .before .before .before .is-too-many .ensures (now (c .before .before .before .before .before .before .before .before .before .before .before .before .before .args .header-slots))) ∙ c .before .before .before .before .if3 .left, sym (c .before .before .before .is-clashing .ensures) ∙ c .before .before .if4 .left, sym (c .before .is-held-by .ensures) ∙ c .if5 .left)
+returns-7 c = rw (sym (c .before .before .before .before .before .before .before .before .before .before .before .before .fault-of .ensures) ∙ ap verdictSaid (c .before .before .before .before .before .before .before .before .before .before .enum-told2 .given .1), sym (c .before .before .before .before .before .before .before .before .before .is-missing .ensures (now (c .before .before .before .before .before .before .before .before .before .before .before .before .before .args .slots))) ∙ c .before .before .before .before .before .before .before .before .if1 .left, sym (c .before .before .before .before .before .before .before .is-second-key .ensures (now (c .before .before .before .before .before .before .before .before .before .before .before .before .before .args .header-slots))) ∙ c .before .before .before .before .before .before .if2 .left, sym (c .before .before .before .before .before .is-too-many .ensures (now (c .before .before .before .before .before .before .before .before .before .before .before .before .before .args .header-slots))) ∙ c .before .before .before .before .if3 .left, sym (c .before .before .before .is-clashing .ensures (now (c .before .before .before .before .before .before .before .before .before .before .before .before .before .args .header-slots))) ∙ c .before .before .if4 .left, sym (c .before .is-held-by .ensures) ∙ c .if5 .left)
 
 pub rule-two-spec : {M : Type 1} → statement M
 rule-two-spec =

@@ -23,14 +23,11 @@ are-reported-requires-2 c κs = search needs
 returns-2 : tie.Need-returns-2
 returns-2 c = rw (sym (rw (c .before .before .before .before .before .span-of .ensures) at (c .before .before .before .before .are-reported .ensures)) ∙ not-false _ (c .before .before .before .if1 .left), sym (rw (c .before .before .span-of2 .ensures) at (c .before .are-reported2 .ensures)) ∙ not-true _ (c .if2 .taken))
 
-span-of-requires-3 : tie.Need-span-of-requires-3
-span-of-requires-3 c κs = search needs
-
-are-reported-requires-3 : tie.Need-are-reported-requires-3
-are-reported-requires-3 c κs = search needs
+are-stanzas-reported-requires : tie.Need-are-stanzas-reported-requires
+are-stanzas-reported-requires c κs = search needs
 
 returns-3 : tie.Need-returns-3
-returns-3 c = rw (sym (rw (c .before .before .before .before .before .before .before .span-of .ensures) at (c .before .before .before .before .before .before .are-reported .ensures)) ∙ not-false _ (c .before .before .before .before .before .if1 .left), sym (rw (c .before .before .before .before .span-of2 .ensures) at (c .before .before .before .are-reported2 .ensures)) ∙ not-false _ (c .before .before .if2 .left)) (rw (c .before .span-of3 .ensures) at (c .are-reported3 .ensures))
+returns-3 c = rw (sym (rw (c .before .before .before .before .before .before .span-of .ensures) at (c .before .before .before .before .before .are-reported .ensures)) ∙ not-false _ (c .before .before .before .before .if1 .left), sym (rw (c .before .before .before .span-of2 .ensures) at (c .before .before .are-reported2 .ensures)) ∙ not-false _ (c .before .if2 .left)) (c .are-stanzas-reported .ensures)
 
 pub all-reported-spec : {M : Type 1} → statement M
 all-reported-spec =
@@ -42,6 +39,5 @@ all-reported-spec =
     span-of-requires-2
     are-reported-requires-2
     returns-2
-    span-of-requires-3
-    are-reported-requires-3
+    are-stanzas-reported-requires
     returns-3)

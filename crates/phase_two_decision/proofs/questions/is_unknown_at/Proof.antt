@@ -18,7 +18,7 @@ count-entries-requires c κs = search needs
 returns : tie.Need-returns
 returns c =
     let t = tableIn (c .before .before .span-of .result) (c .before .before .before .args .headers) (now (c .before .before .before .args .header-slots)) in
-    rw (c .before .before .span-of .ensures) at (passes-out isUnknown t (c .before .before .before .args .i) (omega (arith, c .before .count-entries .ensures)))
+    rw (c .before .before .span-of .ensures) at (passes-out isUnknown t (c .before .before .before .args .n) (omega (arith, c .before .count-entries .ensures)))
 
 entry-at-requires : tie.Need-entry-at-requires
 entry-at-requires c κs = search needs
@@ -26,7 +26,7 @@ entry-at-requires c κs = search needs
 returns-2 : tie.Need-returns-2
 returns-2 c =
     let t = tableIn (c .before .before .before .before .span-of .result) (c .before .before .before .before .before .args .headers) (now (c .before .before .before .before .before .args .header-slots)) in
-    rw (c .before .before .before .before .span-of .ensures) at (ap (λ x. isUnknown (labelOf x)) (c .before .entry-at .ensures) ∙ passes-at isUnknown t (c .before .before .before .before .before .args .i) (omega (arith, c .before .before .before .count-entries .ensures)))
+    rw (c .before .before .before .before .span-of .ensures) at (ap (λ x. isUnknown (labelOf x)) (c .before .entry-at .ensures) ∙ passes-at isUnknown t (c .before .before .before .before .before .args .n) (omega (arith, c .before .before .before .count-entries .ensures)))
 
 pub is-unknown-at-spec : {M : Type 1} → statement M
 is-unknown-at-spec =

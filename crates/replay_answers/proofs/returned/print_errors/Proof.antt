@@ -5,10 +5,10 @@ use Prim.Native.Nat.{_-_, _≤_}
 use borrow.Author.Needs.{needs}
 
 abbrev Inv-loop : tie.InvT-loop
-Inv-loop tables slots header errors out₀ at count next₀ n₀ out next n = n ≤ count
+Inv-loop tables slots errors out₀ at count next₀ n₀ out next n = n ≤ count
 
 abbrev μ-loop : tie.MeasureT-loop
-μ-loop tables slots header errors out₀ at count next₀ n₀ out next n = count - n
+μ-loop tables slots errors out₀ at count next₀ n₀ out next n = count - n
 
 count-errors-requires : tie.Need-count-errors-requires Inv-loop μ-loop
 count-errors-requires c κs = search needs

@@ -1,0 +1,75 @@
+-- None that passes stands before i: what is left from there on is all.
+use denote.Ref.{now}
+use mathlib.Core.Path.{_≡_, refl, sym, ap, _∙_}
+use Prim.Native.Nat.{_+_, _-_, _≤_}
+use lib.ListN.{length}
+use native.Mathlib.Omega.{arith}
+use Rattle.tables.specs.Tables.{tableIn}
+use Rattle.conversation.specs.PhaseTwo.{howMany, labels, labelOf, isNaming}
+use Rattle.look_up.proofs.Laws.Labels.{left}
+use Rattle.phase_two_decision.proofs.Laws.Questions.{any-here, any-on, any-none}
+use Rattle.phase_two_decision.proofs.questions.has_stanza_error.Statement.{statement}
+use Rattle.phase_two_decision.proofs.questions.has_stanza_error.Tie as tie
+
+abbrev Inv-loop : tie.InvT-loop
+Inv-loop errors file i slots span k₀ k = (left (isNaming (3 + file) i) (tableIn span errors slots) k ≡ howMany (isNaming (3 + file) i) (labels (tableIn span errors slots))) × (k ≤ length (labels (tableIn span errors slots)))
+
+abbrev μ-loop : tie.MeasureT-loop
+μ-loop errors file i slots span k₀ k = length (labels (tableIn span errors slots)) - k
+
+span-of-requires : tie.Need-span-of-requires Inv-loop μ-loop
+span-of-requires c κs = omega arith
+
+loop-holds : tie.Need-loop-holds Inv-loop μ-loop
+loop-holds c = (refl, omega arith)
+
+count-entries-requires : tie.Need-count-entries-requires Inv-loop μ-loop
+count-entries-requires c κs = omega arith
+
+entry-at-requires : tie.Need-entry-at-requires Inv-loop μ-loop
+entry-at-requires c κs = omega arith
+
+names-stanza-requires : tie.Need-names-stanza-requires Inv-loop μ-loop
+names-stanza-requires c κs = omega arith
+
+returns : tie.Need-returns Inv-loop μ-loop
+returns c =
+    let t = tableIn (c .before .before .before .before .before .before .span-of .result) (c .before .before .before .before .before .before .before .args .errors) (now (c .before .before .before .before .before .before .before .args .slots)) in
+    let q = isNaming (3 + c .before .before .before .before .before .before .before .args .file) (c .before .before .before .before .before .before .before .args .i) in
+    rw (c .before .before .before .before .before .before .span-of .ensures) at (any-here q t (c .before .before .before .before .before .loop .k) (c .before .before .before .before .before .loop .inv .0) (omega (arith, c .before .before .before .before .count-entries .ensures)) (ap (λ x. q (labelOf x)) (sym (c .before .before .entry-at .ensures)) ∙ sym (c .before .names-stanza .ensures) ∙ c .if2 .taken))
+
+add-k : tie.Need-add-k Inv-loop μ-loop
+add-k c = omega (arith, c .before .before .before .before .count-entries .ok)
+
+loop-less : tie.Need-loop-less Inv-loop μ-loop
+loop-less c = omega (arith, c .before .before .before .before .count-entries .ensures)
+
+loop-again : tie.Need-loop-again Inv-loop μ-loop
+loop-again c =
+    let t = tableIn (c .before .before .before .before .before .before .span-of .result) (c .before .before .before .before .before .before .before .args .errors) (now (c .before .before .before .before .before .before .before .args .slots)) in
+    let q = isNaming (3 + c .before .before .before .before .before .before .before .args .file) (c .before .before .before .before .before .before .before .args .i) in
+    let z = c .before .before .before .before .count-entries .ensures in
+    (any-on q t (c .before .before .before .before .before .loop .k) (c .before .before .before .before .before .loop .inv .0) (omega (arith, z)) (ap (λ x. q (labelOf x)) (sym (c .before .before .entry-at .ensures)) ∙ sym (c .before .names-stanza .ensures) ∙ c .if2 .left), omega (arith, z))
+
+returns-2 : tie.Need-returns-2 Inv-loop μ-loop
+returns-2 c =
+    let t = tableIn (c .before .before .before .span-of .result) (c .before .before .before .before .args .errors) (now (c .before .before .before .before .args .slots)) in
+    let q = isNaming (3 + c .before .before .before .before .args .file) (c .before .before .before .before .args .i) in
+    rw (c .before .before .before .span-of .ensures) at (any-none q t (c .before .before .loop .k) (c .before .before .loop .inv .0) (omega (arith, c .before .count-entries .ensures)))
+
+pub has-stanza-error-spec : {M : Type 1} → statement M
+has-stanza-error-spec =
+    tie.close
+    (tie.spec
+    Inv-loop
+    μ-loop
+    span-of-requires
+    loop-holds
+    count-entries-requires
+    entry-at-requires
+    names-stanza-requires
+    returns
+    add-k
+    loop-less
+    loop-again
+    returns-2)
