@@ -8,7 +8,7 @@ ghost use Rattle.stanza.specs.Reading.{readFirst};
 ghost use Rattle.stanza.specs.Writing.{written, bufferAfter};
 ghost use Rattle.bech32.specs.Text.{recipient, identity, parse};
 ghost use Rattle.bech32.specs.Calls.{formOf, readAnswer, readBuffer, writeAnswer, writeBuffer};
-ghost use Rattle.refusal.specs.Output.{answered, filled};
+ghost use Rattle.refusal.specs.Output.{said, answered, filled};
 ghost use Rattle.exports.specs.Results.{numberIn, lengthOr, bodyAt};
 ghost use Rattle.exports.specs.Results.{readNumber, lineOr, bodyOr, takenOr};
 ghost use Rattle.exports.specs.Results.{indexNumber, valueOr};
@@ -22,6 +22,20 @@ use stanza::Stanza;
 
 // No refusal.
 const ACCEPTED: u8 = 0;
+
+// What writing to a lent buffer came to: the number, and how many bytes where nothing was refused.
+fn tell(w: Written, length: &mut usize) -> u8
+    ensures number { λ r. ⌜ r ≡ numberIn (said w) ⌝ }
+    ensures length { λ _. ⌜ now (length .exit) ≡ lengthOr (now (length .entry)) (said w) ⌝ }
+{
+    match w {
+        Written::Bytes(n) => {
+            *length = n;
+            ACCEPTED
+        }
+        Written::Refused(r) => refusal::number(r),
+    }
+}
 
 // The first stanza of a text: where the LF of its first line stands, so that its arguments are text[3..line]; how many bytes its body
 // has; and how many bytes of the text it is. Or 1, 2 or 3.
@@ -69,13 +83,7 @@ pub extern "C" fn flugremio_body(
         taken: taken,
     };
     let w = stanza::body_of(text, s, out);
-    match w {
-        Written::Bytes(n) => {
-            *length = n;
-            ACCEPTED
-        }
-        Written::Refused(r) => refusal::number(r),
-    }
+    tell(w, length)
 }
 
 // A stanza with these arguments, separated by single spaces, the command first, and this body, at the front of `out`, and how many bytes
@@ -92,13 +100,7 @@ pub extern "C" fn flugremio_write(
     ensures length { λ _. ⌜ now (length .exit) ≡ lengthOr (now (length .entry)) (written (now (arguments .entry)) (now (body .entry)) (now (out .entry))) ⌝ }
 {
     let w = stanza::write(arguments, body, out);
-    match w {
-        Written::Bytes(n) => {
-            *length = n;
-            ACCEPTED
-        }
-        Written::Refused(r) => refusal::number(r),
-    }
+    tell(w, length)
 }
 
 // The index that a text is. Or 5.
@@ -224,11 +226,5 @@ fn write_text(kind: TextKind, name: &[u8], payload: &[u8], out: &mut [u8], lengt
         lengthOr (now (length .entry)) (writeAnswer (formOf kind) (now (name .entry)) (now (payload .entry)) (now (out .entry))) ⌝ }
 {
     let w = bech32::write(kind, name, payload, out);
-    match w {
-        Written::Bytes(n) => {
-            *length = n;
-            ACCEPTED
-        }
-        Written::Refused(r) => refusal::number(r),
-    }
+    tell(w, length)
 }

@@ -1,6 +1,5 @@
--- By the answer: bytes set the length, a refusal gives its number and leaves it as it was; the buffer is what `body_of` ensures.
-use mathlib.Core.Path.{refl, sym, ap, _∙_}
-use Rattle.refusal.specs.Output.{said}
+-- The answer and the buffer are what `body_of` ensures; `tell` gives the number and the length.
+use mathlib.Core.Path.{ap, _∙_}
 use Rattle.exports.specs.Results.{numberIn, lengthOr}
 use borrow.Author.Needs.{needs}
 use Rattle.exports.proofs.flugremio_body.Statement.{statement}
@@ -9,38 +8,17 @@ use Rattle.exports.proofs.flugremio_body.Tie as tie
 body-of-requires : tie.Need-body-of-requires
 body-of-requires c κs = search needs
 
-enum-known-w : tie.Need-enum-known-w
-enum-known-w c = search needs
-
-enum-known-w-2 : tie.Need-enum-known-w-2
-enum-known-w-2 c = search needs
-
-number-requires : tie.Need-number-requires
-number-requires c κs = search needs
+tell-requires : tie.Need-tell-requires
+tell-requires c κs = search needs
 
 same-length : tie.Need-same-length
 same-length c = search needs
 
 returns : tie.Need-returns
 returns c =
-    let told = sym (c .before .before .before .before .before .body-of .ensures .0) ∙ ap said (c .before .w .given .1) in
-    (sym (ap numberIn told), (c .before .before .before .before .before .body-of .ensures .1, sym (ap (lengthOr _) told)))
-
-same-length-2 : tie.Need-same-length-2
-same-length-2 c = search needs
-
-returns-2 : tie.Need-returns-2
-returns-2 c = rw (← c .before .before .before .before .before .before .body-of .ensures .0, c .before .before .w2 .given .1) (c .number .ensures, (c .before .before .before .before .before .before .body-of .ensures .1, refl))
+    let w = c .before .before .before .before .body-of .ensures in
+    let t = c .tell .ensures in
+    (t .0 ∙ ap numberIn (w .0), (w .1, t .1 ∙ ap (lengthOr _) (w .0)))
 
 pub flugremio-body-spec : {M : Type 1} → statement M
-flugremio-body-spec =
-    tie.close
-    (tie.spec
-    body-of-requires
-    enum-known-w
-    enum-known-w-2
-    number-requires
-    same-length
-    returns
-    same-length-2
-    returns-2)
+flugremio-body-spec = tie.close (tie.spec body-of-requires tell-requires same-length returns)

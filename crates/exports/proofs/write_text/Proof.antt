@@ -1,5 +1,6 @@
--- By the answer: bytes set the length, a refusal gives its number and leaves it as it was; the buffer is what `write` ensures.
-use mathlib.Core.Path.{refl}
+-- The answer and the buffer are what `write` ensures; `tell` gives the number and the length.
+use mathlib.Core.Path.{ap, _∙_}
+use Rattle.exports.specs.Results.{numberIn, lengthOr}
 use borrow.Author.Needs.{needs}
 use Rattle.exports.proofs.write_text.Statement.{statement}
 use Rattle.exports.proofs.write_text.Tie as tie
@@ -7,36 +8,17 @@ use Rattle.exports.proofs.write_text.Tie as tie
 write-requires : tie.Need-write-requires
 write-requires c κs = search needs
 
-enum-known-w : tie.Need-enum-known-w
-enum-known-w c = search needs
-
-enum-known-w-2 : tie.Need-enum-known-w-2
-enum-known-w-2 c = search needs
-
-number-requires : tie.Need-number-requires
-number-requires c κs = search needs
+tell-requires : tie.Need-tell-requires
+tell-requires c κs = search needs
 
 same-length : tie.Need-same-length
 same-length c = search needs
 
 returns : tie.Need-returns
-returns c = rw (← c .before .before .before .before .before .write .ensures .0, c .before .w .given .1) (refl, (c .before .before .before .before .before .write .ensures .1, refl))
-
-same-length-2 : tie.Need-same-length-2
-same-length-2 c = search needs
-
-returns-2 : tie.Need-returns-2
-returns-2 c = rw (← c .before .before .before .before .before .before .write .ensures .0, c .before .before .w2 .given .1) (c .number .ensures, (c .before .before .before .before .before .before .write .ensures .1, refl))
+returns c =
+    let w = c .before .before .before .before .write .ensures in
+    let t = c .tell .ensures in
+    (t .0 ∙ ap numberIn (w .0), (w .1, t .1 ∙ ap (lengthOr _) (w .0)))
 
 pub write-text-spec : {M : Type 1} → statement M
-write-text-spec =
-    tie.close
-    (tie.spec
-    write-requires
-    enum-known-w
-    enum-known-w-2
-    number-requires
-    same-length
-    returns
-    same-length-2
-    returns-2)
+write-text-spec = tie.close (tie.spec write-requires tell-requires same-length returns)
