@@ -2,6 +2,7 @@
 // invalid line with its number and what that means, goes to standard error.
 ghost use mathlib.Core.Path.{_≡_};
 ghost use lib.ListN.{length};
+
 mod report;
 
 use identity_file::MOST_FAULTS;
@@ -42,7 +43,10 @@ fn run(text: &mut [u8], out: &mut [u8]) {
     let mut faults = [[0usize; 2]; MOST_FAULTS];
     let n = io::read_full(STDIN_FILENO, text);
     if n == text.len() {
-        io::write_all(STDERR_FILENO, b"identities: the file has more than 131,072 bytes\n");
+        io::write_all(
+            STDERR_FILENO,
+            b"identities: the file has more than 131,072 bytes\n",
+        );
         return;
     }
     let reading = identity_file::read(&text[..n], &mut faults, out);
@@ -65,7 +69,10 @@ fn print(reading: Reading, out: &[u8]) -> bool {
             true
         }
         Written::Refused(_) => {
-            io::write_all(STDERR_FILENO, b"identities: 8, more than 64 identities; nothing written\n");
+            io::write_all(
+                STDERR_FILENO,
+                b"identities: 8, more than 64 identities; nothing written\n",
+            );
             false
         }
     }

@@ -36,7 +36,10 @@ fn print_fault(number: usize, line: usize) {
 fn print_meaning(number: usize) {
     match number {
         16 => {
-            io::write_all(STDERR_FILENO, b"not an identity, or longer than 1,024 bytes");
+            io::write_all(
+                STDERR_FILENO,
+                b"not an identity, or longer than 1,024 bytes",
+            );
         }
         21 => {
             io::write_all(STDERR_FILENO, b"the checksum does not hold");
