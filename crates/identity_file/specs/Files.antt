@@ -13,6 +13,7 @@ use Rattle.identity_file.specs.Kinds.{Kind, skipped, secret-key, invalid
 
 -- ---- line by line, in file order
 
+-- by a line's kind: one key more
 abbrev pub keyBy : Kind → ℕ → ℕ
 keyBy skipped n = n
 keyBy secret-key n = suc n
@@ -24,6 +25,7 @@ unfoldable pub keysIn : List (List ℕ) → ℕ
 keysIn [] = 0
 keysIn (l ∷ ls) = keyBy (kindOf l) (keysIn ls)
 
+-- by its kind: a valid line ahead of those behind it
 abbrev pub validBy : Kind → List ℕ → List (List ℕ) → List (List ℕ)
 validBy skipped l ls = ls
 validBy secret-key l ls = ls
@@ -35,6 +37,7 @@ unfoldable pub validIn : List (List ℕ) → List (List ℕ)
 validIn [] = []
 validIn (l ∷ ls) = validBy (kindOf l) l (validIn ls)
 
+-- by its kind: an invalid line's two numbers ahead of those behind it
 abbrev pub faultBy : Kind → ℕ → List (List ℕ) → List (List ℕ)
 faultBy skipped n fs = fs
 faultBy secret-key n fs = fs
@@ -83,6 +86,7 @@ isOver t = ltb 64 (length (validIn (lines t)))
 abbrev pub isRefused : List ℕ → List ℕ → Bool
 isRefused t buffer = isOver t || overflows (transcriptOf t) buffer
 
+-- the answer: how many bytes were written, or the number
 abbrev pub fileAnswer : List ℕ → List ℕ → Answer
 fileAnswer t buffer = pick (isOver t) (refused 8) (answered (transcriptOf t) buffer)
 
@@ -90,10 +94,11 @@ fileAnswer t buffer = pick (isOver t) (refused 8) (answered (transcriptOf t) buf
 abbrev pub fileBuffer : List ℕ → List ℕ → List ℕ
 fileBuffer t buffer = pick (isOver t) buffer (filled (transcriptOf t) buffer)
 
--- how many secret keys and how many invalid lines; none where the call is refused
+-- how many secret keys; none where the call is refused
 abbrev pub keysGiven : List ℕ → List ℕ → ℕ
 keysGiven t buffer = pick (isRefused t buffer) 0 (keysIn (lines t))
 
+-- .. and how many invalid lines
 abbrev pub faultsGiven : List ℕ → List ℕ → ℕ
 faultsGiven t buffer = pick (isRefused t buffer) 0 (length (faultsFrom 0 (lines t)))
 

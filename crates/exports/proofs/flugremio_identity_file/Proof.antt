@@ -1,6 +1,6 @@
 -- By the answer: bytes set the counts and the length, a refusal gives its number and leaves them as they were; list and buffer are what `read` ensures.
 use borrow.Author.Needs.{needs}
-use mathlib.Core.Path.{refl, sym, ap, _∙_}
+use mathlib.Core.Path.{sym, ap, _∙_}
 use denote.Ref.{now}
 use Rattle.refusal.specs.Output.{said}
 use Rattle.identity_file.specs.Files.{keysGiven, faultsGiven}

@@ -1,8 +1,7 @@
 -- What one pass over the lines comes to: the counts, the places of the valid lines and the faults that Files says.
 use Prim.Native.Nat.{ℕ, zero, suc, _+_, _-_, _<_, _≤_}
 use mathlib.Core.Path.{_≡_, refl, sym, ap, ap₂, _∙_}
-use mathlib.Core.Bool.{true, false}
-use mathlib.Core.List.{List, [], _∷_, _++_, map, append-assoc, append-nil}
+use mathlib.Core.List.{List, [], _∷_, _++_, append-assoc, append-nil}
 use lib.Dec.{ltb, eqb}
 use lib.ListN.{length, take, drop, getD, set, length-append, length-map, length-take, length-drop, drop-of-length-le, replicate}
 use lib.Seq.{drop-append-seam, drop-drop, drop-length, getD-take}

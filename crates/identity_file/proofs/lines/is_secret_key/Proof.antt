@@ -1,9 +1,9 @@
 -- A line of fewer bytes does not begin so; of any other the first 16 are compared.
 use borrow.Author.Needs.{needs}
-use mathlib.Core.Path.{_≡_, refl, sym, ap, ap₂, _∙_}
+use mathlib.Core.Path.{sym}
 use denote.Ref.{now}
 use native.Mathlib.Omega.{arith}
-use lib.ListN.{length, length-take}
+use lib.ListN.{length-take}
 use lib.Seq.{length-take-le}
 use Rattle.refusal.proofs.Laws.Same.{same-length}
 use Rattle.identity_file.specs.Kinds.{secretKey}

@@ -1,6 +1,6 @@
 -- An empty line is skipped; any other by its first byte.
 use borrow.Author.Needs.{needs}
-use mathlib.Core.Path.{_≡_, refl, sym, ap, ap₂, _∙_}
+use mathlib.Core.Path.{sym}
 use denote.Ref.{now}
 use native.Mathlib.Omega.{arith}
 use Rattle.identity_file.proofs.Laws.Kinds.{skip-empty, skip-first}

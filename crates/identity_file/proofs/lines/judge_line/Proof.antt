@@ -1,6 +1,5 @@
 -- The tests are the definition's, in its order.
 use borrow.Author.Needs.{needs}
-use mathlib.Core.Path.{_≡_, refl, sym, ap, ap₂, _∙_}
 use borrow.Author.Tests.{lt-ltb, le-ltb, ne-eqb}
 use Rattle.identity_file.specs.Kinds.{kindOf}
 use Rattle.identity_file.proofs.lines.judge_line.Statement.{statement}

@@ -1,6 +1,5 @@
 -- Each arm is the definition's of that kind.
 use borrow.Author.Needs.{needs}
-use mathlib.Core.Path.{_≡_, refl, sym, ap, ap₂, _∙_}
 use Rattle.identity_file.proofs.survey.note.Statement.{statement}
 use Rattle.identity_file.proofs.survey.note.Tie as tie
 

@@ -1,6 +1,5 @@
 -- Three copies, one behind the other.
 use borrow.Author.Needs.{needs}
-use mathlib.Core.Path.{_≡_, refl, sym, ap, ap₂, _∙_}
 use denote.Ref.{now}
 use Rattle.identity_file.proofs.Laws.Writing.{command-placed}
 use Rattle.identity_file.proofs.writing.put_command.Statement.{statement}

@@ -1,9 +1,8 @@
 -- The commands, and done behind them.
 use borrow.Author.Needs.{needs}
-use mathlib.Core.Path.{_≡_, refl, sym, ap, ap₂, _∙_}
 use denote.Ref.{now}
 use native.Mathlib.Omega.{arith}
-use lib.ListN.{length, take, drop, getD}
+use lib.ListN.{take}
 use Rattle.identity_file.specs.Steps.{textsAt}
 use Rattle.identity_file.proofs.Laws.Writing.{transcript-length, done-placed}
 use Rattle.base64.specs.Code.{encoded}
