@@ -61,6 +61,12 @@ writeAnswer k name payload buffer = pick (isWritable k name payload) (answered (
 abbrev pub writeBuffer : Form → List ℕ → List ℕ → List ℕ → List ℕ
 writeBuffer k name payload buffer = pick (isWritable k name payload) (filled (textOf k name payload) buffer) buffer
 
+-- ---- the reader's number for a text of any plugin: 0, or 16
+
+abbrev pub textNumber : Parsed → ℕ
+textNumber none = 16
+textNumber (parsed name payload) = 0
+
 -- ---- the reader's number for a text of a given plugin's name, compared without case: 0, or 16, also for another name
 
 abbrev pub markOf : Parsed → List ℕ → ℕ

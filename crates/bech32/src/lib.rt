@@ -10,6 +10,7 @@ pub use human::is_lowered;
 pub use human::name_of;
 pub use parsing::ReadText;
 pub use parsing::holds;
+pub use parsing::judge;
 pub use parsing::mark;
 pub use parsing::read;
 pub use writing::write;

@@ -9,7 +9,7 @@ ghost use Rattle.refusal.specs.Output.{said};
 ghost use Rattle.symbols.specs.Charset.{lower};
 ghost use Rattle.symbols.specs.Steps.{Values};
 ghost use Rattle.bech32.specs.Text.{noLower, noUpper, isCased, isNotOne, separator, isChecked, parse};
-ghost use Rattle.bech32.specs.Calls.{formOf, isSound, padded, readAnswer, readBuffer, readName, markOf};
+ghost use Rattle.bech32.specs.Calls.{formOf, isSound, padded, readAnswer, readBuffer, readName, textNumber, markOf};
 ghost use Rattle.bech32.specs.Steps.{nameOf};
 use crate::CHECKSUM;
 use crate::LONGEST;
@@ -205,6 +205,18 @@ fn refused(r: Refusal) -> ReadText
 
 // No refusal.
 const VALID: u8 = 0;
+
+// The reader's number for a text of the kind, of any plugin: 0, or 16.
+pub fn judge(kind: TextKind, text: &[u8]) -> u8
+    ensures { λ r. ⌜ r ≡ textNumber (parse (formOf kind) (now (text .entry))) ⌝ }
+{
+    let table = values();
+    let name = examine(kind, &table, text, find_separator(text));
+    if name.length == 0 {
+        return refusal::number(Refusal::NotBech32);
+    }
+    VALID
+}
 
 // The reader's number for a text of the kind and of a plugin, by its name in either case: 0, or 16, also for another name.
 pub fn mark(kind: TextKind, text: &[u8], plugin: &[u8]) -> u8

@@ -21,6 +21,11 @@ abbrev pub lengthOr : ℕ → Answer → ℕ
 lengthOr old (bytes n) = n
 lengthOr old (refused k) = old
 
+-- .. a count that goes with it
+abbrev pub countOr : ℕ → ℕ → Answer → ℕ
+countOr old count (bytes n) = count
+countOr old count (refused k) = old
+
 -- reading a stanza: the number given back
 abbrev pub readNumber : reading.Reading → ℕ
 readNumber (reading.stanza line body taken) = 0

@@ -9,12 +9,14 @@ ghost use Rattle.stanza.specs.Writing.{written, bufferAfter};
 ghost use Rattle.bech32.specs.Text.{recipient, identity, parse};
 ghost use Rattle.bech32.specs.Calls.{formOf, readAnswer, readBuffer, writeAnswer, writeBuffer};
 ghost use Rattle.refusal.specs.Output.{said, answered, filled};
-ghost use Rattle.exports.specs.Results.{numberIn, lengthOr, bodyAt};
+ghost use Rattle.identity_file.specs.Files.{fileAnswer, fileBuffer, keysGiven, faultsGiven, faultsListed};
+ghost use Rattle.exports.specs.Results.{numberIn, lengthOr, countOr, bodyAt};
 ghost use Rattle.exports.specs.Results.{readNumber, lineOr, bodyOr, takenOr};
 ghost use Rattle.exports.specs.Results.{indexNumber, valueOr};
 ghost use Rattle.exports.specs.Results.{nameOr, namedOr};
 use bech32::LONGEST_NAME;
 use bech32::TextKind;
+use identity_file::MOST_FAULTS;
 use refusal::Written;
 use stanza::First;
 use stanza::Index;
@@ -227,4 +229,37 @@ fn write_text(kind: TextKind, name: &[u8], payload: &[u8], out: &mut [u8], lengt
 {
     let w = bech32::write(kind, name, payload, out);
     tell(w, length)
+}
+
+// The identities of an old identity file as commands of phase one at the front of `out`, ended by done, and how many bytes that is; how many secret keys were
+// skipped, how many lines are invalid, and the first 64 of these, each with its refusal's number and its line's, counted from 0. Or 8, then 15.
+#[no_mangle]
+pub extern "C" fn flugremio_identity_file(
+    text: &[u8],
+    keys: &mut usize,
+    invalid: &mut usize,
+    faults: &mut [[usize; 2]; MOST_FAULTS],
+    out: &mut [u8],
+    length: &mut usize,
+) -> u8
+    ensures number { λ r. ⌜ r ≡ numberIn (fileAnswer (now (text .entry)) (now (out .entry))) ⌝ }
+    ensures keys { λ _. ⌜ now (keys .exit) ≡
+        countOr (now (keys .entry)) (keysGiven (now (text .entry)) (now (out .entry))) (fileAnswer (now (text .entry)) (now (out .entry))) ⌝ }
+    ensures invalid { λ _. ⌜ now (invalid .exit) ≡
+        countOr (now (invalid .entry)) (faultsGiven (now (text .entry)) (now (out .entry))) (fileAnswer (now (text .entry)) (now (out .entry))) ⌝ }
+    ensures faults { λ _. ⌜ now (faults .exit) ≡ faultsListed (now (text .entry)) (now (out .entry)) (now (faults .entry)) ⌝ }
+    ensures buffer { λ _. ⌜ now (out .exit) ≡ fileBuffer (now (text .entry)) (now (out .entry)) ⌝ }
+    ensures length { λ _. ⌜ now (length .exit) ≡ lengthOr (now (length .entry)) (fileAnswer (now (text .entry)) (now (out .entry))) ⌝ }
+{
+    let reading = identity_file::read(text, faults, out);
+    let answer = reading.answer;
+    match answer {
+        Written::Bytes(n) => {
+            *keys = reading.keys;
+            *invalid = reading.invalid;
+            *length = n;
+            ACCEPTED
+        }
+        Written::Refused(r) => refusal::number(r),
+    }
 }

@@ -17,7 +17,7 @@ use Rattle.refusal.proofs.Laws.Run.{all-append, all-more}
 use Rattle.symbols.specs.Charset.{valueOf, isUpper, lower}
 use Rattle.symbols.specs.Checksum.{areSymbols, polymod, expanded}
 use Rattle.symbols.specs.Regroup.{isWhole, bytes}
-use Rattle.bech32.specs.Calls.{readAnswer, readName, readBuffer, markOf}
+use Rattle.bech32.specs.Calls.{readAnswer, readName, readBuffer, textNumber, markOf}
 use Rattle.refusal.specs.Output.{refused, bytes as accepted}
 use Rattle.bech32.specs.Text.{Form, parse, humanPart, isNameByte, isName, isNotOne, isCased, separator, nameIn, humanIn, valuesIn, payloadIn, isChecked, isHuman, isText}
 use Rattle.symbols.specs.Calls.{valueAt, closes}
@@ -194,3 +194,10 @@ mark-none k t plugin e = rw e
 
 pub mark-is : (k : Form) (t plugin : List ℕ) → isText k t ≡ true → pick (same (map lower plugin) (nameOf k t)) 0 16 ≡ markOf (parse k t) plugin
 mark-is k t plugin e = rw e
+
+-- the number
+pub number-none : (k : Form) (t : List ℕ) → isText k t ≡ false → 16 ≡ textNumber (parse k t)
+number-none k t e = rw e
+
+pub number-is : (k : Form) (t : List ℕ) → isText k t ≡ true → 0 ≡ textNumber (parse k t)
+number-is k t e = rw e

@@ -1,0 +1,17 @@
+-- The tests are the definition's.
+use borrow.Author.Needs.{needs}
+use borrow.Author.Tests.{lt-ltb, le-ltb}
+use Rattle.identity_file.proofs.lines.next_line.Statement.{statement}
+use Rattle.identity_file.proofs.lines.next_line.Tie as tie
+
+add-result : tie.Need-add-result
+add-result c = search needs
+
+returns : tie.Need-returns
+returns c = rw (lt-ltb _ _ (c .if1 .taken))
+
+returns-2 : tie.Need-returns-2
+returns-2 c = rw (le-ltb _ _ (c .if1 .left))
+
+pub next-line-spec : {M : Type 1} → statement M
+next-line-spec = tie.close (tie.spec add-result returns returns-2)
