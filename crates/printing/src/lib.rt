@@ -4,6 +4,7 @@ mod page;
 mod rows;
 
 pub use page::put;
+pub use page::put_decimal;
 pub use page::put_number;
 pub use rows::print_number;
 pub use rows::print_row;

@@ -34,7 +34,7 @@ fn put_escaped(bytes: &[u8], out: &mut [u8], at: usize) -> usize
 }
 
 // A number in decimal.
-fn put_decimal(n: u64, out: &mut [u8], at: usize) -> usize
+pub fn put_decimal(n: u64, out: &mut [u8], at: usize) -> usize
     ensures { λ r. ⌜ page r (now (out .exit)) ≡ put (decimal n) (page at (now (out .entry))) ⌝ }
 {
     let mut text = [0u8; 20];

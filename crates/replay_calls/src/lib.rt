@@ -1,6 +1,9 @@
 // The calls that need no session, a function for each: it judges the words of the line and makes the call.
+mod identity_files;
+
 use bech32::ReadText;
 use bech32::TextKind;
+use identity_files::call_identity_file;
 use judging::Judged;
 use profile::Conformity;
 use refusal::Written;
@@ -91,6 +94,7 @@ fn call_buffered(
         Call::Identity => call_read(TextKind::Identity, text, w, buffer, out, at),
         Call::WriteRecipient => call_encode(TextKind::Recipient, text, w, buffer),
         Call::WriteIdentity => call_encode(TextKind::Identity, text, w, buffer),
+        Call::IdentityFile => call_identity_file(text, w, buffer, out, at),
         _ => Answer::Bad,
     }
 }

@@ -3,7 +3,7 @@ use Prim.Native.Nat.{ℕ}
 use mathlib.Core.List.{List, [], _∷_}
 use Rattle.script.specs.Choice.{recipientWord, identityWord}
 use Rattle.script.specs.declared.calls.Call.{Call}
-use Rattle.script.specs.declared.calls.Call.the-variants.{Stanza, Write, Index, Checksum, Recipient, Identity, WriteRecipient, WriteIdentity, Profile, Judge, Open, Buffers, Send, Chunk, Reply, Awaited, Finish, Entry, Show, Other}
+use Rattle.script.specs.declared.calls.Call.the-variants.{Stanza, Write, Index, Checksum, Recipient, Identity, WriteRecipient, WriteIdentity, Profile, Judge, Open, Buffers, Send, Chunk, Reply, Awaited, Finish, Entry, Show, IdentityFile, Other}
 
 -- "stanza"
 abbrev pub stanzaWord : List ℕ
@@ -73,9 +73,13 @@ entryWord = 101 ∷ 110 ∷ 116 ∷ 114 ∷ 121 ∷ []
 abbrev pub showWord : List ℕ
 showWord = 115 ∷ 104 ∷ 111 ∷ 119 ∷ []
 
+-- "identity-file"
+abbrev pub identityFileWord : List ℕ
+identityFileWord = 105 ∷ 100 ∷ 101 ∷ 110 ∷ 116 ∷ 105 ∷ 116 ∷ 121 ∷ 45 ∷ 102 ∷ 105 ∷ 108 ∷ 101 ∷ []
+
 -- all of them
 abbrev pub callWords : List (List ℕ)
-callWords = stanzaWord ∷ writeWord ∷ indexWord ∷ checksumWord ∷ recipientWord ∷ identityWord ∷ writeRecipientWord ∷ writeIdentityWord ∷ profileWord ∷ judgeWord ∷ openWord ∷ buffersWord ∷ sendWord ∷ chunkWord ∷ replyWord ∷ awaitedWord ∷ finishWord ∷ entryWord ∷ showWord ∷ []
+callWords = stanzaWord ∷ writeWord ∷ indexWord ∷ checksumWord ∷ recipientWord ∷ identityWord ∷ writeRecipientWord ∷ writeIdentityWord ∷ profileWord ∷ judgeWord ∷ openWord ∷ buffersWord ∷ sendWord ∷ chunkWord ∷ replyWord ∷ awaitedWord ∷ finishWord ∷ entryWord ∷ showWord ∷ identityFileWord ∷ []
 
 -- the number of the code's answer
 abbrev pub callSaid : Call → ℕ
@@ -98,4 +102,5 @@ callSaid Awaited = 15
 callSaid Finish = 16
 callSaid Entry = 17
 callSaid Show = 18
-callSaid Other = 19
+callSaid IdentityFile = 19
+callSaid Other = 20

@@ -25,12 +25,13 @@ pub enum Call {
     Finish,
     Entry,
     Show,
+    IdentityFile,
     Other,
 }
 
 // The words of the calls, which number them.
-const WORDS: [u8; 147] =
-    *b"stanza write index checksum recipient identity write-recipient write-identity profile judge open buffers send chunk reply awaited finish entry show";
+const WORDS: [u8; 161] =
+    *b"stanza write index checksum recipient identity write-recipient write-identity profile judge open buffers send chunk reply awaited finish entry show identity-file";
 
 // The call of a first word that has been read.
 pub fn choose_call(word: &[u8]) -> Call
@@ -58,6 +59,7 @@ pub fn choose_call(word: &[u8]) -> Call
         16 => Call::Finish,
         17 => Call::Entry,
         18 => Call::Show,
+        19 => Call::IdentityFile,
         _ => Call::Other,
     }
 }

@@ -92,7 +92,11 @@ returns-19 c = sym (c .match .keys19) ∙ c .before .find-word .ensures
 
 returns-20 : tie.Need-returns-20
 unfolding words before
-returns-20 c = place-other (now (c .before .before .before .before .args .word)) callWords (c .before .find-word .ensures) (none-below (c .before .find-word .result) 19 (c .match .rest))
+returns-20 c = sym (c .match .keys20) ∙ c .before .find-word .ensures
+
+returns-21 : tie.Need-returns-21
+unfolding words before
+returns-21 c = place-other (now (c .before .before .before .before .args .word)) callWords (c .before .find-word .ensures) (none-below (c .before .find-word .result) 20 (c .match .rest))
 
 pub choose-call-spec : {M : Type 1} → statement M
 choose-call-spec =
@@ -119,4 +123,5 @@ choose-call-spec =
     returns-17
     returns-18
     returns-19
-    returns-20)
+    returns-20
+    returns-21)
