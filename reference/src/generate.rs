@@ -6,6 +6,7 @@ mod bech32;
 mod chunks;
 mod class;
 mod commands;
+mod identity_file;
 mod judge;
 mod lines;
 mod phase_one;
@@ -36,6 +37,7 @@ pub fn script() -> Vec<u8> {
     lines::sections(&mut script);
     phase_two::sections(&mut script);
     chunks::sections(&mut script);
+    identity_file::sections(&mut script);
     class::sections(&mut script);
     script.heading("The last line lacks its LF");
     script.index(b"7");
@@ -134,10 +136,10 @@ mod tests {
     fn the_script_is_always_the_same_and_not_too_long() {
         let first = script();
         assert_eq!(first, script());
-        assert!(first.len() < 7_000_000);
+        assert!(first.len() < 8_000_000);
         assert_ne!(first.last(), Some(&b'\n'));
         let answers: usize = answered(&first).iter().map(|(_, answer)| answer.len() + 1).sum();
-        assert!(answers < 5_000_000);
+        assert!(answers < 6_000_000);
     }
 
     fn first_word(text: &str) -> &str {
@@ -166,6 +168,7 @@ mod tests {
             ("write-recipient", "bad, ok, refused 15, refused 17"),
             ("write-identity", "bad, ok, refused 15, refused 17"),
             ("profile", "bad, ok conforming, ok nonconforming, ok unknown"),
+            ("identity-file", "bad, ok, refused 15, refused 8"),
             ("judge", "bad, ok 0, ok 1, ok 2, ok 3, ok 4, ok 8"),
             ("open", "bad, ok, refused 17, refused 18"),
             ("buffers", "bad, none, ok"),
