@@ -9,6 +9,7 @@ mod commands;
 mod identity_file;
 mod judge;
 mod lines;
+mod no_screen;
 mod phase_one;
 mod phase_two;
 mod profile;
@@ -38,6 +39,7 @@ pub fn script() -> Vec<u8> {
     phase_two::sections(&mut script);
     chunks::sections(&mut script);
     identity_file::sections(&mut script);
+    no_screen::sections(&mut script);
     class::sections(&mut script);
     script.heading("The last line lacks its LF");
     script.index(b"7");

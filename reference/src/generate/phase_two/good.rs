@@ -273,7 +273,7 @@ mod tests {
             let start = some_start(&mut script);
             let exchanges = some_exchanges(&mut script, &start);
             let mut buffers = [Buffers::zeros([10_000; KINDS]), Buffers::zeros([10_000; KINDS])];
-            let mut client = Client::open(start.machine.as_bytes(), start.plugin).unwrap();
+            let mut client = Client::open_with(start.machine.as_bytes(), start.plugin, true).unwrap();
             let mut plugin = Plugin::open(start.machine.as_bytes(), start.plugin).unwrap();
             let mut out = vec![0; 10_000];
             for command in start.phase_one.iter().chain([&Command::done()]) {

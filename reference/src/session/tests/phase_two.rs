@@ -274,6 +274,16 @@ fn without_a_screen_it_answers_fail_at_once() {
     assert_eq!(client.chunk(&text("msg a", b""), &mut buffers, &mut []).refusal, Some(WrongForm));
 }
 
+/// Opening without a word is opening without a screen.
+#[test]
+fn a_client_that_is_not_told_of_a_screen_has_none() {
+    for machine in MACHINES {
+        let untold = Client::open(machine.as_bytes(), b"interop");
+        assert_eq!(untold, Client::open_with(machine.as_bytes(), b"interop", false));
+        assert_ne!(untold, Client::open_with(machine.as_bytes(), b"interop", true));
+    }
+}
+
 /// Every command with every response: 12 leaves a host's reply awaited, and closes a plugin's session.
 #[test]
 fn responses_that_fit() {
