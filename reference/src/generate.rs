@@ -6,6 +6,7 @@ mod bech32;
 mod chunks;
 mod class;
 mod commands;
+mod file_numbers;
 mod identity_file;
 mod judge;
 mod lines;
@@ -40,6 +41,7 @@ pub fn script() -> Vec<u8> {
     chunks::sections(&mut script);
     identity_file::sections(&mut script);
     no_screen::sections(&mut script);
+    file_numbers::sections(&mut script);
     class::sections(&mut script);
     script.heading("The last line lacks its LF");
     script.index(b"7");
@@ -138,7 +140,7 @@ mod tests {
     fn the_script_is_always_the_same_and_not_too_long() {
         let first = script();
         assert_eq!(first, script());
-        assert!(first.len() < 8_000_000);
+        assert!(first.len() < 9_000_000);
         assert_ne!(first.last(), Some(&b'\n'));
         let answers: usize = answered(&first).iter().map(|(_, answer)| answer.len() + 1).sum();
         assert!(answers < 6_000_000);
@@ -347,7 +349,7 @@ mod tests {
         for phase in ["one", "two", "ended", "closed"] {
             assert!(shown.contains(&format!("phase {phase}")), "{phase}");
         }
-        let causes = ["internal", "identity\\s0", "identity\\s1", "recipient\\s0", "stanza\\s1\\s1"];
+        let causes = ["internal", "identity\\s0", "identity\\s1", "recipient\\s0", "stanza\\s1\\s0"];
         for cause in causes {
             let is_cause =
                 |line: &String| line.starts_with("error ") && line.split(' ').nth(2) == Some(cause);
