@@ -6,8 +6,11 @@ mod bech32;
 mod chunks;
 mod class;
 mod commands;
+mod file_numbers;
+mod identity_file;
 mod judge;
 mod lines;
+mod no_screen;
 mod phase_one;
 mod phase_two;
 mod profile;
@@ -36,6 +39,9 @@ pub fn script() -> Vec<u8> {
     lines::sections(&mut script);
     phase_two::sections(&mut script);
     chunks::sections(&mut script);
+    identity_file::sections(&mut script);
+    no_screen::sections(&mut script);
+    file_numbers::sections(&mut script);
     class::sections(&mut script);
     script.heading("The last line lacks its LF");
     script.index(b"7");
@@ -134,10 +140,10 @@ mod tests {
     fn the_script_is_always_the_same_and_not_too_long() {
         let first = script();
         assert_eq!(first, script());
-        assert!(first.len() < 7_000_000);
+        assert!(first.len() < 9_000_000);
         assert_ne!(first.last(), Some(&b'\n'));
         let answers: usize = answered(&first).iter().map(|(_, answer)| answer.len() + 1).sum();
-        assert!(answers < 5_000_000);
+        assert!(answers < 6_000_000);
     }
 
     fn first_word(text: &str) -> &str {
@@ -166,6 +172,7 @@ mod tests {
             ("write-recipient", "bad, ok, refused 15, refused 17"),
             ("write-identity", "bad, ok, refused 15, refused 17"),
             ("profile", "bad, ok conforming, ok nonconforming, ok unknown"),
+            ("identity-file", "bad, ok, refused 15, refused 8"),
             ("judge", "bad, ok 0, ok 1, ok 2, ok 3, ok 4, ok 8"),
             ("open", "bad, ok, refused 17, refused 18"),
             ("buffers", "bad, none, ok"),
@@ -342,7 +349,7 @@ mod tests {
         for phase in ["one", "two", "ended", "closed"] {
             assert!(shown.contains(&format!("phase {phase}")), "{phase}");
         }
-        let causes = ["internal", "identity\\s0", "identity\\s1", "recipient\\s0", "stanza\\s1\\s1"];
+        let causes = ["internal", "identity\\s0", "identity\\s1", "recipient\\s0", "stanza\\s1\\s0"];
         for cause in causes {
             let is_cause =
                 |line: &String| line.starts_with("error ") && line.split(' ').nth(2) == Some(cause);

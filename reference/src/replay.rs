@@ -6,6 +6,7 @@ mod show;
 use std::io::{self, BufRead, Write};
 
 use crate::bech32::{self, Kind};
+use crate::identity_file::{self, Fault};
 use crate::index;
 use crate::judge;
 use crate::profile;
@@ -74,6 +75,7 @@ enum Call<'a> {
     Read { kind: Kind, text: &'a [u8], out: usize },
     WriteText { kind: Kind, name: &'a [u8], payload: &'a [u8], out: usize },
     Profile { name: &'a [u8], line: &'a [u8], body: &'a [u8] },
+    IdentityFile { text: &'a [u8], out: usize },
     Judge { text: &'a [u8] },
 }
 
@@ -94,6 +96,7 @@ impl<'a> Call<'a> {
             [b"write-recipient", name, payload, out] => Self::write(Kind::Recipient, name, payload, out),
             [b"write-identity", name, payload, out] => Self::write(Kind::Identity, name, payload, out),
             [b"profile", name, line, body] => Some(Call::Profile { name, line, body }),
+            [b"identity-file", text, out] => Some(Call::IdentityFile { text, out: length(out)? }),
             [b"judge", text] => Some(Call::Judge { text }),
             _ => None,
         }
@@ -120,6 +123,7 @@ impl<'a> Call<'a> {
             Call::Profile { name, line, body } => {
                 Ok(Answer::words("ok").word(finding_word(profile::check(name, line, body))))
             }
+            Call::IdentityFile { text, out } => read_identity_file(text, out),
             Call::Judge { text } => Ok(judged(text)),
         }
     }
@@ -157,6 +161,23 @@ fn write_bech32(kind: Kind, name: &[u8], payload: &[u8], out: usize) -> Result<A
     let mut out = vec![0; out];
     let len = bech32::write(kind, name, payload, &mut out)?;
     Ok(Answer::words("ok").bytes(&out[..len]))
+}
+
+/// `ok KEYS FAULTY LIST TEXT`.
+fn read_identity_file(text: &[u8], out: usize) -> Result<Answer, Refusal> {
+    let mut out = vec![0; out];
+    let reading = identity_file::read(text, &mut out)?;
+    let answer = Answer::words("ok").number(reading.secret_keys as u64).number(reading.faulty as u64);
+    Ok(answer.word(&fault_list(&reading.listed)).bytes(&out[..reading.written]))
+}
+
+/// Faulty lines as `NUMBER@LINE`, joined by commas.
+fn fault_list(faults: &[Fault]) -> String {
+    if faults.is_empty() {
+        return "-".to_string();
+    }
+    let words = faults.iter().map(|fault| format!("{}@{}", fault.refusal.number(), fault.line));
+    words.collect::<Vec<_>>().join(",")
 }
 
 /// `ok R I K H ANSWER`.
@@ -285,6 +306,18 @@ mod tests {
     }
 
     #[test]
+    fn identity_files() {
+        let identity = "AGE-PLUGIN-INTEROP-1QYQSZQG5Z25TP";
+        let written = format!("->\\sadd-identity\\s{identity}\\n\\n->\\sdone\\n\\n");
+        let file = format!("#\\n{identity}\\nx\\nAGE-SECRET-KEY-1\\n\\n\\x0d");
+        assert_eq!(answers(&format!("identity-file {file} 60")), format!("ok 1 2 16@2,16@5 {written}\n"));
+        assert_eq!(answers(&format!("identity-file {file} 59")), "refused 15\n");
+        assert_eq!(answers("identity-file \\e 9"), "ok 0 0 - ->\\sdone\\n\\n\n");
+        let file = format!("{identity}\\n").repeat(65);
+        assert_eq!(answers(&format!("identity-file {file} 0")), "refused 8\n");
+    }
+
+    #[test]
     fn the_judging_program() {
         assert_eq!(answers("judge \\e"), "ok 0 0 0 0 2\n");
         assert_eq!(answers("judge ->\\sadd-identity\\sa\\n\\n->\\sdone\\n\\nrest"), "ok 0 1 0 0 0\n");
@@ -306,7 +339,8 @@ mod tests {
             "checksum", "checksum a b", "recipient a", "recipient a 1 2", "recipient a b", "Recipient a 1",
             "identity a", "identity a 65537", "write-recipient a b", "write-recipient a b 1 2",
             "write-identity a b -1", "write_identity a b 1", "profile a b", "profile a b c d", "judge",
-            "judge a b", "index\t1", "index 1\r", "index \u{e9}",
+            "judge a b", "identity-file", "identity-file a", "identity-file a 65537", "identity-file a 1 2",
+            "identity-file a \\e", "index\t1", "index 1\r", "index \u{e9}",
         ] {
             assert_eq!(answers(line), "bad line 1\n", "{line}");
         }

@@ -48,7 +48,7 @@ pub(super) fn text_of(kind: Kind, name: &[u8], payload: &[u8]) -> Vec<u8> {
 }
 
 /// The text of a name and any symbols, with a right checksum.
-fn signed(kind: Kind, name: &[u8], symbols: &[u8]) -> Vec<u8> {
+pub(super) fn signed(kind: Kind, name: &[u8], symbols: &[u8]) -> Vec<u8> {
     kind.cased(&encode(&kind.human_part(name), symbols, FINAL_VALUE))
 }
 
@@ -373,7 +373,7 @@ fn lengthened(text: &[u8], zeros: usize) -> Vec<u8> {
 }
 
 /// A name and a payload whose text has exactly the length, and the text.
-fn sized(script: &mut Script, kind: Kind, len: usize) -> (Vec<u8>, Vec<u8>, Vec<u8>) {
+pub(super) fn sized(script: &mut Script, kind: Kind, len: usize) -> (Vec<u8>, Vec<u8>, Vec<u8>) {
     let mut name = some_name(script, 1);
     loop {
         let left = len - text_of(kind, &name, b"").len();

@@ -3,7 +3,7 @@
 mod cuts;
 mod faults;
 mod limits;
-mod live;
+pub(super) mod live;
 mod random;
 mod states;
 #[cfg(test)]

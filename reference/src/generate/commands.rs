@@ -106,10 +106,18 @@ impl Script {
         self.show();
     }
 
-    /// Opens a session; a client gets its default screen.
+    /// Opens a session; a client is not told of a screen.
     pub(super) fn open(&mut self, end: End, machine: &str, plugin: &[u8], lens: [usize; KINDS]) {
         match end {
             End::Client => self.open_client(machine.as_bytes(), plugin, b"default", lens),
+            End::Plugin => self.open_plugin(machine.as_bytes(), plugin, lens),
+        }
+    }
+
+    /// Opens a session; a client has a screen.
+    pub(super) fn open_with_screen(&mut self, end: End, machine: &str, plugin: &[u8], lens: [usize; KINDS]) {
+        match end {
+            End::Client => self.open_client(machine.as_bytes(), plugin, b"screen", lens),
             End::Plugin => self.open_plugin(machine.as_bytes(), plugin, lens),
         }
     }

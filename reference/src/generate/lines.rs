@@ -244,7 +244,7 @@ fn answers_and_commands(script: &mut Script) {
     ];
     script.heading("Replies, a client that receives, a plugin that sends, and lines that are no longer");
     for end in ENDS {
-        script.open(end, RECIPIENT, b"interop", ROOMY);
+        script.open_with_screen(end, RECIPIENT, b"interop", ROOMY);
         for last in [Command::add_recipient(b"kept"), Command::done()] {
             script.pass(end, &last);
             all(script, &lines);

@@ -16,8 +16,8 @@ pub struct Client {
 }
 
 impl Client {
-    /// A client session has a screen unless told otherwise.
-    pub const SCREEN: bool = true;
+    /// A client session has no screen unless told otherwise (document 02, No. 5).
+    pub const SCREEN: bool = false;
 
     /// Opens a session with the default for the screen.
     pub fn open(machine: &[u8], plugin: &[u8]) -> Result<Self, Refusal> {

@@ -166,7 +166,7 @@ impl Step {
         let held_back = match self.detail() {
             Some(Detail::Stanza { .. }) => has_invalid(tables),
             Some(Detail::Key { file }) => has_invalid(tables) || has_nonconforming(tables, file),
-            Some(Detail::Error { cause: Cause::Stanza { number, .. } }) => is_unknown(tables, number),
+            Some(Detail::Error { cause: Cause::Stanza { file, number } }) => is_unknown(tables, file, number),
             _ => self.command == Command::Done && owes_error(tables),
         };
         if held_back {
@@ -229,13 +229,13 @@ fn check_error(tables: &Tables, cause: Cause) -> Result<(), Refusal> {
     Ok(())
 }
 
-/// A header stanza is numbered over the whole session, and must belong to the file.
+/// A header stanza is numbered within its file (document 02, No. 2).
 fn names_something(tables: &Tables, cause: Cause) -> bool {
     match cause {
         Cause::Internal => true,
         Cause::Identity { number } => has_number(tables, Kind::Identity, number),
         Cause::Recipient { number } => has_number(tables, Kind::Recipient, number),
-        Cause::Stanza { file, number } => header(tables, number).is_some_and(|header| header.0 == file),
+        Cause::Stanza { file, number } => finding(tables, file, number).is_some(),
     }
 }
 
@@ -263,8 +263,14 @@ fn headers(tables: &Tables) -> impl Iterator<Item = (u32, Finding)> + '_ {
     })
 }
 
-fn header(tables: &Tables, number: u32) -> Option<(u32, Finding)> {
-    headers(tables).nth(number as usize)
+/// What the stanza check found of each header stanza of the file, in the order received.
+fn findings(tables: &Tables, file: u32) -> impl Iterator<Item = Finding> + '_ {
+    headers(tables).filter(move |header| header.0 == file).map(|header| header.1)
+}
+
+/// The finding of the file's header stanza with this number.
+fn finding(tables: &Tables, file: u32, number: u32) -> Option<Finding> {
+    findings(tables, file).nth(number as usize)
 }
 
 /// Whether any recipient or identity is invalid; an error sent for it does not change that.
@@ -279,11 +285,11 @@ fn is_invalid(detail: Detail) -> bool {
 
 /// Whether any header stanza of the file is nonconforming.
 fn has_nonconforming(tables: &Tables, file: u32) -> bool {
-    headers(tables).any(|header| header == (file, Finding::Nonconforming))
+    findings(tables, file).any(|finding| finding == Finding::Nonconforming)
 }
 
-fn is_unknown(tables: &Tables, number: u32) -> bool {
-    header(tables, number).is_some_and(|header| header.1 == Finding::Unknown)
+fn is_unknown(tables: &Tables, file: u32, number: u32) -> bool {
+    finding(tables, file, number) == Some(Finding::Unknown)
 }
 
 /// Whether an invalid entry or a nonconforming stanza has not had its own error.
@@ -297,7 +303,14 @@ fn faults(tables: &Tables) -> impl Iterator<Item = Cause> + '_ {
     let invalid = |kind| (0..).zip(tables.details(kind)).filter(|entry| is_invalid(entry.1));
     let recipients = invalid(Kind::Recipient).map(|(number, _)| Cause::Recipient { number });
     let identities = invalid(Kind::Identity).map(|(number, _)| Cause::Identity { number });
-    let nonconforming = (0..).zip(headers(tables)).filter(|entry| entry.1 .1 == Finding::Nonconforming);
-    let stanzas = nonconforming.map(|(number, (file, _))| Cause::Stanza { file, number });
-    recipients.chain(identities).chain(stanzas)
+    recipients.chain(identities).chain(nonconforming(tables))
+}
+
+/// Each nonconforming stanza, numbered within its file.
+fn nonconforming(tables: &Tables) -> impl Iterator<Item = Cause> + '_ {
+    let numbered = headers(tables).enumerate().map(|(place, (file, finding))| {
+        let earlier = headers(tables).take(place).filter(|header| header.0 == file).count();
+        (Cause::Stanza { file, number: earlier as u32 }, finding)
+    });
+    numbered.filter(|entry| entry.1 == Finding::Nonconforming).map(|entry| entry.0)
 }

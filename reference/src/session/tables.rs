@@ -104,7 +104,7 @@ pub enum Cause {
     Recipient {
         number: u32,
     },
-    /// A header stanza, by its number among all of the session, and its file.
+    /// A header stanza, by its file and its number among those of the file.
     Stanza {
         file: u32,
         number: u32,

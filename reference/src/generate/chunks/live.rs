@@ -9,16 +9,21 @@ use crate::session::{phase_two, Buffers, Client, Phase, Received, Response, KIND
 const LONGEST_OUT: usize = 65_536;
 
 /// A client session beside the script.
-pub(super) struct Live {
+pub(in crate::generate) struct Live {
     client: Client,
     buffers: Buffers,
     /// How many commands were taken.
-    pub(super) taken: usize,
+    pub(in crate::generate) taken: usize,
 }
 
 impl Live {
     /// Opens a client and passes phase one and its done.
-    pub(super) fn enter(script: &mut Script, screen: Screen, start: &Start, lens: [usize; KINDS]) -> Self {
+    pub(in crate::generate) fn enter(
+        script: &mut Script,
+        screen: Screen,
+        start: &Start,
+        lens: [usize; KINDS],
+    ) -> Self {
         script.enter_client(screen, start, lens);
         let opened = Client::open_with(start.machine.as_bytes(), start.plugin, screen == Screen::Yes);
         let mut client = opened.expect("both names are good");
@@ -31,37 +36,37 @@ impl Live {
         Live { client, buffers, taken: 0 }
     }
 
-    pub(super) fn waits(&self) -> bool {
+    pub(in crate::generate) fn waits(&self) -> bool {
         self.client.session().awaits().is_some()
     }
 
-    pub(super) fn is_over(&self) -> bool {
+    pub(in crate::generate) fn is_over(&self) -> bool {
         matches!(self.client.session().phase(), Phase::Ended | Phase::Closed)
     }
 
-    pub(super) fn chunk(&mut self, script: &mut Script, bytes: &[u8], out: usize) {
+    pub(in crate::generate) fn chunk(&mut self, script: &mut Script, bytes: &[u8], out: usize) {
         script.chunk(bytes, out);
         self.taken += self.client.chunk(bytes, &mut self.buffers, &mut vec![0; out]).count;
     }
 
-    pub(super) fn reply(&mut self, script: &mut Script, answer: &Answer, out: usize) {
+    pub(in crate::generate) fn reply(&mut self, script: &mut Script, answer: &Answer, out: usize) {
         script.reply(answer, out);
         let reply = response(answer);
         self.taken += self.client.reply(reply, &answer.body, &mut self.buffers, &mut vec![0; out]).count;
     }
 
-    pub(super) fn buffers(&mut self, script: &mut Script, lens: [usize; KINDS]) {
+    pub(in crate::generate) fn buffers(&mut self, script: &mut Script, lens: [usize; KINDS]) {
         script.buffers(lens);
         self.buffers.resize(lens);
     }
 
     /// How much the chunk would write.
-    pub(super) fn chunk_len(&self, bytes: &[u8]) -> usize {
+    pub(in crate::generate) fn chunk_len(&self, bytes: &[u8]) -> usize {
         self.len(|client, buffers, out| client.chunk(bytes, buffers, out))
     }
 
     /// How much the reply would write, what follows it included.
-    pub(super) fn reply_len(&self, answer: &Answer) -> usize {
+    pub(in crate::generate) fn reply_len(&self, answer: &Answer) -> usize {
         self.len(|client, buffers, out| client.reply(response(answer), &answer.body, buffers, out))
     }
 
@@ -74,7 +79,7 @@ impl Live {
     }
 
     /// The chunk, with an output buffer one byte too short before one of just the length.
-    pub(super) fn chunk_exactly(&mut self, script: &mut Script, bytes: &[u8]) {
+    pub(in crate::generate) fn chunk_exactly(&mut self, script: &mut Script, bytes: &[u8]) {
         let len = self.chunk_len(bytes);
         if len > 0 {
             self.chunk(script, bytes, len - 1);
@@ -83,7 +88,7 @@ impl Live {
     }
 
     /// The reply, with an output buffer one byte too short before one of just the length.
-    pub(super) fn reply_exactly(&mut self, script: &mut Script, answer: &Answer) {
+    pub(in crate::generate) fn reply_exactly(&mut self, script: &mut Script, answer: &Answer) {
         let len = self.reply_len(answer);
         if len > 0 {
             self.reply(script, answer, len - 1);
@@ -93,14 +98,14 @@ impl Live {
 }
 
 /// The reply that the answer is.
-pub(super) fn response(answer: &Answer) -> Response {
+pub(in crate::generate) fn response(answer: &Answer) -> Response {
     let at = WORDS.iter().position(|&word| word == answer.word).expect("one of the five words");
     Response::ALL[at]
 }
 
 /// How a text is cut into chunks.
 #[derive(Clone, Copy, Debug, PartialEq, Eq)]
-pub(super) enum Cut {
+pub(in crate::generate) enum Cut {
     Whole,
     Bytes,
     /// Into pieces of any length, now and then an empty one.
@@ -108,7 +113,7 @@ pub(super) enum Cut {
 }
 
 /// The pieces of a text, in order.
-pub(super) fn pieces(script: &mut Script, text: &[u8], cut: Cut) -> Vec<Vec<u8>> {
+pub(in crate::generate) fn pieces(script: &mut Script, text: &[u8], cut: Cut) -> Vec<Vec<u8>> {
     let mut pieces = Vec::new();
     let mut rest = text;
     while !rest.is_empty() {

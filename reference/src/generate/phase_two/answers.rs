@@ -117,7 +117,7 @@ fn response_texts(script: &mut Script) {
     }
 }
 
-/// The host's commands with a screen, without one, and by default; an output buffer of 9 bytes, 8 and 0.
+/// The host's commands with a screen, without one, and not told of it; an output buffer of 9 bytes, 8 and 0.
 fn screens(script: &mut Script) {
     for start in Start::of_both_machines() {
         for screen in ["screen", "no-screen", "default"] {

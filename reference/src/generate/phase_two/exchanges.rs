@@ -93,6 +93,19 @@ impl Exchange {
 pub(in crate::generate) enum Screen {
     Yes,
     No,
+    /// It is not told: that is no.
+    Untold,
+}
+
+impl Screen {
+    /// The word of an opening.
+    fn word(self) -> &'static [u8] {
+        match self {
+            Screen::Yes => b"screen",
+            Screen::No => b"no-screen",
+            Screen::Untold => b"default",
+        }
+    }
 }
 
 /// A phase one, and how the session is opened.
@@ -169,15 +182,14 @@ impl Start {
 impl Script {
     /// Opens a session and passes phase one and its done; a client has a screen.
     pub(in crate::generate) fn enter(&mut self, end: End, start: &Start, lens: [usize; KINDS]) {
-        self.open(end, start.machine, start.plugin, lens);
+        self.open_with_screen(end, start.machine, start.plugin, lens);
         self.pass_all(end, &start.phase_one);
         self.pass(end, &Command::done());
     }
 
     /// Opens a client and passes phase one and its done.
     pub(in crate::generate) fn enter_client(&mut self, screen: Screen, start: &Start, lens: [usize; KINDS]) {
-        let word: &[u8] = if screen == Screen::Yes { b"screen" } else { b"no-screen" };
-        self.open_client(start.machine.as_bytes(), start.plugin, word, lens);
+        self.open_client(start.machine.as_bytes(), start.plugin, screen.word(), lens);
         self.pass_all(End::Client, &start.phase_one);
         self.pass(End::Client, &Command::done());
     }

@@ -101,12 +101,16 @@ impl Facts {
         };
         let mut causes = invalid("recipient", &self.recipients);
         causes.extend(invalid("identity", &self.identities));
-        for (number, (file, finding)) in self.headers.iter().enumerate() {
-            if *finding == Finding::Nonconforming {
-                causes.push(format!("stanza {file} {number}"));
-            }
-        }
+        let faulty = |place: &usize| self.headers[*place].1 == Finding::Nonconforming;
+        causes.extend((0..self.headers.len()).filter(faulty).map(|place| self.stanza_cause(place)));
         causes
+    }
+
+    /// What an error for a header stanza of the session says: its file, and its number there.
+    fn stanza_cause(&self, place: usize) -> String {
+        let file = self.headers[place].0;
+        let number = self.headers[..place].iter().filter(|header| header.0 == file).count();
+        format!("stanza {file} {number}")
     }
 }
 
@@ -195,7 +199,7 @@ fn some_unwrapping(script: &mut Script, facts: &Facts) -> Vec<Exchange> {
         let of_file = |finding| facts.headers.iter().position(|&header| header == (file, finding));
         let held_back = facts.has_invalid() || of_file(Finding::Nonconforming).is_some();
         match (script.random.below(4), of_file(Finding::Conforming)) {
-            (0, Some(number)) => work.push(some_error(script, &format!("stanza {file} {number}"))),
+            (0, Some(place)) => work.push(some_error(script, &facts.stanza_cause(place))),
             (1..=3, _) if !held_back => {
                 let line = format!("file-key {file}");
                 let key = script.random.letters(16);
@@ -219,11 +223,10 @@ pub(in crate::generate) fn some_kept(script: &mut Script, start: &Start) -> Exch
     if facts.headers.is_empty() || choice == 0 {
         return some_error(script, "internal");
     }
-    let number = script.random.below(facts.headers.len());
-    let file = facts.headers[number].0;
+    let place = script.random.below(facts.headers.len());
     match choice {
-        1 => some_error(script, &format!("stanza {file} {number}")),
-        _ => Exchange::file_key(file),
+        1 => some_error(script, &facts.stanza_cause(place)),
+        _ => Exchange::file_key(facts.headers[place].0),
     }
 }
 
@@ -273,7 +276,7 @@ mod tests {
             let start = some_start(&mut script);
             let exchanges = some_exchanges(&mut script, &start);
             let mut buffers = [Buffers::zeros([10_000; KINDS]), Buffers::zeros([10_000; KINDS])];
-            let mut client = Client::open(start.machine.as_bytes(), start.plugin).unwrap();
+            let mut client = Client::open_with(start.machine.as_bytes(), start.plugin, true).unwrap();
             let mut plugin = Plugin::open(start.machine.as_bytes(), start.plugin).unwrap();
             let mut out = vec![0; 10_000];
             for command in start.phase_one.iter().chain([&Command::done()]) {

@@ -14,8 +14,8 @@ pub(super) fn sections(script: &mut Script) {
 }
 
 /// Commands with several faults, given buffers and an output buffer of length 0. Before them a key of file 0 and
-/// an error for stanza 1 of file 1 have passed.
-const FAULTS: [(&str, usize); 26] = [
+/// an error for the stanza of file 1 have passed.
+const FAULTS: [(&str, usize); 29] = [
     // 4 before 5, 6, 9, 11, 19, 8 and 15.
     ("file-key 01", 15),
     ("file-key 09 x", 16),
@@ -35,6 +35,10 @@ const FAULTS: [(&str, usize); 26] = [
     ("error stanza 0 9", 9),
     ("error stanza 0 1", 9),
     ("error stanza 1 2", 9),
+    // By the count of document 01 these would name something.
+    ("error stanza 1 1", 9),
+    ("error stanza 2 2", 9),
+    ("error stanza 3 4", 9),
     ("error identity 0", 9),
     // 9 before 11, 19, 8 and 15.
     ("file-key 0", 16),
@@ -42,17 +46,17 @@ const FAULTS: [(&str, usize); 26] = [
     ("error stanza 0 0", 9),
     ("file-key 1", 16),
     // 19 before 8 and 15.
-    ("error stanza 2 2", 9),
+    ("error stanza 2 0", 9),
     ("file-key 3", 16),
     ("done", 0),
     // 8 before 15.
     ("file-key 2", 16),
     ("error internal", 9),
-    ("error stanza 3 4", 1),
+    ("error stanza 3 1", 1),
 ];
 
 fn before_the_faults() -> [Exchange; 2] {
-    [Exchange::file_key(0), Exchange::error("stanza 1 1", b"no")]
+    [Exchange::file_key(0), Exchange::error("stanza 1 0", b"no")]
 }
 
 fn sending(script: &mut Script) {

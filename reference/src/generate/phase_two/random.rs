@@ -10,7 +10,7 @@ use crate::session::{Buffers, Client, Kind, KINDS};
 /// Commands that are put in where they may not belong.
 const ODD_LINES: [&str; 16] = [
     "error internal", "error identity 0", "error identity 1", "error recipient 0", "error stanza 0 0",
-    "error stanza 1 1", "error stanza 0 01", "file-key 0", "file-key 1", "file-key 00",
+    "error stanza 1 0", "error stanza 0 01", "file-key 0", "file-key 1", "file-key 00",
     "recipient-stanza 0 s", "recipient-stanza 1 s", "recipient-stanza 2 s", "done", "msg a", "confirm !",
 ];
 

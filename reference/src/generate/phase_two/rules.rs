@@ -147,7 +147,7 @@ fn indices(script: &mut Script) {
         (RECIPIENT, "error identity ", ""),
         (IDENTITY, "file-key ", ""),
         (IDENTITY, "error identity ", ""),
-        (IDENTITY, "error stanza ", " 2"),
+        (IDENTITY, "error stanza ", " 1"),
         (IDENTITY, "error stanza 3 ", ""),
     ];
     for end in ENDS {
@@ -231,7 +231,7 @@ fn work_and_errors(script: &mut Script) {
         }
         script.heading(&format!("Work and error together, {IDENTITY}, {end:?}"));
         let key = Exchange::file_key;
-        for cause in ["internal", "stanza 0 0", "stanza 1 1", "stanza 3 4", "stanza 3 5"] {
+        for cause in ["internal", "stanza 0 0", "stanza 1 0", "stanza 3 1", "stanza 3 2"] {
             for file in [0, 3] {
                 script.story(end, &Start::findings(), &[error(cause), talk(), key(file), key(2)]);
                 script.story(end, &Start::findings(), &[key(file), talk(), error(cause), key(2)]);
@@ -296,7 +296,7 @@ fn held_back_by_stanzas(script: &mut Script) {
             script.story(end, &Start::findings(), &[Exchange::file_key(file)]);
         }
         for causes in
-            [["stanza 1 1", "stanza 3 5"], ["stanza 3 5", "stanza 1 1"], ["stanza 3 4", "stanza 3 5"]]
+            [["stanza 1 0", "stanza 3 2"], ["stanza 3 2", "stanza 1 0"], ["stanza 3 1", "stanza 3 2"]]
         {
             script.enter(end, &Start::findings(), AMPLE);
             if end == End::Plugin {
@@ -337,11 +337,11 @@ fn held_back_by_stanzas(script: &mut Script) {
 fn errors_for_unknown_stanzas(script: &mut Script) {
     for end in ENDS {
         script.heading(&format!("An error for an unknown stanza, {end:?}"));
-        for cause in ["stanza 2 2", "stanza 3 3", "stanza 2 3", "stanza 0 0"] {
+        for cause in ["stanza 2 0", "stanza 3 0", "stanza 2 1", "stanza 0 0"] {
             let exchanges = [Exchange::error(cause, b""), Exchange::file_key(2), Exchange::done()];
             script.story(end, &Start::findings(), &exchanges);
         }
-        let exchanges = [Exchange::file_key(2), Exchange::error("stanza 2 2", b"")];
+        let exchanges = [Exchange::file_key(2), Exchange::error("stanza 2 0", b"")];
         script.story(end, &Start::findings(), &exchanges);
         let start = Start::new(IDENTITY, FIDO2_HMAC, &[unknown(0), unknown(0)]);
         script.story(end, &start, &[Exchange::error("stanza 0 1", b""), Exchange::done()]);

@@ -74,9 +74,9 @@ fn opening() {
 }
 
 #[test]
-fn a_client_has_a_screen_unless_told_otherwise() {
+fn a_client_has_no_screen_unless_told_otherwise() {
     let screen = |screen| Client::open_with(b"identity-v1", b"a", screen).unwrap().has_screen();
-    assert!(client("identity-v1").0.has_screen() && screen(true) && !screen(false));
+    assert!(!client("identity-v1").0.has_screen() && screen(true) && !screen(false));
 }
 
 #[test]

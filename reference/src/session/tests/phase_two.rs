@@ -28,7 +28,7 @@ pub(super) fn phase_one(machine: &str) -> Vec<Line<'static>> {
     }
 }
 
-/// A phase one of fido2-hmac: stanza 0 of file 0 conforms, 1 of file 1 does not, 2 of file 2 is unknown.
+/// A phase one of fido2-hmac: the stanza of file 0 conforms, that of file 1 does not, that of file 2 is unknown.
 fn findings() -> Vec<Line<'static>> {
     vec![
         ("recipient-stanza 0 fido2-hmac AAAAAAAAAAAAAAAAAAAAAAAAAAAAAAAAAAAAAAAAAAA AAAAAAAAAAAAAAAA", 32),
@@ -143,7 +143,7 @@ fn both_say(machine: &str, phase: &[Line], commands: &[Line], last: Result<(), R
 }
 
 /// Each machine's commands with good and bad forms.
-const FORMS: [(&str, &str, usize, Option<Refusal>); 57] = [
+const FORMS: [(&str, &str, usize, Option<Refusal>); 58] = [
     (RECIPIENT, "msg", 0, None),
     (RECIPIENT, "msg", 100, None),
     (IDENTITY, "msg a", 0, Some(WrongForm)),
@@ -198,6 +198,7 @@ const FORMS: [(&str, &str, usize, Option<Refusal>); 57] = [
     (IDENTITY, "error stanza 00 9", 0, Some(BadIndex)),
     (IDENTITY, "error stanza 3 2", 0, Some(NamesNothing)),
     (IDENTITY, "error stanza 3 1", 0, Some(NamesNothing)),
+    (IDENTITY, "error stanza 5 1", 0, Some(NamesNothing)),
     (IDENTITY, "done a", 0, Some(WrongForm)),
     (IDENTITY, "done", 1, Some(WrongForm)),
     (RECIPIENT, "done", 0, None),
@@ -272,6 +273,16 @@ fn without_a_screen_it_answers_fail_at_once() {
     }
     let (mut client, mut buffers) = client_after(RECIPIENT, "interop", false, &phase_one(RECIPIENT));
     assert_eq!(client.chunk(&text("msg a", b""), &mut buffers, &mut []).refusal, Some(WrongForm));
+}
+
+/// Opening without a word is opening without a screen.
+#[test]
+fn a_client_that_is_not_told_of_a_screen_has_none() {
+    for machine in MACHINES {
+        let untold = Client::open(machine.as_bytes(), b"interop");
+        assert_eq!(untold, Client::open_with(machine.as_bytes(), b"interop", false));
+        assert_ne!(untold, Client::open_with(machine.as_bytes(), b"interop", true));
+    }
 }
 
 /// Every command with every response: 12 leaves a host's reply awaited, and closes a plugin's session.
@@ -461,8 +472,8 @@ fn an_error_for_a_stanza_excludes_its_files_key() {
     for (first, second, expected) in [
         ("error stanza 0 0".to_string(), key(0).0, Err(WorkAndError)),
         (key(0).0, "error stanza 0 0".to_string(), Err(WorkAndError)),
-        ("error stanza 1 1".to_string(), key(0).0, Ok(())),
-        (key(0).0, "error stanza 1 1".to_string(), Ok(())),
+        ("error stanza 1 0".to_string(), key(0).0, Ok(())),
+        (key(0).0, "error stanza 1 0".to_string(), Ok(())),
     ] {
         let body = |line: &str| if line.starts_with("file-key") { 16 } else { 0 };
         let (mut client, mut buffers) = client_after(IDENTITY, "fido2-hmac", true, &one);
@@ -510,26 +521,72 @@ fn the_plugin_is_held_back_by_nonconforming_stanzas() {
     assert_eq!(says("done", 0), Err(HeldBack));
     assert_eq!(says("error internal", 0), Ok(()));
     assert_eq!(says("done", 0), Err(HeldBack));
-    assert_eq!(says("error stanza 1 1", 0), Ok(()));
+    assert_eq!(says("error stanza 1 0", 0), Ok(()));
     // 11 before 19.
     assert_eq!(says("file-key 1", 16), Err(WorkAndError));
-    assert_eq!(says("error stanza 2 2", 0), Err(WorkAndError));
+    assert_eq!(says("error stanza 2 0", 0), Err(WorkAndError));
     assert_eq!(says("done", 0), Ok(()));
 }
 
 #[test]
 fn the_plugin_sends_no_error_for_an_unknown_stanza() {
     let (mut plugin, mut buffers) = plugin_after(IDENTITY, "fido2-hmac", &findings());
-    assert_eq!(say(&mut plugin, &mut buffers, ("error stanza 2 2", 0)), Err(HeldBack));
-    assert_eq!(say(&mut plugin, &mut buffers, ("error stanza 1 2", 0)), Err(NamesNothing));
+    assert_eq!(say(&mut plugin, &mut buffers, ("error stanza 2 0", 0)), Err(HeldBack));
+    for line in ["error stanza 2 2", "error stanza 2 1", "error stanza 1 1", "error stanza 1 2"] {
+        assert_eq!(say(&mut plugin, &mut buffers, (line, 0)), Err(NamesNothing));
+    }
     assert_eq!(say(&mut plugin, &mut buffers, ("error stanza 0 0", 0)), Ok(()));
+}
+
+/// In error stanza f i, i counts the stanzas of file f: for what it names, for the unknown ones, and for the
+/// errors owed.
+#[test]
+fn stanzas_are_numbered_within_their_file() {
+    let faulty = |file: u32| format!("recipient-stanza {file} fido2-hmac");
+    let (first, third) = (faulty(1), faulty(4));
+    let one = [
+        ("recipient-stanza 1 X25519", 0),
+        (first.as_str(), 0),
+        ("add-identity AGE-PLUGIN-FIDO2-HMAC-1QYQXV6TYDUEZ66RDV93SQUSDAT", 0),
+        ("recipient-stanza 4 X25519", 0),
+        ("grease", 0),
+        ("recipient-stanza 4 X25519", 0),
+        (third.as_str(), 0),
+    ];
+    for (line, refused) in [
+        ("error stanza 1 0", None),
+        ("error stanza 1 1", None),
+        ("error stanza 1 2", Some(NamesNothing)),
+        ("error stanza 4 2", None),
+        ("error stanza 4 3", Some(NamesNothing)),
+        ("error stanza 4 4", Some(NamesNothing)),
+        ("error stanza 2 0", Some(NamesNothing)),
+    ] {
+        let (mut client, mut buffers) = client_after(IDENTITY, "fido2-hmac", true, &one);
+        assert_eq!(hear(&mut client, &mut buffers, (line, 0)).err(), refused, "{line}");
+        if refused.is_none() {
+            let detail = client.session.tables.details(Kind::Error).next().unwrap();
+            let Detail::Error { cause: Cause::Stanza { file, number } } = detail else { panic!("{line}") };
+            assert_eq!(format!("error stanza {file} {number}"), line);
+        }
+    }
+    let (mut plugin, mut buffers) = plugin_after(IDENTITY, "fido2-hmac", &one);
+    let mut says = |line, body| say_out(&mut plugin, &mut buffers, (line, body));
+    assert_eq!(says("error stanza 1 0", 0), Err(HeldBack));
+    assert_eq!(says("error stanza 4 1", 0), Err(HeldBack));
+    assert_eq!(says("error stanza 4 4", 0), Err(NamesNothing));
+    assert_eq!(says("done", 0), Err(HeldBack));
+    assert_eq!(says("error stanza 1 1", 0), Ok(()));
+    assert_eq!(says("done", 0), Err(HeldBack));
+    assert_eq!(says("error stanza 4 2", 0), Ok(()));
+    assert_eq!(says("done", 0), Ok(()));
 }
 
 /// The client goes by no rule of the plugin end alone.
 #[test]
 fn the_client_takes_what_the_plugin_would_hold_back() {
     let (mut client, mut buffers) = client_after(IDENTITY, "fido2-hmac", true, &findings());
-    for line in [("error stanza 2 2", 0), ("file-key 1", 16), ("done", 0)] {
+    for line in [("error stanza 2 0", 0), ("file-key 1", 16), ("done", 0)] {
         assert_eq!(hear_out(&mut client, &mut buffers, line), Ok(()));
     }
     let one = [("add-recipient x", 0), ("wrap-file-key", 16)];
@@ -678,7 +735,7 @@ fn order_at_sending() {
     assert_eq!(send(&mut plugin, "file-key 9", 16), NamesNothing);
     assert_eq!(send(&mut plugin, "file-key 1", 16), HeldBack);
     assert_eq!(send(&mut plugin, "file-key 0", 16), NoSpace);
-    assert_eq!(send(&mut plugin, "error stanza 2 2", 1), HeldBack);
+    assert_eq!(send(&mut plugin, "error stanza 2 0", 1), HeldBack);
     assert_eq!(send(&mut plugin, "error stanza 0 0", 1), NoSpace);
     assert_eq!(send(&mut plugin, "error stanza 0 0", 0), OutputTooShort);
     assert_eq!(send(&mut plugin, "done a", 0), WrongForm);
