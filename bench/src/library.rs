@@ -88,6 +88,17 @@ mod exported {
             out_len: usize,
             length: *mut usize,
         ) -> u8;
+
+        pub fn flugremio_identity_file(
+            text: *const u8,
+            text_len: usize,
+            keys: *mut usize,
+            invalid: *mut usize,
+            faults: *mut [[usize; 2]; 64],
+            out: *mut u8,
+            out_len: usize,
+            length: *mut usize,
+        ) -> u8;
     }
 }
 
@@ -163,5 +174,24 @@ pub fn write_text(kind: Kind, name: &[u8], payload: &[u8], out: &mut [u8], lengt
     // SAFETY: as above.
     unsafe {
         write(name.as_ptr(), name.len(), payload.as_ptr(), payload.len(), out.as_mut_ptr(), out.len(), length)
+    }
+}
+
+/// The commands of an identity file's identities at the front of `out`.
+#[inline]
+pub fn read_file(text: &[u8], faults: &mut [[usize; 2]; 64], out: &mut [u8], length: &mut usize) -> u8 {
+    let (mut keys, mut invalid) = (0, 0);
+    // SAFETY: as above.
+    unsafe {
+        exported::flugremio_identity_file(
+            text.as_ptr(),
+            text.len(),
+            &mut keys,
+            &mut invalid,
+            faults,
+            out.as_mut_ptr(),
+            out.len(),
+            length,
+        )
     }
 }

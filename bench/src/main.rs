@@ -43,6 +43,9 @@ const BESIDE: [Beside; 3] = [
 /// Recipients and identities are read and written in at most so many times plain C.
 const TIMES_PLAIN_C: f64 = 2.0;
 
+/// An identity file is read and written in at most so many times what reading its identities takes.
+const TIMES_READERS: f64 = 1.2;
+
 fn main() {
     let words: Vec<String> = std::env::args().skip(1).collect();
     let measured = texts::measured();
@@ -94,6 +97,11 @@ fn report(measured: &[Measured]) {
             counted.push((task, on.name, counts[0], plain));
         }
     }
+    println!();
+    let of = |text: &str| counted.iter().find(|one| one.1 == text).expect("a figure of it").2;
+    let ratio = of("identity-file") / (64.0 * of("identity-623"));
+    let said = if ratio <= TIMES_READERS { "met" } else { "NOT met" };
+    println!("An identity file of 64 identities takes {ratio:.2} times what reading each takes (aim: at most {TIMES_READERS}, {said}).");
     println!();
     println!("Instructions beside the figures of the issues:");
     for Beside { task, text, plain_c, age_in_go, aim } in BESIDE {

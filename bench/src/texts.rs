@@ -1,5 +1,5 @@
 //! The texts that are measured: a header stanza as a client sends it, with a body as X25519 has it and with one of 4 KiB; a recipient and
-//! an identity, with a payload as a compressed public key has it, 33 bytes, with one of 600, and as long as they may be.
+//! an identity, with a payload as a compressed public key has it, 33 bytes, with one of 600, and as long as they may be; an identity file of 64 such.
 
 use crate::work::{Task, STANZA_TASKS};
 use reference::bech32::{self, Kind};
@@ -16,6 +16,9 @@ pub const LONG_NAME: &str = "inter-op";
 
 /// The longest text of a stanza; a recipient or an identity is shorter.
 pub const LIMIT: usize = stanza::LIMIT;
+
+/// How many bytes the commands of 64 identities of 1,024 characters have, and done.
+pub const FILE_OUTPUT: usize = 66_697;
 
 /// A text to measure.
 pub struct Measured {
@@ -40,6 +43,7 @@ pub fn measured() -> Vec<Measured> {
         bech32_text("identity-33", Kind::Identity, NAME, 33, 79),
         bech32_text("identity-600", Kind::Identity, NAME, 600, 986),
         bech32_text("identity-623", Kind::Identity, LONG_NAME.as_bytes(), 623, 1_024),
+        identity_file(),
     ]
 }
 
@@ -61,6 +65,13 @@ fn bech32_text(
     let text = written(|out| bech32::write(kind, plugin, &content, out).ok());
     assert_eq!(text.len(), text_len);
     Measured { name, content, plugin, text, tasks: vec![Task::ReadText(kind), Task::WriteText(kind)] }
+}
+
+/// A file of 64 identities of 1,024 characters.
+fn identity_file() -> Measured {
+    let identity = bech32_text("", Kind::Identity, LONG_NAME.as_bytes(), 623, 1_024).text;
+    let line = [&identity[..], b"\n"].concat();
+    Measured { name: "identity-file", content: vec![], plugin: b"", text: line.repeat(64), tasks: vec![Task::ReadFile] }
 }
 
 /// The text that the second program writes.

@@ -2,8 +2,9 @@
 
 use crate::library::{self, Name, Parts};
 use crate::plain;
-use crate::texts::{Measured, ARGUMENTS, LIMIT};
+use crate::texts::{Measured, ARGUMENTS, FILE_OUTPUT, LIMIT};
 use reference::bech32::{self, Kind};
+use reference::identity_file;
 use reference::stanza;
 use std::hint::black_box;
 
@@ -27,6 +28,8 @@ pub enum Task {
     /// Of a recipient or an identity: the name and the payload.
     ReadText(Kind),
     WriteText(Kind),
+    /// Of an identity file: its identities as commands.
+    ReadFile,
 }
 
 /// The tasks on a stanza.
@@ -35,7 +38,7 @@ pub const STANZA_TASKS: [Task; 4] = [Task::Read, Task::Decode, Task::ReadAndDeco
 impl Task {
     pub fn name(self) -> &'static str {
         match self {
-            Task::Read | Task::ReadText(_) => "read",
+            Task::Read | Task::ReadText(_) | Task::ReadFile => "read",
             Task::Decode => "decode the body",
             Task::ReadAndDecode => "read and decode",
             Task::Write | Task::WriteText(_) => "write",
@@ -104,6 +107,14 @@ fn repeat_library(task: Task, on: &Measured, times: usize) {
                 black_box(&mut *out);
             }
         }
+        Task::ReadFile => {
+            let mut faults = [[0; 2]; 64];
+            let out = &mut vec![0; FILE_OUTPUT];
+            for _ in 0..times {
+                assert_eq!(library::read_file(black_box(&on.text), &mut faults, out, &mut length), 0);
+                black_box(&mut *out);
+            }
+        }
     }
 }
 
@@ -146,6 +157,13 @@ fn repeat_reference(task: Task, on: &Measured, times: usize) {
             for _ in 0..times {
                 let (name, payload) = black_box((on.plugin, &on.content));
                 let _ = black_box(bech32::write(kind, name, payload, out));
+                black_box(&mut *out);
+            }
+        }
+        Task::ReadFile => {
+            let out = &mut vec![0; FILE_OUTPUT];
+            for _ in 0..times {
+                let _ = black_box(identity_file::read(black_box(&on.text), out));
                 black_box(&mut *out);
             }
         }
