@@ -2,19 +2,27 @@
 ghost use mathlib.Core.Path.{_≡_};
 ghost use mathlib.Core.Bool.{_&&_};
 ghost use mathlib.Core.List.{List};
-ghost use Prim.Native.Nat.{ℕ, _≤_};
+ghost use Prim.Native.Nat.{ℕ};
 ghost use lib.Dec.{eqb};
-ghost use lib.ListN.{length, take};
 ghost use Rattle.refusal.specs.Output.{said, answered, filled};
-ghost use Rattle.refusal.specs.Pick.{pick};
-ghost use Rattle.refusal.specs.Same.{same};
-ghost use Rattle.stanza.specs.Arguments.{countOf, lineWith};
-ghost use Rattle.phase_one.specs.Commands.{wordSaid, wordIn, afterSpace, restOf, textCommand, headerCommand, command, commandSaid, wordOf, lineSent, textOfWord};
+ghost use Rattle.stanza.specs.Arguments.{countOf};
+ghost use Rattle.phase_one.specs.Commands.{wordSaid, wordIn, afterSpace, restOf, textCommand, headerCommand, command, commandSaid, wordOf, lineSent};
 use bech32::TextKind;
 use refusal::Refusal;
 use refusal::Written;
 use session::Machine;
 use stanza::Index;
+
+// The words of phase one, compared with a command's first argument and written where an end sends.
+const ADD_RECIPIENT: [u8; 13] = *b"add-recipient";
+
+const ADD_IDENTITY: [u8; 12] = *b"add-identity";
+
+const WRAP_FILE_KEY: [u8; 13] = *b"wrap-file-key";
+
+const RECIPIENT_STANZA: [u8; 16] = *b"recipient-stanza";
+
+const DONE: [u8; 4] = *b"done";
 
 // The words of phase one.
 pub enum WordOne {
@@ -37,69 +45,19 @@ pub enum CommandOne {
     Refused(Refusal),
 }
 
-// The text of a word: so many bytes at the front of a store that takes the longest.
-struct Name {
-    bytes: [u8; 16],
-    length: usize,
-}
-
-// The text of a word; any other word has none of its own.
-fn name_of(word: WordOne) -> Name
-    ensures text { λ r. ⌜ take (r .length) (r .bytes) ≡ textOfWord (wordSaid word) ⌝ }
-    ensures line { λ r. ⌜ ((a : List ℕ) → lineSent (wordSaid word) a ≡ pick (eqb (r .length) 0) a (lineWith (textOfWord (wordSaid word)) a)) ⌝ }
-    ensures front { λ r. ⌜ r .length ≤ length (r .bytes) ⌝ }
-{
-    match word {
-        WordOne::AddRecipient => Name {
-            bytes: *b"add-recipient   ",
-            length: 13,
-        },
-        WordOne::AddIdentity => Name {
-            bytes: *b"add-identity    ",
-            length: 12,
-        },
-        WordOne::WrapFileKey => Name {
-            bytes: *b"wrap-file-key   ",
-            length: 13,
-        },
-        WordOne::RecipientStanza => Name {
-            bytes: *b"recipient-stanza",
-            length: 16,
-        },
-        WordOne::Done => Name {
-            bytes: *b"done            ",
-            length: 4,
-        },
-        WordOne::Other => Name {
-            bytes: [0; 16],
-            length: 0,
-        },
-    }
-}
-
-// Whether a text is that of a word.
-fn is_name(text: &[u8], word: WordOne) -> bool
-    ensures { λ r. ⌜ r ≡ same (now (text .entry)) (textOfWord (wordSaid word)) ⌝ }
-{
-    let name = name_of(word);
-    let bytes = name.bytes;
-    let n = name.length;
-    stanza::is_same(text, &bytes[..n])
-}
-
 fn recipient_word(word: &[u8]) -> WordOne
     ensures { λ r. ⌜ wordSaid r ≡ wordIn Machine.RecipientV1 (now (word .entry)) ⌝ }
 {
-    if is_name(word, WordOne::AddRecipient) {
+    if stanza::is_same(word, &ADD_RECIPIENT) {
         return WordOne::AddRecipient;
     }
-    if is_name(word, WordOne::AddIdentity) {
+    if stanza::is_same(word, &ADD_IDENTITY) {
         return WordOne::AddIdentity;
     }
-    if is_name(word, WordOne::WrapFileKey) {
+    if stanza::is_same(word, &WRAP_FILE_KEY) {
         return WordOne::WrapFileKey;
     }
-    if is_name(word, WordOne::Done) {
+    if stanza::is_same(word, &DONE) {
         return WordOne::Done;
     }
     WordOne::Other
@@ -108,13 +66,13 @@ fn recipient_word(word: &[u8]) -> WordOne
 fn identity_word(word: &[u8]) -> WordOne
     ensures { λ r. ⌜ wordSaid r ≡ wordIn Machine.IdentityV1 (now (word .entry)) ⌝ }
 {
-    if is_name(word, WordOne::AddIdentity) {
+    if stanza::is_same(word, &ADD_IDENTITY) {
         return WordOne::AddIdentity;
     }
-    if is_name(word, WordOne::RecipientStanza) {
+    if stanza::is_same(word, &RECIPIENT_STANZA) {
         return WordOne::RecipientStanza;
     }
-    if is_name(word, WordOne::Done) {
+    if stanza::is_same(word, &DONE) {
         return WordOne::Done;
     }
     WordOne::Other
@@ -242,11 +200,12 @@ pub fn put_line(word: WordOne, arguments: &[u8], out: &mut [u8]) -> Written
     ensures answer { λ r. ⌜ said r ≡ answered (lineSent (wordSaid word) (now (arguments .entry))) (now (out .entry)) ⌝ }
     ensures buffer { λ r. ⌜ now (out .exit) ≡ filled (lineSent (wordSaid word) (now (arguments .entry))) (now (out .entry)) ⌝ }
 {
-    let name = name_of(word);
-    let n = name.length;
-    if n == 0 {
-        return stanza::join(arguments, b"", out);
+    match word {
+        WordOne::AddRecipient => stanza::join(&ADD_RECIPIENT, arguments, out),
+        WordOne::AddIdentity => stanza::join(&ADD_IDENTITY, arguments, out),
+        WordOne::WrapFileKey => stanza::join(&WRAP_FILE_KEY, arguments, out),
+        WordOne::RecipientStanza => stanza::join(&RECIPIENT_STANZA, arguments, out),
+        WordOne::Done => stanza::join(&DONE, arguments, out),
+        WordOne::Other => stanza::join(arguments, b"", out),
     }
-    let bytes = name.bytes;
-    stanza::join(&bytes[..n], arguments, out)
 }

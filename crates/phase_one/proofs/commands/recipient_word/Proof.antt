@@ -4,43 +4,59 @@ use borrow.Author.Needs.{needs}
 use Rattle.phase_one.proofs.commands.recipient_word.Statement.{statement}
 use Rattle.phase_one.proofs.commands.recipient_word.Tie as tie
 
-is-name-requires : tie.Need-is-name-requires
-is-name-requires c κs = search needs
+slice-aggregate-is-same : tie.Need-slice-aggregate-is-same
+slice-aggregate-is-same c = search needs
+
+is-same-requires : tie.Need-is-same-requires
+is-same-requires c κs = search needs
 
 returns : tie.Need-returns
-returns c = rw (sym (c .before .is-name .ensures) ∙ c .if1 .taken)
+returns c = rw (sym (c .before .is-same .ensures) ∙ c .if1 .taken)
 
-is-name-requires-2 : tie.Need-is-name-requires-2
-is-name-requires-2 c κs = search needs
+slice-aggregate-is-same-2 : tie.Need-slice-aggregate-is-same-2
+slice-aggregate-is-same-2 c = search needs
+
+is-same-requires-2 : tie.Need-is-same-requires-2
+is-same-requires-2 c κs = search needs
 
 returns-2 : tie.Need-returns-2
-returns-2 c = rw (sym (c .before .before .before .is-name .ensures) ∙ c .before .before .if1 .left, sym (c .before .is-name2 .ensures) ∙ c .if2 .taken)
+returns-2 c = rw (sym (c .before .before .before .before .is-same .ensures) ∙ c .before .before .before .if1 .left, sym (c .before .is-same2 .ensures) ∙ c .if2 .taken)
 
-is-name-requires-3 : tie.Need-is-name-requires-3
-is-name-requires-3 c κs = search needs
+slice-aggregate-is-same-3 : tie.Need-slice-aggregate-is-same-3
+slice-aggregate-is-same-3 c = search needs
+
+is-same-requires-3 : tie.Need-is-same-requires-3
+is-same-requires-3 c κs = search needs
 
 returns-3 : tie.Need-returns-3
-returns-3 c = rw (sym (c .before .before .before .before .before .is-name .ensures) ∙ c .before .before .before .before .if1 .left, sym (c .before .before .before .is-name2 .ensures) ∙ c .before .before .if2 .left, sym (c .before .is-name3 .ensures) ∙ c .if3 .taken)
+returns-3 c = rw (sym (c .before .before .before .before .before .before .before .is-same .ensures) ∙ c .before .before .before .before .before .before .if1 .left, sym (c .before .before .before .before .is-same2 .ensures) ∙ c .before .before .before .if2 .left, sym (c .before .is-same3 .ensures) ∙ c .if3 .taken)
 
-is-name-requires-4 : tie.Need-is-name-requires-4
-is-name-requires-4 c κs = search needs
+slice-aggregate-is-same-4 : tie.Need-slice-aggregate-is-same-4
+slice-aggregate-is-same-4 c = search needs
+
+is-same-requires-4 : tie.Need-is-same-requires-4
+is-same-requires-4 c κs = search needs
 
 returns-4 : tie.Need-returns-4
-returns-4 c = rw (sym (c .before .before .before .before .before .before .before .is-name .ensures) ∙ c .before .before .before .before .before .before .if1 .left, sym (c .before .before .before .before .before .is-name2 .ensures) ∙ c .before .before .before .before .if2 .left, sym (c .before .before .before .is-name3 .ensures) ∙ c .before .before .if3 .left, sym (c .before .is-name4 .ensures) ∙ c .if4 .taken)
+returns-4 c = rw (sym (c .before .before .before .before .before .before .before .before .before .before .is-same .ensures) ∙ c .before .before .before .before .before .before .before .before .before .if1 .left, sym (c .before .before .before .before .before .before .before .is-same2 .ensures) ∙ c .before .before .before .before .before .before .if2 .left, sym (c .before .before .before .before .is-same3 .ensures) ∙ c .before .before .before .if3 .left, sym (c .before .is-same4 .ensures) ∙ c .if4 .taken)
 
 returns-5 : tie.Need-returns-5
-returns-5 c = rw (sym (c .before .before .before .before .before .before .before .is-name .ensures) ∙ c .before .before .before .before .before .before .if1 .left, sym (c .before .before .before .before .before .is-name2 .ensures) ∙ c .before .before .before .before .if2 .left, sym (c .before .before .before .is-name3 .ensures) ∙ c .before .before .if3 .left, sym (c .before .is-name4 .ensures) ∙ c .if4 .left)
+returns-5 c = rw (sym (c .before .before .before .before .before .before .before .before .before .before .is-same .ensures) ∙ c .before .before .before .before .before .before .before .before .before .if1 .left, sym (c .before .before .before .before .before .before .before .is-same2 .ensures) ∙ c .before .before .before .before .before .before .if2 .left, sym (c .before .before .before .before .is-same3 .ensures) ∙ c .before .before .before .if3 .left, sym (c .before .is-same4 .ensures) ∙ c .if4 .left)
 
 pub recipient-word-spec : {M : Type 1} → statement M
 recipient-word-spec =
     tie.close
     (tie.spec
-    is-name-requires
+    slice-aggregate-is-same
+    is-same-requires
     returns
-    is-name-requires-2
+    slice-aggregate-is-same-2
+    is-same-requires-2
     returns-2
-    is-name-requires-3
+    slice-aggregate-is-same-3
+    is-same-requires-3
     returns-3
-    is-name-requires-4
+    slice-aggregate-is-same-4
+    is-same-requires-4
     returns-4
     returns-5)
