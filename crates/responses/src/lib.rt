@@ -1,15 +1,24 @@
 // The commands of phase two, the responses to them, which response fits which command, and responses read and written.
 ghost use mathlib.Core.Path.{_≡_};
 ghost use mathlib.Core.Bool.{_&&_, _||_};
-ghost use Prim.Native.Nat.{_<_, _≤_};
+ghost use Prim.Native.Nat.{_<_};
 ghost use lib.Dec.{eqb};
-ghost use lib.ListN.{length, take};
 ghost use Rattle.refusal.specs.Output.{said};
-ghost use Rattle.refusal.specs.Same.{same};
 ghost use Rattle.stanza.specs.Writing.{sized, written, bufferAfter};
 ghost use Rattle.responses.specs.Responses.{rowOf, columnOf, fitting, isRequest, mayHaveBody, responseLine, responseOf, readingSaid};
 use refusal::Written;
 use session::WordTwo;
+
+// The responses' arguments, compared with those of a stanza that is read and written where a response is.
+const OK: [u8; 2] = *b"ok";
+
+const OK_YES: [u8; 6] = *b"ok yes";
+
+const OK_NO: [u8; 5] = *b"ok no";
+
+const FAIL: [u8; 4] = *b"fail";
+
+const UNSUPPORTED: [u8; 11] = *b"unsupported";
 
 // The responses: ok, ok yes, ok no, fail, unsupported.
 pub enum Response {
@@ -117,67 +126,23 @@ pub fn fits_whole(word: WordTwo, response: Response, body: usize) -> bool
     may_have_body(word, response)
 }
 
-// A response's arguments' text: so many bytes at the front of a store that takes the longest.
-struct Line {
-    bytes: [u8; 11],
-    length: usize,
-}
-
-// The arguments' text of a response.
-fn line_of(response: Response) -> Line
-    ensures { λ r. ⌜ (take (r .length) (r .bytes) ≡ responseLine response) × (r .length ≤ length (r .bytes)) ⌝ }
-{
-    match response {
-        Response::Ok => Line {
-            bytes: *b"ok         ",
-            length: 2,
-        },
-        Response::Yes => Line {
-            bytes: *b"ok yes     ",
-            length: 6,
-        },
-        Response::No => Line {
-            bytes: *b"ok no      ",
-            length: 5,
-        },
-        Response::Fail => Line {
-            bytes: *b"fail       ",
-            length: 4,
-        },
-        Response::Unsupported => Line {
-            bytes: *b"unsupported",
-            length: 11,
-        },
-    }
-}
-
-// Whether an arguments' text is that of a response, all of it.
-fn is_line(line: &[u8], response: Response) -> bool
-    ensures { λ r. ⌜ r ≡ same (now (line .entry)) (responseLine response) ⌝ }
-{
-    let other = line_of(response);
-    let bytes = other.bytes;
-    let n = other.length;
-    stanza::is_same(line, &bytes[..n])
-}
-
-// Which response an arguments' text is.
+// Which response an arguments' text is, all of it.
 pub fn read_line(line: &[u8]) -> ReadResponse
     ensures { λ r. ⌜ readingSaid r ≡ responseOf (now (line .entry)) ⌝ }
 {
-    if is_line(line, Response::Ok) {
+    if stanza::is_same(line, &OK) {
         return ReadResponse::Response(Response::Ok);
     }
-    if is_line(line, Response::Yes) {
+    if stanza::is_same(line, &OK_YES) {
         return ReadResponse::Response(Response::Yes);
     }
-    if is_line(line, Response::No) {
+    if stanza::is_same(line, &OK_NO) {
         return ReadResponse::Response(Response::No);
     }
-    if is_line(line, Response::Fail) {
+    if stanza::is_same(line, &FAIL) {
         return ReadResponse::Response(Response::Fail);
     }
-    if is_line(line, Response::Unsupported) {
+    if stanza::is_same(line, &UNSUPPORTED) {
         return ReadResponse::Response(Response::Unsupported);
     }
     ReadResponse::Nothing
@@ -187,10 +152,13 @@ pub fn read_line(line: &[u8]) -> ReadResponse
 pub fn size(response: Response, body: &[u8]) -> Written
     ensures { λ r. ⌜ said r ≡ sized (responseLine response) (now (body .entry)) ⌝ }
 {
-    let line = line_of(response);
-    let bytes = line.bytes;
-    let n = line.length;
-    stanza::size(&bytes[..n], body)
+    match response {
+        Response::Ok => stanza::size(&OK, body),
+        Response::Yes => stanza::size(&OK_YES, body),
+        Response::No => stanza::size(&OK_NO, body),
+        Response::Fail => stanza::size(&FAIL, body),
+        Response::Unsupported => stanza::size(&UNSUPPORTED, body),
+    }
 }
 
 // A response with a body at the front of `out`: how many bytes, or 17 as above, or 15; nothing is written then.
@@ -198,8 +166,11 @@ pub fn write(response: Response, body: &[u8], out: &mut [u8]) -> Written
     ensures answer { λ r. ⌜ said r ≡ written (responseLine response) (now (body .entry)) (now (out .entry)) ⌝ }
     ensures buffer { λ r. ⌜ now (out .exit) ≡ bufferAfter (responseLine response) (now (body .entry)) (now (out .entry)) ⌝ }
 {
-    let line = line_of(response);
-    let bytes = line.bytes;
-    let n = line.length;
-    stanza::write(&bytes[..n], body, out)
+    match response {
+        Response::Ok => stanza::write(&OK, body, out),
+        Response::Yes => stanza::write(&OK_YES, body, out),
+        Response::No => stanza::write(&OK_NO, body, out),
+        Response::Fail => stanza::write(&FAIL, body, out),
+        Response::Unsupported => stanza::write(&UNSUPPORTED, body, out),
+    }
 }
