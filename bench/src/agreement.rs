@@ -30,7 +30,7 @@ pub fn check() -> usize {
                 Task::Write => calls.write(ARGUMENTS, &on.content),
                 Task::ReadText(kind) => damaged(&on.text, |text| calls.read_text(kind, text)),
                 Task::WriteText(kind) => calls.write_text(kind, on.plugin, &on.content),
-                Task::Decode | Task::ReadAndDecode => {}
+                Task::Decode | Task::ReadAndDecode | Task::ReadFile => {}
             }
         }
     }
