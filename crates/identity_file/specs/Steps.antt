@@ -13,10 +13,11 @@ use Rattle.identity_file.specs.declared.survey.Tally.{Tally}
 
 -- ---- a line
 
--- where it ends, and where the next one begins
+-- where the line from a on ends
 abbrev pub lineEnd : List ℕ → ℕ → ℕ
 lineEnd t a = a + run isLineByte (drop a t)
 
+-- where the next one begins, of a line that ends at e
 abbrev pub nextLine : List ℕ → ℕ → ℕ
 nextLine t e = pick (ltb e (length t)) (e + 1) (length t)
 
@@ -37,6 +38,7 @@ pub record Survey : Type 0 where
   pub places : List (List ℕ)
   pub faults : List (List ℕ)
 
+-- a survey of the code's counts and pairs
 abbrev pub surveyOf : Tally → List (List ℕ) → List (List ℕ) → Survey
 surveyOf t ps fs = record { keys = t .keys; invalid = t .invalid; valid = t .valid; places = ps; faults = fs }
 
@@ -58,9 +60,11 @@ surveyed n a (l ∷ ls) s = surveyed (n + 1) (a + length l + 1) ls (noted (kindO
 
 -- ---- the valid lines by where they stand
 
+-- the text between a pair's two places
 abbrev pub textAt : List ℕ → List ℕ → List ℕ
 textAt t p = take (getD p 1 0 - getD p 0 0) (drop (getD p 0 0) t)
 
+-- the texts of some pairs
 abbrev pub textsAt : List ℕ → List (List ℕ) → List (List ℕ)
 textsAt t ps = map (textAt t) ps
 

@@ -47,12 +47,7 @@ fn listed(invalid: usize) -> usize
 }
 
 // The first n invalid lines as a word, joined by commas; a hyphen where there is none.
-fn print_faults(
-    faults: &[[usize; 2]; MOST_FAULTS],
-    n: usize,
-    out: &mut Output,
-    at: usize,
-) -> usize
+fn print_faults(faults: &[[usize; 2]; MOST_FAULTS], n: usize, out: &mut Output, at: usize) -> usize
     requires { ⌜ n ≤ 64 ⌝ }
 {
     if n == 0 {
