@@ -136,8 +136,8 @@ nothing-left (b ∷ f) y h = let z : _≡_ {A = ℕ} 0 1 = cc in absurd (omega a
 
 -- behind a chunk, where the front and the bytes to come are these stanzas
 module _ (i : Intake) (b : Buffers) (x y : List ℕ) (early : Early (i .session .phase)) (short : length (i .kept) ≤ 8191) (q : place.State) (f : List ℕ) (ts us : List (List ℕ))
-  (e : cut (i .reading) (i .kept) x ≡ record { texts = ts; rest = unfinished q f }) (g : cut q f y ≡ record { texts = us; rest = unfinished start [] })
-  (a : Accepted (i .session) b (map receive ts)) where
+    (e : cut (i .reading) (i .kept) x ≡ record { texts = ts; rest = unfinished q f }) (g : cut q f y ≡ record { texts = us; rest = unfinished start [] })
+    (a : Accepted (i .session) b (map receive ts)) where
   abbrev z : one-call.State
   z = one-call.after (i .session) b (map receive ts)
 
@@ -164,13 +164,17 @@ module _ (i : Intake) (b : Buffers) (x y : List ℕ) (early : Early (i .session 
     chunk-ahead out =
         let t = came-taken in
         let w = ahead-taken (taken plugin i b x .intake .reading) (taken plugin i b x .intake .kept) (t .front) in
-        chunk-took i b x out early short (λ n j d. (n ≡ 0) × (j .session ≡ z .session) × (d ≡ z .buffers) × Ahead j d y us)
-        (t .number, t .session, t .buffers, record {
-          texts = w .1;
-          short = plugin-kept (i .session) b (i .awaited) (i .reading) (i .kept) x short;
-          early = subst (λ (s : Session). Early (s .phase)) (sym (t .session)) (w .0);
-          accepted = subst (λ s. Accepted s (taken plugin i b x .buffers) (map receive us)) (sym (t .session)) (subst (λ d. Accepted (z .session) d (map receive us)) (sym (t .buffers)) c);
-        })
+        chunk-took i b x out early short (λ n j d. (n ≡ 0) × (j .session ≡ z .session) × (d ≡ z .buffers) × Ahead j d y us) (
+          t .number,
+          t .session,
+          t .buffers,
+          record {
+            texts = w .1;
+            short = plugin-kept (i .session) b (i .awaited) (i .reading) (i .kept) x short;
+            early = subst (λ (s : Session). Early (s .phase)) (sym (t .session)) (w .0);
+            accepted = subst (λ s. Accepted s (taken plugin i b x .buffers) (map receive us)) (sym (t .session)) (subst (λ d. Accepted (z .session) d (map receive us)) (sym (t .buffers)) c);
+          },
+        )
 
 pub came : (cs : List Piece) (i : Intake) (b : Buffers) (ts : List (List ℕ)) → All (λ c. isReply c ≡ false) cs → Ahead i b (textIn cs) ts → Came i b cs ts
 unfolding All textIn after numbers AllZero cut one-call.after
