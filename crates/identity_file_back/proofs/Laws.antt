@@ -1,0 +1,4 @@
+pub mod Taking
+pub mod Texts
+pub mod Phase
+pub mod ReadBack

@@ -1,0 +1,2 @@
+-- What a plugin session takes an identity file's commands for.
+pub mod ReadBack
