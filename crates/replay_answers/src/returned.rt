@@ -2,6 +2,7 @@
 use crate::print::Output;
 use crate::print::print_row;
 use crate::print::put_number;
+use crate::show::HeaderSlots;
 use crate::show::Slots;
 use look_up::ErrorNamed;
 use replay_lines::append;
