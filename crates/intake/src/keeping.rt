@@ -1,19 +1,18 @@
 // What is kept of the input between calls, in the lent array.
 ghost use mathlib.Core.Path.{_≡_};
 ghost use mathlib.Core.List.{List, [], _++_};
-ghost use mathlib.Core.Bool.{false};
 ghost use Prim.Native.Nat.{ℕ, _≤_, _+_, min};
 ghost use lib.ListN.{length, take, drop};
 ghost use Rattle.refusal.specs.Output.{filled};
 ghost use Rattle.refusal.specs.Number.{numberOf};
-ghost use Rattle.stanza.specs.Resuming.{placeSaid};
+ghost use Rattle.stanza.specs.Resuming.{placeSaid, continuedSaid, unfinished};
 ghost use Rattle.session.specs.Session.{sessionOf};
 ghost use Rattle.conversation.specs.Kinds.{Buffers};
-ghost use Rattle.chunks.specs.Taking.{End, reads, drops, keeps-back, noMore, keeping, takenText, behind};
-ghost use Rattle.chunks.specs.Uncut.{isWaiting};
+ghost use Rattle.chunks.specs.Taking.{End, reads, drops, keeps-back, turnAt, takenText, behind};
 ghost use Rattle.intake.specs.Intake.{lastSaid};
 ghost use Rattle.intake.specs.Turns.{turnSaid};
 ghost use Rattle.intake.specs.Settling.{MaySettle, Says};
+ghost use Rattle.intake.specs.Fronts.{isBetween, frontOf, inputBehind, Answered};
 use crate::answers::Last;
 use crate::answers::Received;
 use crate::turns::Turn;
@@ -27,11 +26,10 @@ use stanza::Place;
 // How many bytes are kept of an unfinished stanza at most.
 const MOST_UNFINISHED: usize = stanza::LONGEST - 1;
 
-// How many bytes of an unfinished stanza are kept. A session that is made up may say more.
-pub fn kept_of(session: Session) -> usize
-    ensures { λ r. ⌜ r ≡ min (session .kept) 8191 ⌝ }
+// How many bytes of an unfinished stanza are kept, by a session's number. A session that is made up may say more.
+pub fn kept_of(kept: usize) -> usize
+    ensures { λ r. ⌜ r ≡ min kept 8191 ⌝ }
 {
-    let kept = session.kept;
     if kept < MOST_UNFINISHED {
         kept
     } else {
@@ -49,24 +47,59 @@ fn copy_behind(part: &[u8], at: usize, out: &mut [u8])
     stanza::copy(part, &mut out[at..]);
 }
 
-// An unfinished stanza goes on and has not ended: the chunk's bytes stand behind those that are kept.
-pub fn keep_on(session: Session, place: Place, chunk: &[u8], input: &mut [u8]) -> Received
-    ensures outcome { λ r. ⌜ ((e : End) (xs hs : List (List ℕ)) (b : Buffers) → isWaiting e (session .phase) ≡ false →
-        min (session .kept) 8191 + length (now (chunk .entry)) ≤ 8191 → 8192 ≤ length (now (input .entry)) →
-        Says e r xs hs (now (input .entry)) (now (input .exit)) [] b
-        (noMore 0 (keeping (sessionOf session xs hs) (placeSaid place) (take (min (session .kept) 8191) (now (input .entry)) ++ now (chunk .entry)) []) b))
-        ⌝ }
-    ensures rest { λ r. ⌜ (r .written ≡ 0) × (r .session .name ≡ session .name) ⌝ }
+// Whether no stanza is unfinished.
+fn is_between(reading: Place, kept: usize) -> bool
+    ensures { λ r. ⌜ r ≡ isBetween reading kept ⌝ }
 {
-    let kept = kept_of(session);
-    let n = chunk.len();
-    copy_behind(chunk, kept, input);
+    match reading {
+        Place::Start => kept == 0,
+        Place::Hyphen => false,
+        Place::Arrow => false,
+        Place::Gap => false,
+        Place::Word => false,
+        Place::Line(_, _) => false,
+        Place::Ended => false,
+        Place::Dead => false,
+    }
+}
+
+// Reads a chunk on from where reading stands, behind so many kept bytes: the unfinished stanza ends behind so many of the chunk's bytes, 0 where none is
+// unfinished; it goes on, and the chunk is kept behind its front; or 1 or 3.
+pub fn read_front(reading: Place, kept: usize, chunk: &[u8], input: &mut [u8]) -> Continued
+    ensures front { λ r. ⌜ continuedSaid r ≡ frontOf reading (min kept 8191) (now (chunk .entry)) ⌝ }
+    ensures input { λ r. ⌜ now (input .exit) ≡ inputBehind (continuedSaid r) (min kept 8191) (now (chunk .entry)) (now (input .entry)) ⌝ }
+{
+    let at = kept_of(kept);
+    if is_between(reading, at) {
+        return Continued::Whole(0);
+    }
+    let continued = stanza::read_on(reading, at, chunk);
+    match continued {
+        Continued::Whole(_) => {}
+        Continued::Unfinished(_) => {
+            copy_behind(chunk, at, input);
+        }
+        Continued::Refused(_) => {}
+    }
+    continued
+}
+
+// An unfinished stanza goes on with a chunk and has not ended.
+pub fn keep_on(session: Session, place: Place, chunk: &[u8]) -> Received
+    ensures outcome { λ r. ⌜ ((e : End) (xs hs : List (List ℕ)) (input : List ℕ) (b : Buffers) (out : List ℕ) → turnAt e (session .phase) ≡ reads →
+        8192 ≤ length input → frontOf (session .reading) (min (session .kept) 8191) (now (chunk .entry)) ≡ unfinished (placeSaid place) →
+        Answered e session (now (chunk .entry)) r xs hs input
+        (inputBehind (unfinished (placeSaid place)) (min (session .kept) 8191) (now (chunk .entry)) input) b out) ⌝ }
+    ensures name { λ r. ⌜ r .session .name ≡ session .name ⌝ }
+{
+    let kept = kept_of(session.kept);
+    let came = chunk.len();
     Received {
         verdict: Verdict::Accepted,
         count: 0,
         last: Last::Nothing,
         written: 0,
-        session: session.keeping(place, kept + n, 0),
+        session: session.keeping(place, kept + came, 0),
     }
 }
 

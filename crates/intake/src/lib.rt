@@ -11,6 +11,7 @@ pub use answers::close;
 pub use answers::leave;
 pub use keeping::keep_on;
 pub use keeping::kept_of;
+pub use keeping::read_front;
 pub use keeping::settle;
 pub use turns::Due;
 pub use turns::Turn;

@@ -1,23 +1,15 @@
 -- What is kept in the lent input, and read back from it.
 use Prim.Native.Nat.{ℕ, _+_, _≤_, _<_, min}
 use mathlib.Core.Path.{_≡_, refl, sym, ap, _∙_, subst}
-use mathlib.Core.Bool.{false}
 use mathlib.Core.List.{List, [], _∷_, _++_, append-assoc, append-nil}
 use lib.ListN.{length, take, drop, length-append, length-drop, drop-of-length-le, take-append-drop}
 use lib.Seq.{take-at, drop-at, take-all, take-add, drop-drop, take-append-seam, drop-append-seam, length-take-le}
 use native.Mathlib.Omega.{arith}
 use borrow.Author.Tests.{lt-ltb, le-ltb}
 use Rattle.refusal.specs.Output.{filled}
-use Rattle.session.specs.declared.phases.Phase.the-variants.{Closed}
 use Rattle.session.specs.declared.sessions.Session.{Session as CodeSession}
-use Rattle.chunks.specs.Taking.{End, client, plugin}
-use Rattle.chunks.specs.Uncut.{isWaiting}
+use Rattle.chunks.specs.Taking.{End}
 use Rattle.intake.specs.Intake.{awaitedSize, keptSize, intakeOf, storedIn}
-
--- no command waits in a closed session
-pub closed-waits : (e : End) → isWaiting e Closed ≡ false
-closed-waits client = refl
-closed-waits plugin = refl
 
 -- ---- copies
 

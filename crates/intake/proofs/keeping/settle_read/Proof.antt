@@ -9,10 +9,11 @@ use Rattle.refusal.specs.Number.{numberOf}
 use Rattle.stanza.specs.Automaton.{start}
 use Rattle.stanza.specs.Resuming.{placeSaid, continuedSaid}
 use Rattle.stanza.proofs.Laws.Resuming.{whole-iff, unfinished-is}
+use Rattle.chunks.proofs.Laws.Taking.{closed-waits}
 use Rattle.chunks.specs.Taking.{noMore, emptied, keeping, behind}
 use Rattle.session.specs.Session.{closed}
 use Rattle.intake.specs.Intake.{lastSaid}
-use Rattle.intake.proofs.Laws.Keeping.{closed-waits, front-back, filled-empty}
+use Rattle.intake.proofs.Laws.Keeping.{front-back, filled-empty}
 use Rattle.intake.proofs.Laws.Settling.{reads-waits, behind-last, rest-kept, rest-closes}
 use Rattle.refusal.specs.Output.{filled}
 use borrow.Author.Needs.{needs}
