@@ -1,13 +1,16 @@
 // A stanza that began in an earlier chunk, and a session before its chunk.
 ghost use mathlib.Core.Path.{_≡_};
 ghost use mathlib.Core.List.{_++_};
-ghost use Prim.Native.Nat.{_+_, _≤_};
+ghost use Prim.Native.Nat.{_+_, _≤_, min};
 ghost use lib.ListN.{length, take};
-ghost use Rattle.chunks.specs.Taking.{plugin, reads, turnAt};
-ghost use Rattle.plugin_receiving.specs.Commands.{begunBy, beginsAt, FrontSays};
+ghost use Rattle.stanza.specs.Resuming.{continuedSaid};
+ghost use Rattle.chunks.specs.Taking.{plugin, turnAt};
+ghost use Rattle.intake.specs.Fronts.{inputBehind};
+ghost use Rattle.plugin_receiving.specs.Commands.{begunBy, frontIn};
 use intake::Last;
 use intake::Received;
 use refusal::Verdict;
+use session::Phase;
 use session::Session;
 use session::front;
 use stanza::Continued;
@@ -26,62 +29,23 @@ pub(crate) fn begin(session: Session) -> Received
     }
 }
 
-// Whether a chunk begins a stanza: none is unfinished.
-fn begins(place: Place, kept: usize) -> bool
-    ensures { λ r. ⌜ r ≡ beginsAt place kept ⌝ }
+// A chunk's front, where bytes are read: in phase one, and while a command awaits its response. Else none of it belongs to a stanza.
+pub(crate) fn front_in(
+    phase: Phase,
+    reading: Place,
+    kept: usize,
+    chunk: &[u8],
+    input: &mut [u8],
+) -> Continued
+    ensures front { λ r. ⌜ continuedSaid r ≡ frontIn (turnAt plugin phase) reading (min kept 8191) (now (chunk .entry)) ⌝ }
+    ensures input { λ r. ⌜ now (input .exit) ≡ inputBehind (continuedSaid r) (min kept 8191) (now (chunk .entry)) (now (input .entry)) ⌝ }
 {
-    match place {
-        Place::Start => kept == 0,
-        Place::Hyphen => false,
-        Place::Arrow => false,
-        Place::Gap => false,
-        Place::Word => false,
-        Place::Line(_, _) => false,
-        Place::Ended => false,
-        Place::Dead => false,
-    }
-}
-
-// A chunk's front, where bytes are read: it begins a stanza; a stanza ends behind so many of its bytes; or no stanza begins or ends in it, and it is answered.
-pub(crate) enum Front {
-    Begins,
-    Ends(usize),
-    Answered,
-}
-
-// The front, and the answer so far.
-pub(crate) struct Begun {
-    pub front: Front,
-    pub answer: Received,
-}
-
-pub(crate) fn read_front(session: Session, chunk: &[u8], input: &mut [u8]) -> Begun
-    requires { ⌜ turnAt plugin (session .phase) ≡ reads ⌝ }
-    requires { ⌜ 8192 ≤ length (now input) ⌝ }
-    ensures { λ r. ⌜ FrontSays session (now (chunk .entry)) (now (input .entry)) (now (input .exit)) (r .front) (r .answer) ⌝ }
-{
-    let place = session.reading;
-    let kept = intake::kept_of(session);
-    if begins(place, kept) {
-        return Begun {
-            front: Front::Begins,
-            answer: begin(session),
-        };
-    }
-    let continued = stanza::read_on(place, kept, chunk);
-    match continued {
-        Continued::Whole(k) => Begun {
-            front: Front::Ends(k),
-            answer: begin(session),
-        },
-        Continued::Unfinished(at) => Begun {
-            front: Front::Answered,
-            answer: intake::keep_on(session, at, chunk, input),
-        },
-        Continued::Refused(r) => Begun {
-            front: Front::Answered,
-            answer: intake::close(session, r),
-        },
+    match phase {
+        Phase::One => intake::read_front(reading, kept, chunk, input),
+        Phase::Two => Continued::Whole(0),
+        Phase::Awaiting(_) => intake::read_front(reading, kept, chunk, input),
+        Phase::Ended => Continued::Whole(0),
+        Phase::Closed => Continued::Whole(0),
     }
 }
 
