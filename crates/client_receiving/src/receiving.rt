@@ -17,7 +17,9 @@ ghost use Rattle.client_receiving.specs.Texts.{lent, Answers};
 use crate::texts::begin;
 use crate::texts::take_front;
 use crate::texts::take_text;
+use intake::OneByte;
 use intake::Received;
+use intake::Turn;
 use refusal::Refusal;
 use refusal::Verdict;
 use session::Session;
@@ -143,7 +145,11 @@ pub fn receive(
         return intake::leave(session, r);
     }
     let reading = session.reading;
-    let front = intake::read_front(reading, session.kept, chunk, input);
+    let one = intake::read_one(Turn::Reads, reading, session.kept, chunk, input);
+    if let OneByte::GoesOn(place) = one {
+        return intake::keep_on(session, place, chunk);
+    }
+    let front = intake::read_front(Turn::Reads, reading, session.kept, chunk, input);
     match front {
         Continued::Unfinished(place) => {
             return intake::keep_on(session, place, chunk);

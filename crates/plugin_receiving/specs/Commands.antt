@@ -8,16 +8,13 @@ use Rattle.refusal.specs.Pick.{pick}
 use Rattle.refusal.specs.Verdict.{verdictSaid}
 use Rattle.refusal.specs.declared.Verdict.the-variants as the-verdict
 use Rattle.stanza.specs.Reading.{Reading, refused}
-use Rattle.stanza.specs.Resuming.{Continued, whole}
-use Rattle.stanza.specs.declared.places.Place.{Place}
 use Rattle.session.specs.Session.{sessionOf}
 use Rattle.session.specs.declared.phases.Phase.{Phase}
 use Rattle.session.specs.declared.sessions.Session.{Session as CodeSession}
 use Rattle.phase_one.specs.Turns.{turnOne}
 use Rattle.conversation.specs.Kinds.{Buffers}
-use Rattle.chunks.specs.Taking.{plugin, client, Turn, reads, drops, keeps-back, Taken, noMore, emptied, behind, takenText}
+use Rattle.chunks.specs.Taking.{plugin, client, Taken, noMore, emptied, behind, takenText}
 use Rattle.chunks.specs.Uncut.{isWaiting}
-use Rattle.intake.specs.Fronts.{frontOf}
 use Rattle.intake.specs.Intake.{lastSaid}
 use Rattle.intake.specs.declared.answers.Last.the-variants as the-last
 use Rattle.intake.specs.declared.answers.Received.{Received as CodeReceived}
@@ -27,12 +24,6 @@ use Rattle.plugin_receiving.specs.declared.receiving.Taking.the-variants
 -- a session's answer before its chunk
 abbrev pub begunBy : CodeSession → CodeReceived
 begunBy s = record { verdict = the-verdict.Accepted; count = 0; last = the-last.Nothing; written = 0; session = s }
-
--- a chunk's front by whose turn it is: it belongs to the unfinished stanza only where bytes are read
-abbrev pub frontIn : Turn → Place → ℕ → List ℕ → Continued
-frontIn reads p n x = frontOf p n x
-frontIn (drops m) p n x = whole 0
-frontIn keeps-back p n x = whole 0
 
 -- the next command of a text that reads so: none behind a refusal n, nor in another phase
 abbrev pub nextIn : ℕ → Phase → Reading → Reading

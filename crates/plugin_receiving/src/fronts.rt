@@ -1,20 +1,14 @@
 // A stanza that began in an earlier chunk, and a session before its chunk.
 ghost use mathlib.Core.Path.{_≡_};
 ghost use mathlib.Core.List.{_++_};
-ghost use Prim.Native.Nat.{_+_, _≤_, min};
+ghost use Prim.Native.Nat.{_+_, _≤_};
 ghost use lib.ListN.{length, take};
-ghost use Rattle.stanza.specs.Resuming.{continuedSaid};
-ghost use Rattle.chunks.specs.Taking.{plugin, turnAt};
-ghost use Rattle.intake.specs.Fronts.{inputBehind};
-ghost use Rattle.plugin_receiving.specs.Commands.{begunBy, frontIn};
+ghost use Rattle.plugin_receiving.specs.Commands.{begunBy};
 use intake::Last;
 use intake::Received;
 use refusal::Verdict;
-use session::Phase;
 use session::Session;
 use session::front;
-use stanza::Continued;
-use stanza::Place;
 
 // Nothing is taken yet.
 pub(crate) fn begin(session: Session) -> Received
@@ -26,26 +20,6 @@ pub(crate) fn begin(session: Session) -> Received
         last: Last::Nothing,
         written: 0,
         session: session,
-    }
-}
-
-// A chunk's front, where bytes are read: in phase one, and while a command awaits its response. Else none of it belongs to a stanza.
-pub(crate) fn front_in(
-    phase: Phase,
-    reading: Place,
-    kept: usize,
-    chunk: &[u8],
-    input: &mut [u8],
-) -> Continued
-    ensures front { λ r. ⌜ continuedSaid r ≡ frontIn (turnAt plugin phase) reading (min kept 8191) (now (chunk .entry)) ⌝ }
-    ensures input { λ r. ⌜ now (input .exit) ≡ inputBehind (continuedSaid r) (min kept 8191) (now (chunk .entry)) (now (input .entry)) ⌝ }
-{
-    match phase {
-        Phase::One => intake::read_front(reading, kept, chunk, input),
-        Phase::Two => Continued::Whole(0),
-        Phase::Awaiting(_) => intake::read_front(reading, kept, chunk, input),
-        Phase::Ended => Continued::Whole(0),
-        Phase::Closed => Continued::Whole(0),
     }
 }
 

@@ -14,10 +14,10 @@ ghost use Rattle.chunks.specs.Chunks.{taken, chunked};
 ghost use Rattle.intake.specs.Intake.{intakeOf, storedIn, receivedSaid};
 ghost use Rattle.intake.specs.Settling.{Says};
 use crate::commands::receive_commands;
-use crate::fronts::front_in;
 use crate::responding::none_behind;
 use crate::responding::receive_due;
 use intake::Last;
+use intake::OneByte;
 use intake::Received;
 use refusal::Refusal;
 use refusal::Verdict;
@@ -83,7 +83,12 @@ pub fn receive(
 {
     let phase = session.phase;
     let reading = session.reading;
-    let front = front_in(phase, reading, session.kept, chunk, input);
+    let turn = intake::turn_plugin(phase);
+    let one = intake::read_one(turn, reading, session.kept, chunk, input);
+    if let OneByte::GoesOn(place) = one {
+        return intake::keep_on(session, place, chunk);
+    }
+    let front = intake::read_front(turn, reading, session.kept, chunk, input);
     match front {
         Continued::Unfinished(place) => {
             return intake::keep_on(session, place, chunk);

@@ -1,12 +1,13 @@
 -- A chunk's front: what the chunk comes to by it.
-use Prim.Native.Nat.{ℕ, zero, suc, _+_, _≤_, min}
+use Prim.Native.Nat.{ℕ, zero, suc, _+_, _≤_, _<_, min}
 use mathlib.Core.Path.{_≡_, refl, sym, ap, ap₂, subst, _∙_}
 use mathlib.Core.Bool.{Bool, true, false, false≢true}
-use mathlib.Core.List.{List, [], _++_}
-use lib.ListN.{length, take, drop, length-take, length-append}
+use mathlib.Core.List.{List, [], _∷_, _++_}
+use lib.ListN.{length, take, drop, set, getD, length-take}
 use lib.Seq.{length-take-le}
 use native.Mathlib.Omega.{arith}
 use borrow.Author.Tests.{eqb-true}
+use Rattle.refusal.specs.Output.{filled}
 use Rattle.refusal.specs.Pick.{pick}
 use Rattle.refusal.proofs.Laws.Booleans.{cases}
 use Rattle.stanza.specs.Automaton.{State, start}
@@ -20,17 +21,17 @@ use Rattle.session.specs.declared.sessions.Session.{Session as CodeSession}
 use Rattle.conversation.specs.Calls.{outcome}
 use Rattle.conversation.specs.Kinds.{Buffers}
 use Rattle.chunks.specs.Cutting.{cut}
-use Rattle.chunks.specs.Taking.{End, reads, turnAt, stanzaCall, Intake, Taken, noMore, emptied, keeping, takenText}
+use Rattle.chunks.specs.Taking.{End, Turn, reads, drops, keeps-back, turnAt, stanzaCall, Intake, Taken, noMore, emptied, keeping, takenText}
 use Rattle.chunks.specs.Chunks.{Outcome, judged, taken, turnOf, chunked}
 use Rattle.chunks.specs.Uncut.{isWaiting}
 use Rattle.chunks.proofs.Laws.Runs.{judged-held}
 use Rattle.chunks.proofs.Laws.Taking.{turn-reads, chunked-read}
 use Rattle.chunks.proofs.Laws.Texts.{stanzaTaken, takenCut, front-left, front-fault, front-stanza}
 use Rattle.intake.specs.Intake.{awaitedSize, keptSize, intakeOf, takenSaid, receivedSaid}
-use Rattle.intake.specs.Fronts.{isBetween, frontOf}
+use Rattle.intake.specs.Fronts.{isBetween, isReading, frontOf, frontIn, inputBehind}
 use Rattle.intake.specs.Settling.{Says}
 use Rattle.intake.specs.declared.answers.Received.{Received as CodeReceived}
-use Rattle.intake.proofs.Laws.Keeping.{filled-empty}
+use Rattle.intake.proofs.Laws.Keeping.{filled-empty, byte-behind, one-of}
 use Rattle.intake.proofs.Laws.Settling.{reads-waits}
 
 -- ---- by what the front gives
@@ -55,11 +56,17 @@ module _ (p : Place) (n : ℕ) (x : List ℕ) where
   pub not-unfinished : (q : State) → whole 0 ≡ resuming.unfinished q → ⊥
   not-unfinished q e = let z : _≡_ {A = ℕ} 0 1 = cc in omega arith
 
-  not-refused : (m : ℕ) → whole 0 ≡ resuming.refused m → ⊥
+  pub not-refused : (m : ℕ) → whole 0 ≡ resuming.refused m → ⊥
   not-refused m e = let z : _≡_ {A = ℕ} 0 1 = cc in omega arith
 
   not-some : (k : ℕ) → (k ≡ 0 → ⊥) → whole 0 ≡ whole k → ⊥
   not-some k z e = z (cc)
+
+  -- .. and it is read
+  pub reading-on : (t : Turn) (r : Continued) → frontIn t p n x ≡ r → (whole 0 ≡ r → ⊥) → (t ≡ reads) × (frontOf p n x ≡ r)
+  reading-on reads r h z = (refl, h)
+  reading-on (drops m) r h z = absurd (z h)
+  reading-on keeps-back r h z = absurd (z h)
 
   -- none is where none of the chunk belongs to one
   pub between : frontOf p n x ≡ whole 0 → (placeSaid p ≡ start) × (n ≡ 0)
@@ -128,6 +135,28 @@ front-within p n x zero h l = (omega arith, omega arith)
 front-within p n x (suc k) h l =
     let w = whole-within x (placeSaid p) n (suc k) (going-on p n x (whole (suc k)) h (not-some p n x (suc k) (λ z. omega arith))) in
     (w .1, w .2)
+
+-- a byte with which the unfinished stanza goes on, kept behind its front
+pub byte-goes-on : (t : Turn) (p q : Place) (kept : ℕ) (x o : List ℕ) → isReading t ≡ true → length x ≡ 1 → kept < 8191 → kept < length o → isBetween p kept ≡ false →
+    ((n : ℕ) → n < 8191 → resuming.unfinished (placeSaid q) ≡ continued (placeSaid p) n (getD x 0 0 ∷ [])) →
+    (t ≡ reads) × (frontOf p (min kept 8191) x ≡ resuming.unfinished (placeSaid q)) ×
+    (set o kept (getD x 0 0) ≡ inputBehind (resuming.unfinished (placeSaid q)) (min kept 8191) x o)
+byte-goes-on t p q kept x o read one l i between h =
+    let m : min kept 8191 ≡ kept = omega arith in (
+      is-reads t read,
+      ap (λ n. frontOf p n x) m
+      ∙ ap (λ f. pick f (whole 0) (continued (placeSaid p) kept x)) between
+      ∙ ap (continued (placeSaid p) kept) (one-of x one)
+      ∙ sym (h kept l),
+      byte-behind o kept (getD x 0 0) i
+      ∙ ap (λ y. take kept o ++ filled y (drop kept o)) (sym (one-of x one))
+      ∙ ap (λ n. take n o ++ filled x (drop n o)) (sym m),
+    )
+  where
+    is-reads : (t : Turn) → isReading t ≡ true → t ≡ reads
+    is-reads reads h = refl
+    is-reads (drops m) h = absurd (false≢true h)
+    is-reads keeps-back h = absurd (false≢true h)
 
 -- ---- an answer that writes nothing
 

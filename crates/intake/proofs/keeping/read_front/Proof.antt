@@ -1,29 +1,43 @@
--- By whether a stanza is unfinished, and if one is, by what reading on gives.
+-- By whether bytes are read, whether a stanza is unfinished, and what reading on gives.
 use Prim.Native.Nat.{ℕ, min}
-use mathlib.Core.Path.{_≡_, refl, sym, ap, _∙_}
-use lib.ListN.{take, drop}
-use mathlib.Core.List.{List, _++_}
+use mathlib.Core.Path.{_≡_, refl, sym, ap, ap₂, _∙_}
 use mathlib.Core.Bool.{true, false}
+use mathlib.Core.List.{List}
+use borrow.Author.Tests.{not-true, not-false}
 use denote.Ref.{now}
-use Rattle.refusal.specs.Output.{filled}
 use Rattle.refusal.specs.Pick.{pick}
 use Rattle.stanza.specs.Resuming.{Continued, placeSaid, continuedSaid, continued, whole}
 use Rattle.stanza.specs.declared.places.Place.{Place}
-use Rattle.intake.specs.Fronts.{isBetween, frontOf, inputBehind}
+use Rattle.chunks.specs.Taking.{Turn}
+use Rattle.intake.specs.Fronts.{isBetween, isReading, frontOf, frontIn, inputBehind}
+use Rattle.intake.specs.Turns.{turnSaid}
 use borrow.Author.Needs.{needs}
 use Rattle.intake.proofs.keeping.read_front.Statement.{statement}
 use Rattle.intake.proofs.keeping.read_front.Tie as tie
 
--- none is unfinished
-none-unfinished : (p : Place) (k n : ℕ) (x : List ℕ) → n ≡ k → isBetween p n ≡ true → whole 0 ≡ frontOf p k x
-none-unfinished p k n x e h = sym (ap (λ f. pick f (whole 0) (continued (placeSaid p) k x)) (ap (isBetween p) (sym e) ∙ h))
+module _ (t : Turn) (p : Place) (k : ℕ) (x : List ℕ) where
+  -- nothing is read
+  none-read : isReading t ≡ false → whole 0 ≡ frontIn t p k x
+  none-read h = sym (ap (λ f. pick f (frontOf p k x) (whole 0)) h)
 
--- one is
-one-unfinished : (p : Place) (k n : ℕ) (x : List ℕ) (r : Continued) → n ≡ k → isBetween p n ≡ false → r ≡ continued (placeSaid p) n x → r ≡ frontOf p k x
-one-unfinished p k n x r e h q =
-    q
-    ∙ ap (λ n. continued (placeSaid p) n x) e
-    ∙ sym (ap (λ f. pick f (whole 0) (continued (placeSaid p) k x)) (ap (isBetween p) (sym e) ∙ h))
+  module _ (read : isReading t ≡ true) (n : ℕ) (e : n ≡ k) where
+    -- by whether one is unfinished
+    by-between : (r : Continued) → pick (isBetween p n) (whole 0) (continued (placeSaid p) n x) ≡ r → frontIn t p k x ≡ r
+    by-between r h = ap (λ f. pick f (frontOf p k x) (whole 0)) read ∙ ap (λ n. frontOf p n x) (sym e) ∙ h
+
+    none-unfinished : isBetween p n ≡ true → whole 0 ≡ frontIn t p k x
+    none-unfinished h = sym (by-between (whole 0) (ap (λ f. pick f (whole 0) (continued (placeSaid p) n x)) h))
+
+    one-unfinished : (r : Continued) → isBetween p n ≡ false → r ≡ continued (placeSaid p) n x → r ≡ frontIn t p k x
+    one-unfinished r h q = q ∙ sym (by-between (continued (placeSaid p) n x) (ap (λ f. pick f (whole 0) (continued (placeSaid p) n x)) h))
+
+is-reading-requires : tie.Need-is-reading-requires
+is-reading-requires c κs = search needs
+
+returns : tie.Need-returns
+returns c =
+    let a = c .before .before .before .before .args in
+    (none-read (turnSaid (a .turn)) (a .reading) (min (a .kept) 8191) (now (a .chunk)) (sym (c .before .is-reading .ensures) ∙ not-true (c .before .is-reading .result) (c .if1 .taken)), refl)
 
 kept-of-requires : tie.Need-kept-of-requires
 kept-of-requires c κs = search needs
@@ -31,65 +45,34 @@ kept-of-requires c κs = search needs
 is-between-requires : tie.Need-is-between-requires
 is-between-requires c κs = search needs
 
-returns : tie.Need-returns
-returns c =
-    let a = c .before .before .before .before .before .args in
-    (none-unfinished (a .reading) (min (a .kept) 8191) _ (now (a .chunk)) (c .before .before .kept-of .ensures) (sym (c .before .is-between .ensures) ∙ c .if1 .taken), refl)
-
-read-on-requires : tie.Need-read-on-requires
-read-on-requires c κs = search needs
-
-enum-told : tie.Need-enum-told
-enum-told c = search needs
-
-enum-told-2 : tie.Need-enum-told-2
-enum-told-2 c = search needs
-
-copy-behind-requires : tie.Need-copy-behind-requires
-copy-behind-requires c κs = search needs
-
-enum-told-3 : tie.Need-enum-told-3
-enum-told-3 c = search needs
-
 returns-2 : tie.Need-returns-2
 returns-2 c =
-    let a = c .before .before .before .before .before .before .before .before .args in (
-      one-unfinished (a .reading) (min (a .kept) 8191) _ (now (a .chunk)) _ (c .before .before .before .before .before .kept-of .ensures) (sym (c .before .before .before .before .is-between .ensures) ∙ c .before .before .before .if1 .left) (c .before .before .read-on .ensures),
-      ap (λ q. inputBehind (continuedSaid q) (min (a .kept) 8191) (now (a .chunk)) (now (a .input))) (sym (c .enum-told .given .1)),
-    )
+    let a = c .before .before .before .before .before .before .before .args in
+    (none-unfinished (turnSaid (a .turn)) (a .reading) (min (a .kept) 8191) (now (a .chunk)) (sym (c .before .before .before .before .is-reading .ensures) ∙ not-false (c .before .before .before .before .is-reading .result) (c .before .before .before .if1 .left)) _ (c .before .before .kept-of .ensures) (sym (c .before .is-between .ensures) ∙ c .if2 .taken), refl)
+
+read-more-requires : tie.Need-read-more-requires
+read-more-requires c κs = search needs
 
 same-length : tie.Need-same-length
 same-length c = search needs
 
 returns-3 : tie.Need-returns-3
 returns-3 c =
-    let a = c .before .before .before .before .before .before .before .before .before .before .before .before .args in (
-      one-unfinished (a .reading) (min (a .kept) 8191) _ (now (a .chunk)) _ (c .before .before .before .before .before .before .before .before .before .kept-of .ensures) (sym (c .before .before .before .before .before .before .before .before .is-between .ensures) ∙ c .before .before .before .before .before .before .before .if1 .left) (c .before .before .before .before .before .before .read-on .ensures),
-      c .before .before .copy-behind .ensures
-      ∙ ap (λ n. take n (now (a .input)) ++ filled (now (a .chunk)) (drop n (now (a .input)))) (c .before .before .before .before .before .before .before .before .before .kept-of .ensures)
-      ∙ ap (λ q. inputBehind (continuedSaid q) (min (a .kept) 8191) (now (a .chunk)) (now (a .input))) (sym (c .before .before .before .before .enum-told2 .given .1)),
-    )
-
-returns-4 : tie.Need-returns-4
-returns-4 c =
-    let a = c .before .before .before .before .before .before .before .before .args in (
-      one-unfinished (a .reading) (min (a .kept) 8191) _ (now (a .chunk)) _ (c .before .before .before .before .before .kept-of .ensures) (sym (c .before .before .before .before .is-between .ensures) ∙ c .before .before .before .if1 .left) (c .before .before .read-on .ensures),
-      ap (λ q. inputBehind (continuedSaid q) (min (a .kept) 8191) (now (a .chunk)) (now (a .input))) (sym (c .enum-told3 .given .1)),
+    let a = c .before .before .before .before .before .before .before .before .before .before .before .args in
+    let f = c .before .before .read-more in (
+      one-unfinished (turnSaid (a .turn)) (a .reading) (min (a .kept) 8191) (now (a .chunk)) (sym (c .before .before .before .before .before .before .before .before .is-reading .ensures) ∙ not-false (c .before .before .before .before .before .before .before .before .is-reading .result) (c .before .before .before .before .before .before .before .if1 .left)) _ (c .before .before .before .before .before .before .kept-of .ensures) (continuedSaid (f .result)) (sym (c .before .before .before .before .before .is-between .ensures) ∙ c .before .before .before .before .if2 .left) (f .ensures .0),
+      f .ensures .1 ∙ ap (λ n. inputBehind (continuedSaid (f .result)) n (now (a .chunk)) (now (a .input))) (c .before .before .before .before .before .before .kept-of .ensures),
     )
 
 pub read-front-spec : {M : Type 1} → statement M
 read-front-spec =
     tie.close
     (tie.spec
+    is-reading-requires
+    returns
     kept-of-requires
     is-between-requires
-    returns
-    read-on-requires
-    enum-told
-    enum-told-2
-    copy-behind-requires
-    enum-told-3
     returns-2
+    read-more-requires
     same-length
-    returns-3
-    returns-4)
+    returns-3)

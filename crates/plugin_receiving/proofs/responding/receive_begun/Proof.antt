@@ -12,8 +12,9 @@ use Rattle.chunks.specs.Taking.{plugin, turnAt, behind, takenText}
 use Rattle.chunks.specs.Chunks.{taken}
 use Rattle.intake.specs.Intake.{intakeOf, lastSaid}
 use Rattle.intake.specs.declared.answers.Received.{Received}
-use Rattle.plugin_receiving.proofs.Laws.Commands.{says-same, chunk-begins}
-use Rattle.plugin_receiving.proofs.Laws.Responses.{noBuffers, filled-own, says-judged, may-settle-due, begun-settled}
+use Rattle.intake.proofs.Laws.Fronts.{says-judged}
+use Rattle.plugin_receiving.proofs.Laws.Commands.{says-same, chunk-begun}
+use Rattle.plugin_receiving.proofs.Laws.Responses.{noBuffers, may-settle-due, begun-settled}
 use borrow.Author.Needs.{needs}
 use Rattle.plugin_receiving.proofs.responding.receive_begun.Statement.{statement}
 use Rattle.plugin_receiving.proofs.responding.receive_begun.Tie as tie
@@ -54,13 +55,13 @@ returns c =
     let p = c .before .before .before .before .before .before .before .before .before .before .before .before .pre in
     let n = c .before .before .settle in
     let reading : readFirst (now (a .chunk)) ≡ refused (numberOf (c .before .before .before .before .before .enum-told .given .0 .0)) = sym (c .before .before .before .before .before .before .before .read .ensures) ∙ ap readSaid (c .before .before .before .before .before .enum-told .given .1) in
-    let may = may-settle-due (a .so-far .session) (a .word) (p .0) (now (a .input)) (p .1 .0) (now (a .chunk)) _ reading in (
+    let may = may-settle-due (a .session) (a .word) (p .0) (now (a .input)) (p .1 .0) (now (a .chunk)) _ reading in (
       λ xs hs b.
-          let i = intakeOf plugin (a .so-far .session) xs hs (now (a .input)) in
-          let t = takenText plugin (sessionOf (a .so-far .session) xs hs) b [] (now (a .chunk)) in
+          let i = intakeOf plugin (a .session) xs hs (now (a .input)) in
+          let t = takenText plugin (sessionOf (a .session) xs hs) b [] (now (a .chunk)) in
           says-judged (n .result) xs hs (now (a .input)) (n .last .1 .1 .1 .1 .0) (now (a .out)) b i (taken plugin i b (now (a .chunk)))
           (says-same (n .result) xs hs (now (a .input)) (now (a .input)) (n .last .1 .1 .1 .1 .0) b _ _ refl
-          (ap (λ (r : Received). behind (r .count) (lastSaid (r .last)) [] t) (p .1 .1 .0) ∙ chunk-begins (a .so-far .session) xs hs (now (a .input)) (p .1 .0) (ap (turnAt plugin) (p .0)) (now (a .chunk)) b (p .1 .1 .1))
+          (ap (λ (r : Received). behind (r .count) (lastSaid (r .last)) [] t) (p .1 .1 .0) ∙ chunk-begins (a .session) xs hs (now (a .input)) (p .1 .0) (ap (turnAt plugin) (p .0)) (now (a .chunk)) b (p .1 .1 .1))
           (n .ensures .0 plugin xs hs [] b may))
           (n .ensures .1 .0 ∙ ap (λ (r : Received). r .written) (p .1 .1 .0)),
       (λ xs hs. n .ensures .0 plugin xs hs [] noBuffers may .input, n .ensures .1 .1),
@@ -76,7 +77,7 @@ returns-2 c =
     let v = c .before .before .before .before .before .before .before .first .given .0 .0 in
     let n = c .before .before .before .before .receive-stanza in
     let reading : readFirst (now (a .chunk)) ≡ stanza (v .line) (v .body) (v .taken) = sym (c .before .before .before .before .before .before .before .before .before .read .ensures) ∙ ap readSaid (c .before .before .before .before .before .before .before .first .given .1) in (
-      λ xs hs b. c .settle-response .ensures .0 xs hs (now (a .input)) b _ ∙ begun-settled (a .so-far .session) (a .word) (p .0) (now (a .input)) (p .1 .0) (now (a .chunk)) xs hs b (n .result) (now (a .out)) _ (p .1 .1 .1) (v .line) (v .body) (v .taken) reading (n .ensures .0 xs hs),
+      λ xs hs b. c .settle-response .ensures .0 xs hs (now (a .input)) b _ ∙ begun-settled (a .session) (a .word) (p .0) (now (a .input)) (p .1 .0) (now (a .chunk)) xs hs b (n .result) (now (a .out)) _ (p .1 .1 .1) (v .line) (v .body) (v .taken) reading (n .ensures .0 xs hs),
       (λ xs hs. filled-own (min (c .settle-response .result .session .kept) 8191) (now (a .input)), c .settle-response .ensures .1),
     )
 
