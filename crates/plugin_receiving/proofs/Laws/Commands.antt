@@ -43,8 +43,8 @@ use Rattle.chunks.specs.Cutting.{cut}
 use Rattle.chunks.specs.Uncut.{isWaiting}
 use Rattle.chunks.proofs.Laws.Bounds.{stanza-long}
 use Rattle.chunks.proofs.Laws.Cases.{drops-not-reads, keeps-not-reads, keeps-not-drops}
-use Rattle.chunks.proofs.Laws.Texts.{stanzaTaken, text-stanza, behind-more, behind-none}
-use Rattle.intake.proofs.Laws.Fronts.{chunk-begins, chunk-ends}
+use Rattle.chunks.proofs.Laws.Texts.{stanzaTaken, takenCut, text-stanza, behind-more, behind-none}
+use Rattle.intake.proofs.Laws.Fronts.{between, intake-reads, chunk-ends}
 use Rattle.intake.proofs.Laws.Keeping.{filled-empty}
 use Rattle.intake.specs.Fronts.{frontOf}
 use Rattle.intake.specs.Intake.{intakeOf, storedIn, lastSaid, takenSaid}
@@ -307,10 +307,13 @@ says-emptied r xs hs input b n s h = record { taken = h; input = filled-empty in
 -- ---- a stanza that began in an earlier chunk
 
 -- none did
-pub chunk-begun : (s : CodeSession) (xs hs : List (List ℕ)) (input : List ℕ) → 8192 ≤ length input → turnAt plugin (s .phase) ≡ reads → (chunk : List ℕ) (b : Buffers) →
+pub chunk-begun : (s : CodeSession) (xs hs : List (List ℕ)) (input : List ℕ) → turnAt plugin (s .phase) ≡ reads → (chunk : List ℕ) (b : Buffers) →
     frontOf (s .reading) (min (s .kept) 8191) chunk ≡ whole 0 → comesTo (begunBy s) xs hs b chunk ≡ taken plugin (intakeOf plugin s xs hs input) b chunk
-chunk-begun s xs hs input long turn chunk b h =
-    behind-none plugin (sessionOf s xs hs) b [] (cut start [] chunk .texts) (cut start [] chunk .rest) ∙ sym (chunk-begins plugin s xs hs input turn long chunk b h)
+chunk-begun s xs hs input turn chunk b h =
+    let z = between (s .reading) (min (s .kept) 8191) chunk h in
+    behind-none plugin (sessionOf s xs hs) b [] (cut start [] chunk .texts) (cut start [] chunk .rest)
+    ∙ sym (ap (λ i. taken plugin i b chunk) (intake-reads plugin s xs hs input turn)
+    ∙ ap₂ (λ q n. takenCut plugin (sessionOf s xs hs) b [] (cut q (take n input) chunk)) (z .0) (z .1))
 
 -- a command that did
 pub record Fronted (s : CodeSession) (xs hs xs′ hs′ : List (List ℕ)) (b b′ : BuffersOne) (input chunk : List ℕ) (k : ℕ) (r : CodeReceived) (after : CodeSession) : Type 0 where

@@ -1,11 +1,12 @@
 -- The stanza that was put together is one command, or reads as none.
 use Prim.Native.Nat.{_≤_, min}
-use mathlib.Core.Path.{_≡_, refl, sym, ap, _∙_}
-use mathlib.Core.List.{[], _++_}
-use lib.ListN.{length, take}
+use mathlib.Core.Path.{_≡_, refl, sym, ap, ap₂, _∙_}
+use mathlib.Core.List.{_++_}
+use lib.ListN.{length, take, drop}
 use native.Mathlib.Omega.{arith}
 use denote.Ref.{now}
 use Rattle.refusal.specs.Number.{numberOf}
+use Rattle.stanza.specs.Resuming.{whole}
 use Rattle.stanza.specs.Reading.{readSaid, readFirst, stanza}
 use Rattle.session.specs.Opening.{nameOf}
 use Rattle.session.specs.Session.{sessionOf, Carried}
@@ -13,8 +14,11 @@ use Rattle.session.specs.Tables.{tablesIn}
 use Rattle.phase_one.specs.PhaseOne as one
 use Rattle.conversation.specs.Receiving.{receivedAs}
 use Rattle.conversation.proofs.Laws.Receiving.{refusal-is}
-use Rattle.chunks.specs.Taking.{plugin, turnAt}
-use Rattle.plugin_receiving.specs.Commands.{answerBehind}
+use Rattle.conversation.specs.Kinds.{buffersOf}
+use Rattle.chunks.specs.Taking.{client, plugin, turnAt}
+use Rattle.chunks.specs.Uncut.{isWaiting}
+use Rattle.intake.specs.declared.answers.Received.{Received}
+use Rattle.plugin_receiving.specs.Commands.{answerBehind, comesTo}
 use Rattle.plugin_receiving.specs.declared.receiving.Taking.the-variants as the
 use Rattle.intake.proofs.Laws.Fronts.{front-within}
 use Rattle.plugin_receiving.proofs.Laws.Commands.{chunk-begun, fronted}
@@ -27,7 +31,16 @@ begin-requires c κs = search needs
 
 returns : tie.Need-returns
 returns c =
-    let a = c .args in ?
+    let a = c .before .before .before .before .before .before .before .args in
+    let p = c .before .before .before .before .before .before .before .pre in
+    let z : a .k ≡ 0 = c .before .if1 .taken in
+    let e = c .begin .ensures in (
+      λ d.
+          let b = buffersOf (one.buffersOf (now (a .recipients)) (now (a .identities)) (now (a .keys)) (now (a .headers))) d in
+          ap₂ (λ r n. comesTo r (now (a .slots)) (now (a .header-slots)) b (drop n (now (a .chunk)))) e z
+          ∙ chunk-begun (a .session) (now (a .slots)) (now (a .header-slots)) (now (a .input)) (ap (turnAt plugin) (p .0)) (now (a .chunk)) b (p .1 ∙ ap whole z),
+      (λ v. ap (λ (r : Received). isWaiting client (r .session .phase)) e ∙ ap (isWaiting client) (p .0), omega (arith, ap (λ (r : Received). r .count) e), ap (λ (r : Received). r .written) e, ap (λ (r : Received). r .session .name) e),
+    )
 
 kept-of-requires : tie.Need-kept-of-requires
 kept-of-requires c κs = search needs
