@@ -70,13 +70,7 @@ pub enum OneByte {
 }
 
 // A chunk of one byte, read on without a loop: where a stanza is unfinished and goes on, the byte is kept behind its front. Else nothing is done.
-pub fn read_one(
-    turn: Turn,
-    reading: Place,
-    kept: usize,
-    chunk: &[u8],
-    input: &mut [u8],
-) -> OneByte
+pub fn read_one(turn: Turn, reading: Place, kept: usize, chunk: &[u8], input: &mut [u8]) -> OneByte
     ensures { λ r. ⌜ OneByteSays (turnSaid turn) reading (min kept 8191) (now (chunk .entry)) (now (input .entry)) (now (input .exit)) r ⌝ }
 {
     if !is_reading(turn) {

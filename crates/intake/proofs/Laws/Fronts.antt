@@ -1,6 +1,6 @@
 -- A chunk's front: what the chunk comes to by it.
 use Prim.Native.Nat.{ℕ, zero, suc, _+_, _≤_, _<_, min}
-use mathlib.Core.Path.{_≡_, refl, sym, ap, ap₂, subst, _∙_}
+use mathlib.Core.Path.{_≡_, refl, sym, ap, ap₂, _∙_}
 use mathlib.Core.Bool.{Bool, true, false, false≢true}
 use mathlib.Core.List.{List, [], _∷_, _++_}
 use lib.ListN.{length, take, drop, set, getD, length-take}
@@ -25,7 +25,7 @@ use Rattle.chunks.specs.Taking.{End, Turn, reads, drops, keeps-back, turnAt, st
 use Rattle.chunks.specs.Chunks.{Outcome, judged, taken, turnOf, chunked}
 use Rattle.chunks.specs.Uncut.{isWaiting}
 use Rattle.chunks.proofs.Laws.Runs.{judged-held}
-use Rattle.chunks.proofs.Laws.Taking.{turn-reads, chunked-read}
+use Rattle.chunks.proofs.Laws.Taking.{chunked-read}
 use Rattle.chunks.proofs.Laws.Texts.{stanzaTaken, takenCut, front-left, front-fault, front-stanza}
 use Rattle.intake.specs.Intake.{awaitedSize, keptSize, intakeOf, takenSaid, receivedSaid}
 use Rattle.intake.specs.Fronts.{isBetween, isReading, frontOf, frontIn, inputBehind}
@@ -145,12 +145,12 @@ byte-goes-on t p q kept x o read one l i between h =
     let m : min kept 8191 ≡ kept = omega arith in (
       is-reads t read,
       ap (λ n. frontOf p n x) m
-      ∙ ap (λ f. pick f (whole 0) (continued (placeSaid p) kept x)) between
-      ∙ ap (continued (placeSaid p) kept) (one-of x one)
-      ∙ sym (h kept l),
+          ∙ ap (λ f. pick f (whole 0) (continued (placeSaid p) kept x)) between
+          ∙ ap (continued (placeSaid p) kept) (one-of x one)
+          ∙ sym (h kept l),
       byte-behind o kept (getD x 0 0) i
-      ∙ ap (λ y. take kept o ++ filled y (drop kept o)) (sym (one-of x one))
-      ∙ ap (λ n. take n o ++ filled x (drop n o)) (sym m),
+          ∙ ap (λ y. take kept o ++ filled y (drop kept o)) (sym (one-of x one))
+          ∙ ap (λ n. take n o ++ filled x (drop n o)) (sym m),
     )
   where
     is-reads : (t : Turn) → isReading t ≡ true → t ≡ reads

@@ -34,7 +34,7 @@ use Rattle.phase_one.specs.Turns.{turnOne, phaseAfter}
 use Rattle.conversation.specs.Calls.{Outcome, receive, outcome, receivedOutcome, takingNumber, takingGiven}
 use Rattle.conversation.specs.Kinds.{Buffers, buffersOf}
 use Rattle.conversation.specs.PhaseTwo.{BuffersTwo}
-use Rattle.conversation.specs.Receiving.{Taking, took, declined, Received, received, receivedAs, receivedStanza}
+use Rattle.conversation.specs.Receiving.{Taking, took, declined, Received, receivedAs, receivedStanza}
 use Rattle.conversation.proofs.Laws.Receiving.{received-in-turn}
 use Rattle.conversation.proofs.Laws.Refusals.{either, refusal}
 use Rattle.chunks.specs.Taking.{client, plugin, Turn, reads, keeps-back, turnAt, stanzaCall, no-stanza, command, Taken, noMore, emptied, behind, oneMore, takenText}

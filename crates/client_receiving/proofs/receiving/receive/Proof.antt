@@ -1,6 +1,6 @@
 -- Out of turn and without room everything stays; a chunk that does not end its stanza is kept or closes; else what was received is what the chunk came to.
 use Prim.Native.Nat.{_≤_, min}
-use mathlib.Core.Path.{_≡_, refl, sym, ap, subst, _∙_}
+use mathlib.Core.Path.{refl, sym, ap, subst, _∙_}
 use mathlib.Core.List.{[]}
 use lib.ListN.{length}
 use native.Mathlib.Omega.{arith}
@@ -146,12 +146,7 @@ has-room-requires c κs =
     let a = c .before .before .before .before .before .before .before .before .before .before .before .before .before .before .before .before .before .before .before .before .args in
     let x = now (a .chunk) in
     let o = now (a .input) in
-    let xs = now (a .slots) in
-    let hs = now (a .header-slots) in
-    let out = now (a .out) in
     let k = min (a .session .kept) 8191 in
-    let n = sym (ap verdictSaid (c .before .before .before .before .before .before .before .before .before .before .before .before .enum-told .given .1)) ∙ c .before .before .before .before .before .before .before .before .before .before .before .before .before .before .turn-two .ensures in
-    let second = turn-second (a .session .phase) (sym n) in
     let g = c .before .before .before .before .before .before .before .before .before .before .read-one in
     let f = c .before .before .before .before .before .before .read-front in
     let q = c .before .before .before .before .front3 .given in
@@ -175,12 +170,10 @@ returns-5 c =
     let out = now (a .out) in
     let k = min (a .session .kept) 8191 in
     let n = sym (ap verdictSaid (c .before .before .before .before .before .before .before .before .before .before .before .before .before .before .before .enum-told .given .1)) ∙ c .before .before .before .before .before .before .before .before .before .before .before .before .before .before .before .before .before .turn-two .ensures in
-    let second = turn-second (a .session .phase) (sym n) in
     let g = c .before .before .before .before .before .before .before .before .before .before .before .before .before .read-one in
     let f = c .before .before .before .before .before .before .before .before .before .read-front in
     let q = c .before .before .before .before .before .before .before .front3 .given in
     let same = subst (OneByteSays reads (a .session .reading) k x o (g .last .1 .1 .1 .1 .0)) (c .before .before .before .before .before .before .before .before .before .before .before .enum-told2 .given .1) (g .ensures) in
-    let front = sym (f .ensures .0) ∙ ap continuedSaid (q .1) in
     let input = f .ensures .1 ∙ ap (λ r. inputBehind (continuedSaid r) k x (g .last .1 .1 .1 .1 .0)) (q .1) in
     let i = f .last .1 .1 .1 .1 .0 in
     let e = c .leave2 .ensures .0 client xs hs i in (
@@ -190,7 +183,7 @@ returns-5 c =
           ∙ no-room (intakeOf client (a .session) xs hs o) l x out n (ap (λ i. isHeld (taken client (intakeOf client (a .session) xs hs i) l x) out) (sym (input ∙ same)) ∙ sym (c .before .before .has-room .ensures l (record { errors = refl; stanzas = refl; returned = refl }) (sym n)) ∙ not-true (c .before .before .has-room .result) (c .before .if1 .taken)),
       (
         untaken-input (a .session) xs hs i 15 _ out (c .leave2 .result) (e (lent none-lent [] [] []) out)
-        ∙ ap (storedIn (intakeOf client (c .leave2 .result .session) xs hs i)) (input ∙ same),
+            ∙ ap (storedIn (intakeOf client (c .leave2 .result .session) xs hs i)) (input ∙ same),
         c .leave2 .ensures .1,
       ),
     )
@@ -200,9 +193,6 @@ receive-held-requires c κs =
     let a = c .before .before .before .before .before .before .before .before .before .before .before .before .before .before .before .before .before .before .before .before .before .before .before .before .before .before .before .before .args in
     let x = now (a .chunk) in
     let o = now (a .input) in
-    let xs = now (a .slots) in
-    let hs = now (a .header-slots) in
-    let out = now (a .out) in
     let k = min (a .session .kept) 8191 in
     let n = sym (ap verdictSaid (c .before .before .before .before .before .before .before .before .before .before .before .before .before .before .before .before .before .before .before .before .enum-told .given .1)) ∙ c .before .before .before .before .before .before .before .before .before .before .before .before .before .before .before .before .before .before .before .before .before .before .turn-two .ensures in
     let second = turn-second (a .session .phase) (sym n) in
@@ -213,8 +203,7 @@ receive-held-requires c κs =
     let front = sym (f .ensures .0) ∙ ap continuedSaid (q .1) in
     let input = f .ensures .1 ∙ ap (λ r. inputBehind (continuedSaid r) k x (g .last .1 .1 .1 .1 .0)) (q .1) in
     let i = f .last .1 .1 .1 .1 .0 in
-    let long : 16384 ≤ length o = omega (arith, c .before .before .before .before .before .before .before .before .before .before .before .before .before .before .before .before .before .before .before .read-one-arg .given) in
-    (
+    let long : 16384 ≤ length o = omega (arith, c .before .before .before .before .before .before .before .before .before .before .before .before .before .before .before .before .before .before .before .read-one-arg .given) in (
       (second, subst (λ i. 16384 ≤ length i) (sym (input ∙ same)) long, front),
       λ b. let l = lent b (now (a .errors)) (now (a .stanzas)) (now (a .returned)) in sym (c .before .before .before .before .before .before .before .has-room .ensures l (record { errors = refl; stanzas = refl; returned = refl }) (sym n)) ∙ not-false (c .before .before .before .before .before .before .before .has-room .result) (c .before .before .before .before .before .before .if1 .left),
     )
@@ -241,12 +230,10 @@ returns-6 c =
     let out = now (a .out) in
     let k = min (a .session .kept) 8191 in
     let n = sym (ap verdictSaid (c .before .before .before .before .before .before .before .before .before .before .before .before .before .before .before .before .before .before .before .before .before .before .before .before .before .before .before .before .before .enum-told .given .1)) ∙ c .before .before .before .before .before .before .before .before .before .before .before .before .before .before .before .before .before .before .before .before .before .before .before .before .before .before .before .before .before .before .before .turn-two .ensures in
-    let second = turn-second (a .session .phase) (sym n) in
     let g = c .before .before .before .before .before .before .before .before .before .before .before .before .before .before .before .before .before .before .before .before .before .before .before .before .before .before .before .read-one in
     let f = c .before .before .before .before .before .before .before .before .before .before .before .before .before .before .before .before .before .before .before .before .before .before .before .read-front in
     let q = c .before .before .before .before .before .before .before .before .before .before .before .before .before .before .before .before .before .before .before .before .before .front3 .given in
     let same = subst (OneByteSays reads (a .session .reading) k x o (g .last .1 .1 .1 .1 .0)) (c .before .before .before .before .before .before .before .before .before .before .before .before .before .before .before .before .before .before .before .before .before .before .before .before .before .enum-told2 .given .1) (g .ensures) in
-    let front = sym (f .ensures .0) ∙ ap continuedSaid (q .1) in
     let input = f .ensures .1 ∙ ap (λ r. inputBehind (continuedSaid r) k x (g .last .1 .1 .1 .1 .0)) (q .1) in
     let i = f .last .1 .1 .1 .1 .0 in
     let h = c .before .before .before .before .before .before .before .before .receive-held in

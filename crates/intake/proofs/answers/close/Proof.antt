@@ -1,5 +1,5 @@
 -- A closed session keeps nothing, and nothing waits in it: what the chunk comes to is `chunk-fault`.
-use mathlib.Core.Path.{_≡_, refl, sym, ap, _∙_}
+use mathlib.Core.Path.{refl, sym, ap, _∙_}
 use mathlib.Core.List.{[]}
 use Rattle.refusal.specs.Number.{numberOf}
 use Rattle.refusal.specs.declared.Verdict.the-variants.{Refused}

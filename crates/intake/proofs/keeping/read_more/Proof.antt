@@ -1,5 +1,5 @@
 -- By what reading on gives.
-use mathlib.Core.Path.{refl, sym, ap, _∙_}
+use mathlib.Core.Path.{sym, ap, _∙_}
 use denote.Ref.{now}
 use Rattle.stanza.specs.Resuming.{continuedSaid}
 use Rattle.intake.specs.Fronts.{inputBehind}

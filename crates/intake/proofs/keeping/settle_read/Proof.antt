@@ -1,7 +1,6 @@
 -- By what reading on gives; no whole stanza stands there.
 use mathlib.Core.Path.{_≡_, refl, sym, ap, _∙_}
 use mathlib.Core.List.{[]}
-use lib.ListN.{length}
 use native.Mathlib.Omega.{arith}
 use Rattle.session.specs.Session.{sessionOf}
 use denote.Ref.{now}
@@ -10,7 +9,7 @@ use Rattle.stanza.specs.Automaton.{start}
 use Rattle.stanza.specs.Resuming.{placeSaid, continuedSaid}
 use Rattle.stanza.proofs.Laws.Resuming.{whole-iff, unfinished-is}
 use Rattle.chunks.proofs.Laws.Taking.{closed-waits}
-use Rattle.chunks.specs.Taking.{noMore, emptied, keeping, behind}
+use Rattle.chunks.specs.Taking.{emptied, keeping, behind}
 use Rattle.session.specs.Session.{closed}
 use Rattle.intake.specs.Fronts.{inputBehind}
 use Rattle.intake.specs.Intake.{lastSaid}

@@ -1,6 +1,6 @@
 -- The chunk's front first: one byte, or any number; then the five phases.
 use Prim.Native.Nat.{_≤_, min}
-use mathlib.Core.Path.{_≡_, refl, sym, ap, subst, _∙_}
+use mathlib.Core.Path.{refl, sym, ap, subst, _∙_}
 use mathlib.Core.List.{[]}
 use lib.ListN.{length}
 use native.Mathlib.Omega.{arith}
@@ -120,15 +120,11 @@ receive-commands-requires : tie.Need-receive-commands-requires
 receive-commands-requires c κs =
     let a = c .before .before .before .before .before .before .before .before .before .before .before .before .before .before .before .before .before .before .before .before .before .before .before .before .before .args in
     let x = now (a .chunk) in
-    let o = now (a .input) in
     let k = min (a .session .kept) 8191 in
-    let g = c .before .before .before .before .before .before .before .before .before .before .before .before .before .before .before .before .read-one in
     let u = c .before .before .before .before .before .before .before .before .before .before .before .before .before .before .before .before .before .before .turn-plugin in
     let f = c .before .before .before .before .before .before .before .before .before .before .before .before .read-front in
     let q = c .before .before .before .before .before .before .before .before .before .before .front3 .given in
-    let same = subst (OneByteSays (turnSaid (u .result)) (a .session .reading) k x o (g .last .1 .1 .1 .1 .0)) (c .before .before .before .before .before .before .before .before .before .before .before .before .before .before .enum-told .given .1) (g .ensures) in
     let front = sym (f .ensures .0) ∙ ap continuedSaid (q .1) in
-    let input = f .ensures .1 ∙ ap (λ r. inputBehind (continuedSaid r) k x (g .last .1 .1 .1 .1 .0)) (q .1) in
     let one = c .before .before .before .before .before .before .before .enum-told2 .given .1 in
     (one, ap (λ t. frontIn t (a .session .reading) k x) (sym (u .ensures ∙ ap (turnAt plugin) one)) ∙ front)
 
@@ -145,15 +141,11 @@ receive-due-requires : tie.Need-receive-due-requires
 receive-due-requires c κs =
     let a = c .before .before .before .before .before .before .before .before .before .before .before .before .before .before .before .before .before .before .before .before .before .args in
     let x = now (a .chunk) in
-    let o = now (a .input) in
     let k = min (a .session .kept) 8191 in
-    let g = c .before .before .before .before .before .before .before .before .before .before .before .before .read-one in
     let u = c .before .before .before .before .before .before .before .before .before .before .before .before .before .before .turn-plugin in
     let f = c .before .before .before .before .before .before .before .before .read-front in
     let q = c .before .before .before .before .before .before .front3 .given in
-    let same = subst (OneByteSays (turnSaid (u .result)) (a .session .reading) k x o (g .last .1 .1 .1 .1 .0)) (c .before .before .before .before .before .before .before .before .before .before .enum-told .given .1) (g .ensures) in
     let front = sym (f .ensures .0) ∙ ap continuedSaid (q .1) in
-    let input = f .ensures .1 ∙ ap (λ r. inputBehind (continuedSaid r) k x (g .last .1 .1 .1 .1 .0)) (q .1) in
     let due = c .before .before .before .phase .given .1 in
     (due, (search needs, ap (λ t. frontIn t (a .session .reading) k x) (sym (u .ensures ∙ ap (turnAt plugin) due)) ∙ front))
 
@@ -192,7 +184,6 @@ returns-4 c =
     let f = c .before .before .before .before .before .before .before .before .before .before .before .before .before .before .before .before .before .before .before .before .before .read-front in
     let q = c .before .before .before .before .before .before .before .before .before .before .before .before .before .before .before .before .before .before .before .front3 .given in
     let same = subst (OneByteSays (turnSaid (u .result)) (a .session .reading) k x o (g .last .1 .1 .1 .1 .0)) (c .before .before .before .before .before .before .before .before .before .before .before .before .before .before .before .before .before .before .before .before .before .before .before .enum-told .given .1) (g .ensures) in
-    let front = sym (f .ensures .0) ∙ ap continuedSaid (q .1) in
     let input = f .ensures .1 ∙ ap (λ r. inputBehind (continuedSaid r) k x (g .last .1 .1 .1 .1 .0)) (q .1) in
     let e = c .before .before .before .before .before .before .before .before .receive-commands .ensures in
     let r = c .before .before .before .before .before .before .before .before .receive-commands .result in
@@ -213,7 +204,6 @@ returns-5 c =
     let f = c .before .before .before .before .before .before .before .before .read-front in
     let q = c .before .before .before .before .before .before .front3 .given in
     let same = subst (OneByteSays (turnSaid (u .result)) (a .session .reading) k x o (g .last .1 .1 .1 .1 .0)) (c .before .before .before .before .before .before .before .before .before .before .enum-told .given .1) (g .ensures) in
-    let front = sym (f .ensures .0) ∙ ap continuedSaid (q .1) in
     let input = f .ensures .1 ∙ ap (λ r. inputBehind (continuedSaid r) k x (g .last .1 .1 .1 .1 .0)) (q .1) in
     let e = c .drop-chunk .ensures in
     let r = c .drop-chunk .result in
@@ -236,7 +226,6 @@ returns-6 c =
     let f = c .before .before .before .before .before .before .before .before .before .before .before .read-front in
     let q = c .before .before .before .before .before .before .before .before .before .front3 .given in
     let same = subst (OneByteSays (turnSaid (u .result)) (a .session .reading) k x o (g .last .1 .1 .1 .1 .0)) (c .before .before .before .before .before .before .before .before .before .before .before .before .before .enum-told .given .1) (g .ensures) in
-    let front = sym (f .ensures .0) ∙ ap continuedSaid (q .1) in
     let input = f .ensures .1 ∙ ap (λ r. inputBehind (continuedSaid r) k x (g .last .1 .1 .1 .1 .0)) (q .1) in
     let e = c .before .before .receive-due .ensures in
     let r = c .before .before .receive-due .result in
@@ -259,7 +248,6 @@ returns-7 c =
     let f = c .before .before .before .before .before .before .read-front in
     let q = c .before .before .before .before .front3 .given in
     let same = subst (OneByteSays (turnSaid (u .result)) (a .session .reading) k x o (g .last .1 .1 .1 .1 .0)) (c .before .before .before .before .before .before .before .before .enum-told .given .1) (g .ensures) in
-    let front = sym (f .ensures .0) ∙ ap continuedSaid (q .1) in
     let input = f .ensures .1 ∙ ap (λ r. inputBehind (continuedSaid r) k x (g .last .1 .1 .1 .1 .0)) (q .1) in
     let e = c .leave .ensures in
     let xs = now (a .slots) in
@@ -270,8 +258,8 @@ returns-7 c =
           ∙ sym (chunk-refused plugin (intakeOf plugin (a .session) xs hs o) (buffersOf (one.buffersOf (now (a .recipients)) (now (a .identities)) (now (a .keys)) (now (a .headers))) d) 13 x (now (a .out)) (ap (turnOf plugin) (c .before .enum-told4 .given .1)) refl),
       (
         sym (stored-own plugin (a .session) xs hs i)
-        ∙ sym (ap (λ (o : Outcome). storedIn (o .intake) i) (e .0 plugin xs hs i (buffersOf (one.buffersOf [] [] [] []) none) (now (a .out))))
-        ∙ ap (storedIn (intakeOf plugin (c .leave .result .session) xs hs i)) (input ∙ same),
+            ∙ sym (ap (λ (o : Outcome). storedIn (o .intake) i) (e .0 plugin xs hs i (buffersOf (one.buffersOf [] [] [] []) none) (now (a .out))))
+            ∙ ap (storedIn (intakeOf plugin (c .leave .result .session) xs hs i)) (input ∙ same),
         e .1,
       ),
     )
@@ -287,7 +275,6 @@ returns-8 c =
     let f = c .before .before .before .before .before .before .read-front in
     let q = c .before .before .before .before .front3 .given in
     let same = subst (OneByteSays (turnSaid (u .result)) (a .session .reading) k x o (g .last .1 .1 .1 .1 .0)) (c .before .before .before .before .before .before .before .before .enum-told .given .1) (g .ensures) in
-    let front = sym (f .ensures .0) ∙ ap continuedSaid (q .1) in
     let input = f .ensures .1 ∙ ap (λ r. inputBehind (continuedSaid r) k x (g .last .1 .1 .1 .1 .0)) (q .1) in
     let e = c .leave2 .ensures in
     let xs = now (a .slots) in
@@ -298,8 +285,8 @@ returns-8 c =
           ∙ sym (chunk-refused plugin (intakeOf plugin (a .session) xs hs o) (buffersOf (one.buffersOf (now (a .recipients)) (now (a .identities)) (now (a .keys)) (now (a .headers))) d) 13 x (now (a .out)) (ap (turnOf plugin) (c .before .enum-told5 .given .1)) refl),
       (
         sym (stored-own plugin (a .session) xs hs i)
-        ∙ sym (ap (λ (o : Outcome). storedIn (o .intake) i) (e .0 plugin xs hs i (buffersOf (one.buffersOf [] [] [] []) none) (now (a .out))))
-        ∙ ap (storedIn (intakeOf plugin (c .leave2 .result .session) xs hs i)) (input ∙ same),
+            ∙ sym (ap (λ (o : Outcome). storedIn (o .intake) i) (e .0 plugin xs hs i (buffersOf (one.buffersOf [] [] [] []) none) (now (a .out))))
+            ∙ ap (storedIn (intakeOf plugin (c .leave2 .result .session) xs hs i)) (input ∙ same),
         e .1,
       ),
     )
