@@ -2,39 +2,28 @@
 ghost use mathlib.Core.Path.{_≡_};
 ghost use mathlib.Core.Bool.{true};
 ghost use mathlib.Core.List.{_++_};
-ghost use Prim.Native.Nat.{_+_, _≤_};
+ghost use Prim.Native.Nat.{_+_, _≤_, min};
 ghost use lib.ListN.{length, take, drop};
-ghost use Rattle.stanza.specs.Automaton.{start};
-ghost use Rattle.stanza.specs.Resuming.{placeSaid};
+ghost use Rattle.stanza.specs.Resuming.{whole};
 ghost use Rattle.session.specs.Session.{sessionOf};
 ghost use Rattle.session.specs.declared.phases.Phase.the-variants.{Two};
 ghost use Rattle.phase_one.specs.PhaseOne.{BuffersOne};
 ghost use Rattle.chunks.specs.Taking.{client};
 ghost use Rattle.chunks.specs.Chunks.{isHeld, taken, chunked};
+ghost use Rattle.intake.specs.Fronts.{frontOf};
 ghost use Rattle.intake.specs.Intake.{intakeOf, receivedSaid, storedIn};
 ghost use Rattle.client_room.specs.Room.{stanzaAhead};
 ghost use Rattle.client_receiving.specs.Texts.{lent, Answers};
 use crate::texts::begin;
-use crate::texts::stop;
 use crate::texts::take_front;
 use crate::texts::take_text;
+use intake::OneByte;
 use intake::Received;
+use intake::Turn;
 use refusal::Refusal;
 use refusal::Verdict;
-use session::Phase;
 use session::Session;
 use stanza::Continued;
-use stanza::Place;
-
-// Whether reading stands before a stanza.
-fn is_start(place: Place) -> bool
-    ensures { λ r. ⌜ (r ≡ true → placeSaid place ≡ start) ⌝ }
-{
-    match place {
-        Place::Start => true,
-        _ => false,
-    }
-}
 
 // A stanza whose front is kept, so many bytes of the input, ends behind k bytes of the chunk.
 fn take_joined(
@@ -77,10 +66,11 @@ fn take_joined(
     )
 }
 
-// A chunk that has room, in phase two with no reply due.
+// A chunk that has room, in phase two with no reply due, whose first k bytes end the stanza that is unfinished; none is where k is 0.
 fn receive_held(
     session: Session,
     chunk: &[u8],
+    k: usize,
     input: &mut [u8],
     slots: &mut [[usize; 4]; Session::OTHER_SLOTS],
     header_slots: &[[usize; 4]; Session::HEADER_STANZAS],
@@ -89,7 +79,7 @@ fn receive_held(
     returned: &mut [u8],
     out: &mut [u8],
 ) -> Received
-    requires { ⌜ (session .phase ≡ Two) × (16384 ≤ length (now input)) ⌝ }
+    requires { ⌜ (session .phase ≡ Two) × (16384 ≤ length (now input)) × (frontOf (session .reading) (min (session .kept) 8191) (now chunk) ≡ whole k) ⌝ }
     requires { ⌜ ((b : BuffersOne) → isHeld (taken client (intakeOf client session (now slots) (now «header_slots») (now input))
         (lent b (now errors) (now stanzas) (now returned)) (now chunk)) (now out) ≡ true) ⌝ }
     ensures outcome { λ r. ⌜ ((b : BuffersOne) → Answers r (now (slots .exit)) (now («header_slots» .entry)) (now (input .entry)) (now (input .exit))
@@ -98,12 +88,9 @@ fn receive_held(
         (lent b (now (errors .entry)) (now (stanzas .entry)) (now (returned .entry))) (now (chunk .entry)))) ⌝ }
     ensures name { λ r. ⌜ r .session .name ≡ session .name ⌝ }
 {
-    let kept = intake::kept_of(session);
-    let reading = session.reading;
-    let begun = begin(session, 0);
-    if kept == 0 && is_start(reading) {
+    if k == 0 {
         return take_text(
-            begun,
+            begin(session, 0),
             chunk,
             input,
             slots,
@@ -114,27 +101,20 @@ fn receive_held(
             out,
         );
     }
-    let continued = stanza::read_on(reading, kept, chunk);
-    match continued {
-        Continued::Unfinished(place) => intake::keep_on(session, place, chunk, input),
-        Continued::Refused(r) => {
-            let shut = session.moved(Phase::Closed, session.tables);
-            stop(begun, r, shut)
-        }
-        Continued::Whole(k) => take_joined(
-            session,
-            kept,
-            chunk,
-            k,
-            input,
-            slots,
-            header_slots,
-            errors,
-            stanzas,
-            returned,
-            out,
-        ),
-    }
+    let kept = intake::kept_of(session.kept);
+    take_joined(
+        session,
+        kept,
+        chunk,
+        k,
+        input,
+        slots,
+        header_slots,
+        errors,
+        stanzas,
+        returned,
+        out,
+    )
 }
 
 // A chunk of the plugin's commands: how many were taken and which was the last, how many bytes were written to the front of `out`, and the session. 13 or 14
@@ -164,29 +144,47 @@ pub fn receive(
     if let Verdict::Refused(r) = turn {
         return intake::leave(session, r);
     }
-    let room = out.len();
-    if !client_room::has_room(
-        session,
-        chunk,
-        input,
-        room,
-        slots,
-        header_slots,
-        errors.len(),
-        stanzas.len(),
-        returned.len(),
-    ) {
-        return intake::leave(session, Refusal::ShortOutput);
+    let reading = session.reading;
+    let one = intake::read_one(Turn::Reads, reading, session.kept, chunk, input);
+    if let OneByte::GoesOn(place) = one {
+        return intake::keep_on(session, place, chunk);
     }
-    receive_held(
-        session,
-        chunk,
-        input,
-        slots,
-        header_slots,
-        errors,
-        stanzas,
-        returned,
-        out,
-    )
+    let front = intake::read_front(Turn::Reads, reading, session.kept, chunk, input);
+    match front {
+        Continued::Unfinished(place) => {
+            return intake::keep_on(session, place, chunk);
+        }
+        Continued::Refused(r) => {
+            return intake::close(session, r);
+        }
+        Continued::Whole(k) => {
+            let room = out.len();
+            if !client_room::has_room(
+                session,
+                chunk,
+                k,
+                input,
+                room,
+                slots,
+                header_slots,
+                errors.len(),
+                stanzas.len(),
+                returned.len(),
+            ) {
+                return intake::leave(session, Refusal::ShortOutput);
+            }
+            receive_held(
+                session,
+                chunk,
+                k,
+                input,
+                slots,
+                header_slots,
+                errors,
+                stanzas,
+                returned,
+                out,
+            )
+        }
+    }
 }

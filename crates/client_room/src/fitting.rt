@@ -2,13 +2,15 @@
 ghost use mathlib.Core.Path.{_≡_};
 ghost use mathlib.Core.Bool.{true};
 ghost use mathlib.Core.List.{List, _++_};
-ghost use Prim.Native.Nat.{ℕ, _+_, _*_, _≤_, _<_};
+ghost use Prim.Native.Nat.{ℕ, _+_, _*_, _≤_, _<_, min};
 ghost use lib.ListN.{length, take, drop};
+ghost use Rattle.stanza.specs.Resuming.{whole};
 ghost use Rattle.session.specs.Session.{sessionOf};
 ghost use Rattle.conversation.specs.Kinds.{Buffers};
 ghost use Rattle.conversation.specs.TurnsTwo.{turnTwo};
 ghost use Rattle.chunks.specs.Taking.{client, turnAt, takenText};
 ghost use Rattle.chunks.specs.Chunks.{taken};
+ghost use Rattle.intake.specs.Fronts.{frontOf};
 ghost use Rattle.intake.specs.Intake.{intakeOf};
 ghost use Rattle.phase_two.specs.Entering.{AreLong};
 ghost use Rattle.client_room.specs.Room.{hasRoom, isKeepable, stanzaAhead};
@@ -18,7 +20,6 @@ use crate::stanzas::put_together;
 use crate::stanzas::try_stanza;
 use session::Phase;
 use session::Session;
-use stanza::Continued;
 use stanza::First;
 
 // A chunk of so many bytes leaves no more to keep back than there is room for: the stanza that waits has a byte of it at least.
@@ -223,10 +224,11 @@ fn joined_fits(
     )
 }
 
-// Whether a chunk has room, with what is kept of an unfinished stanza at the front of the input.
+// Whether a chunk has room whose first k bytes end the stanza that is unfinished; none is where k is 0. What is kept stands at the front of the input.
 pub fn has_room(
     session: Session,
     chunk: &[u8],
+    k: usize,
     input: &[u8],
     room: usize,
     slots: &[[usize; 4]; Session::OTHER_SLOTS],
@@ -235,37 +237,39 @@ pub fn has_room(
     stanzas: usize,
     returned: usize,
 ) -> bool
-    ensures { λ r. ⌜ ((b : Buffers) → 8191 ≤ length (now (input .entry)) → AreLong (b .second) errors stanzas returned → turnTwo (session .phase) ≡ 0 →
+    requires { ⌜ (frontOf (session .reading) (min (session .kept) 8191) (now chunk) ≡ whole k) × (8192 ≤ length (now input)) ⌝ }
+    ensures { λ r. ⌜ ((b : Buffers) → AreLong (b .second) errors stanzas returned → turnTwo (session .phase) ≡ 0 →
         r ≡ hasRoom (taken client (intakeOf client session (now (slots .entry)) (now («header_slots» .entry)) (now (input .entry))) b (now (chunk .entry)))
         room) ⌝ }
 {
-    let kept = intake::kept_of(session);
+    if k == 0 {
+        return text_has_room(
+            session,
+            chunk,
+            room,
+            slots,
+            header_slots,
+            errors,
+            stanzas,
+            returned,
+        );
+    }
+    let kept = intake::kept_of(session.kept);
     let n = chunk.len();
     if n <= MOST_KEPT_BACK && is_ample(kept + n, room) {
         return true;
     }
-    let reading = session.reading;
-    let continued = stanza::read_on(reading, kept, chunk);
-    match continued {
-        Continued::Unfinished(_) => true,
-        Continued::Refused(_) => true,
-        Continued::Whole(k) => {
-            if input.len() < kept {
-                return false;
-            }
-            joined_fits(
-                session,
-                input,
-                kept,
-                chunk,
-                k,
-                room,
-                slots,
-                header_slots,
-                errors,
-                stanzas,
-                returned,
-            )
-        }
-    }
+    joined_fits(
+        session,
+        input,
+        kept,
+        chunk,
+        k,
+        room,
+        slots,
+        header_slots,
+        errors,
+        stanzas,
+        returned,
+    )
 }

@@ -1,4 +1,5 @@
 -- What the code of receiving stands for.
 pub mod Turns
 pub mod Intake
+pub mod Fronts
 pub mod Settling

@@ -1,13 +1,15 @@
 // What a call that receives answers.
 ghost use mathlib.Core.Path.{_≡_};
-ghost use mathlib.Core.List.{List, []};
-ghost use Prim.Native.Nat.{ℕ};
+ghost use mathlib.Core.List.{List};
+ghost use Prim.Native.Nat.{ℕ, _≤_, min};
+ghost use lib.ListN.{length};
 ghost use Rattle.refusal.specs.Number.{numberOf};
-ghost use Rattle.session.specs.Session.{sessionOf, closed};
+ghost use Rattle.stanza.specs.Resuming.{refused};
 ghost use Rattle.conversation.specs.Kinds.{Buffers};
-ghost use Rattle.chunks.specs.Taking.{End, noMore, emptied};
+ghost use Rattle.chunks.specs.Taking.{End, reads, turnAt};
 ghost use Rattle.chunks.specs.Chunks.{untaken};
-ghost use Rattle.intake.specs.Intake.{intakeOf, takenSaid, receivedSaid};
+ghost use Rattle.intake.specs.Intake.{intakeOf, receivedSaid};
+ghost use Rattle.intake.specs.Fronts.{frontOf, Answered};
 use phase_one::WordOne;
 use refusal::Refusal;
 use refusal::Verdict;
@@ -71,11 +73,12 @@ pub fn leave(session: Session, refusal: Refusal) -> Received
     }
 }
 
-// A refusal that closes the session. Nothing is kept.
+// An unfinished stanza that cannot go on so: the session is closed, and nothing is kept.
 pub fn close(session: Session, refusal: Refusal) -> Received
-    ensures outcome { λ r. ⌜ ((e : End) (xs hs : List (List ℕ)) (input : List ℕ) (b : Buffers) →
-        takenSaid e r xs hs input [] b ≡ noMore (numberOf refusal) (emptied (closed (sessionOf session xs hs)) []) b) ⌝ }
-    ensures rest { λ r. ⌜ (r .written ≡ 0) × (r .session .name ≡ session .name) ⌝ }
+    ensures outcome { λ r. ⌜ ((e : End) (xs hs : List (List ℕ)) (input chunk : List ℕ) (b : Buffers) (out : List ℕ) → turnAt e (session .phase) ≡ reads →
+        8192 ≤ length input → frontOf (session .reading) (min (session .kept) 8191) chunk ≡ refused (numberOf refusal) →
+        Answered e session chunk r xs hs input input b out) ⌝ }
+    ensures name { λ r. ⌜ r .session .name ≡ session .name ⌝ }
 {
     let shut = session.moved(Phase::Closed, session.tables);
     Received {

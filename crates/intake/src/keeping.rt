@@ -1,19 +1,18 @@
 // What is kept of the input between calls, in the lent array.
 ghost use mathlib.Core.Path.{_≡_};
 ghost use mathlib.Core.List.{List, [], _++_};
-ghost use mathlib.Core.Bool.{false};
-ghost use Prim.Native.Nat.{ℕ, _≤_, _+_, min};
+ghost use Prim.Native.Nat.{ℕ, _≤_, min};
 ghost use lib.ListN.{length, take, drop};
 ghost use Rattle.refusal.specs.Output.{filled};
 ghost use Rattle.refusal.specs.Number.{numberOf};
-ghost use Rattle.stanza.specs.Resuming.{placeSaid};
+ghost use Rattle.stanza.specs.Resuming.{placeSaid, continuedSaid, continued, unfinished};
 ghost use Rattle.session.specs.Session.{sessionOf};
 ghost use Rattle.conversation.specs.Kinds.{Buffers};
-ghost use Rattle.chunks.specs.Taking.{End, reads, drops, keeps-back, noMore, keeping, takenText, behind};
-ghost use Rattle.chunks.specs.Uncut.{isWaiting};
+ghost use Rattle.chunks.specs.Taking.{End, reads, drops, keeps-back, turnAt, takenText, behind};
 ghost use Rattle.intake.specs.Intake.{lastSaid};
 ghost use Rattle.intake.specs.Turns.{turnSaid};
 ghost use Rattle.intake.specs.Settling.{MaySettle, Says};
+ghost use Rattle.intake.specs.Fronts.{isBetween, isReading, frontOf, frontIn, inputBehind, OneByteSays, Answered};
 use crate::answers::Last;
 use crate::answers::Received;
 use crate::turns::Turn;
@@ -27,11 +26,10 @@ use stanza::Place;
 // How many bytes are kept of an unfinished stanza at most.
 const MOST_UNFINISHED: usize = stanza::LONGEST - 1;
 
-// How many bytes of an unfinished stanza are kept. A session that is made up may say more.
-pub fn kept_of(session: Session) -> usize
-    ensures { λ r. ⌜ r ≡ min (session .kept) 8191 ⌝ }
+// How many bytes of an unfinished stanza are kept, by a session's number. A session that is made up may say more.
+pub fn kept_of(kept: usize) -> usize
+    ensures { λ r. ⌜ r ≡ min kept 8191 ⌝ }
 {
-    let kept = session.kept;
     if kept < MOST_UNFINISHED {
         kept
     } else {
@@ -49,24 +47,121 @@ fn copy_behind(part: &[u8], at: usize, out: &mut [u8])
     stanza::copy(part, &mut out[at..]);
 }
 
-// An unfinished stanza goes on and has not ended: the chunk's bytes stand behind those that are kept.
-pub fn keep_on(session: Session, place: Place, chunk: &[u8], input: &mut [u8]) -> Received
-    ensures outcome { λ r. ⌜ ((e : End) (xs hs : List (List ℕ)) (b : Buffers) → isWaiting e (session .phase) ≡ false →
-        min (session .kept) 8191 + length (now (chunk .entry)) ≤ 8191 → 8192 ≤ length (now (input .entry)) →
-        Says e r xs hs (now (input .entry)) (now (input .exit)) [] b
-        (noMore 0 (keeping (sessionOf session xs hs) (placeSaid place) (take (min (session .kept) 8191) (now (input .entry)) ++ now (chunk .entry)) []) b))
-        ⌝ }
-    ensures rest { λ r. ⌜ (r .written ≡ 0) × (r .session .name ≡ session .name) ⌝ }
+// Whether no stanza is unfinished.
+fn is_between(reading: Place, kept: usize) -> bool
+    ensures { λ r. ⌜ r ≡ isBetween reading kept ⌝ }
 {
-    let kept = kept_of(session);
-    let n = chunk.len();
-    copy_behind(chunk, kept, input);
+    match reading {
+        Place::Start => kept == 0,
+        Place::Hyphen => false,
+        Place::Arrow => false,
+        Place::Gap => false,
+        Place::Word => false,
+        Place::Line(_, _) => false,
+        Place::Ended => false,
+        Place::Dead => false,
+    }
+}
+
+// What a byte does to an unfinished stanza: it goes on, or anything else.
+pub enum OneByte {
+    GoesOn(Place),
+    Else,
+}
+
+// A chunk of one byte, read on without a loop: where a stanza is unfinished and goes on, the byte is kept behind its front. Else nothing is done.
+pub fn read_one(turn: Turn, reading: Place, kept: usize, chunk: &[u8], input: &mut [u8]) -> OneByte
+    ensures { λ r. ⌜ OneByteSays (turnSaid turn) reading (min kept 8191) (now (chunk .entry)) (now (input .entry)) (now (input .exit)) r ⌝ }
+{
+    if !is_reading(turn) {
+        return OneByte::Else;
+    }
+    if chunk.len() != 1 {
+        return OneByte::Else;
+    }
+    if MOST_UNFINISHED <= kept {
+        return OneByte::Else;
+    }
+    if input.len() <= kept {
+        return OneByte::Else;
+    }
+    if is_between(reading, kept) {
+        return OneByte::Else;
+    }
+    let b = chunk[0];
+    let continued = stanza::read_byte(reading, b);
+    let Continued::Unfinished(place) = continued else {
+        return OneByte::Else;
+    };
+    input[kept] = b;
+    OneByte::GoesOn(place)
+}
+
+// Whether bytes that come are read.
+fn is_reading(turn: Turn) -> bool
+    ensures { λ r. ⌜ r ≡ isReading (turnSaid turn) ⌝ }
+{
+    match turn {
+        Turn::Reads => true,
+        Turn::Drops(_) => false,
+        Turn::KeepsBack => false,
+    }
+}
+
+// A chunk read on behind `at` bytes of an unfinished stanza, and kept behind them where it does not end it.
+fn read_more(reading: Place, at: usize, chunk: &[u8], input: &mut [u8]) -> Continued
+    ensures front { λ r. ⌜ continuedSaid r ≡ continued (placeSaid reading) at (now (chunk .entry)) ⌝ }
+    ensures input { λ r. ⌜ now (input .exit) ≡ inputBehind (continuedSaid r) at (now (chunk .entry)) (now (input .entry)) ⌝ }
+{
+    let continued = stanza::read_on(reading, at, chunk);
+    match continued {
+        Continued::Whole(_) => {}
+        Continued::Unfinished(_) => {
+            copy_behind(chunk, at, input);
+        }
+        Continued::Refused(_) => {}
+    }
+    continued
+}
+
+// A chunk read on from where reading stands, behind so many kept bytes: the unfinished stanza ends behind so many of the chunk's bytes, 0 where none is
+// unfinished or none is read; it goes on, and the chunk is kept behind its front; or 1 or 3.
+pub fn read_front(
+    turn: Turn,
+    reading: Place,
+    kept: usize,
+    chunk: &[u8],
+    input: &mut [u8],
+) -> Continued
+    ensures front { λ r. ⌜ continuedSaid r ≡ frontIn (turnSaid turn) reading (min kept 8191) (now (chunk .entry)) ⌝ }
+    ensures input { λ r. ⌜ now (input .exit) ≡ inputBehind (continuedSaid r) (min kept 8191) (now (chunk .entry)) (now (input .entry)) ⌝ }
+{
+    if !is_reading(turn) {
+        return Continued::Whole(0);
+    }
+    let at = kept_of(kept);
+    if is_between(reading, at) {
+        return Continued::Whole(0);
+    }
+    read_more(reading, at, chunk, input)
+}
+
+// An unfinished stanza goes on with a chunk and has not ended.
+pub fn keep_on(session: Session, place: Place, chunk: &[u8]) -> Received
+    ensures outcome { λ r. ⌜ ((e : End) (xs hs : List (List ℕ)) (input : List ℕ) (b : Buffers) (out : List ℕ) → turnAt e (session .phase) ≡ reads →
+        8192 ≤ length input → frontOf (session .reading) (min (session .kept) 8191) (now (chunk .entry)) ≡ unfinished (placeSaid place) →
+        Answered e session (now (chunk .entry)) r xs hs input
+        (inputBehind (unfinished (placeSaid place)) (min (session .kept) 8191) (now (chunk .entry)) input) b out) ⌝ }
+    ensures name { λ r. ⌜ r .session .name ≡ session .name ⌝ }
+{
+    let kept = kept_of(session.kept);
+    let came = chunk.len();
     Received {
         verdict: Verdict::Accepted,
         count: 0,
         last: Last::Nothing,
         written: 0,
-        session: session.keeping(place, kept + n, 0),
+        session: session.keeping(place, kept + came, 0),
     }
 }
 
@@ -100,11 +195,10 @@ fn settle_read(so_far: Received, rest: &[u8], input: &mut [u8]) -> Received
     ensures rest { λ r. ⌜ (r .written ≡ «so_far» .written) × (r .session .name ≡ «so_far» .session .name) ⌝ }
 {
     let session = so_far.session;
-    let continued = stanza::read_on(Place::Start, 0, rest);
+    let continued = read_more(Place::Start, 0, rest, input);
     match continued {
         Continued::Whole(_) => so_far,
         Continued::Unfinished(place) => {
-            stanza::copy(rest, input);
             so_far.settled(Verdict::Accepted, session.keeping(place, rest.len(), 0))
         }
         Continued::Refused(r) => {

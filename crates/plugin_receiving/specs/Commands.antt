@@ -1,47 +1,29 @@
 -- The commands of a chunk in phase one, one by one from the left.
-use Prim.Native.Nat.{ℕ, _+_, min}
+use Prim.Native.Nat.{ℕ, _+_}
 use mathlib.Core.Path.{_≡_}
-use mathlib.Core.Bool.{Bool, true, false}
+use mathlib.Core.Bool.{false}
 use mathlib.Core.List.{List, []}
 use lib.Dec.{eqb}
 use Rattle.refusal.specs.Pick.{pick}
 use Rattle.refusal.specs.Verdict.{verdictSaid}
 use Rattle.refusal.specs.declared.Verdict.the-variants as the-verdict
 use Rattle.stanza.specs.Reading.{Reading, refused}
-use Rattle.stanza.specs.Resuming.{placeSaid, continued, whole}
-use Rattle.stanza.specs.declared.places.Place.{Place}
-use Rattle.stanza.specs.declared.places.Place.the-variants as place
 use Rattle.session.specs.Session.{sessionOf}
 use Rattle.session.specs.declared.phases.Phase.{Phase}
 use Rattle.session.specs.declared.sessions.Session.{Session as CodeSession}
 use Rattle.phase_one.specs.Turns.{turnOne}
 use Rattle.conversation.specs.Kinds.{Buffers}
 use Rattle.chunks.specs.Taking.{plugin, client, Taken, noMore, emptied, behind, takenText}
-use Rattle.chunks.specs.Chunks.{taken}
 use Rattle.chunks.specs.Uncut.{isWaiting}
-use Rattle.intake.specs.Intake.{intakeOf, lastSaid}
-use Rattle.intake.specs.Settling.{Says}
+use Rattle.intake.specs.Intake.{lastSaid}
 use Rattle.intake.specs.declared.answers.Last.the-variants as the-last
 use Rattle.intake.specs.declared.answers.Received.{Received as CodeReceived}
-use Rattle.plugin_receiving.specs.declared.fronts.Front.{Front as CodeFront}
-use Rattle.plugin_receiving.specs.declared.fronts.Front.the-variants as the-front
 use Rattle.plugin_receiving.specs.declared.receiving.Taking.{Taking as CodeTaking}
 use Rattle.plugin_receiving.specs.declared.receiving.Taking.the-variants as the
 
 -- a session's answer before its chunk
 abbrev pub begunBy : CodeSession → CodeReceived
 begunBy s = record { verdict = the-verdict.Accepted; count = 0; last = the-last.Nothing; written = 0; session = s }
-
--- no stanza is unfinished
-abbrev pub beginsAt : Place → ℕ → Bool
-beginsAt place.Start n = eqb n 0
-beginsAt place.Hyphen n = false
-beginsAt place.Arrow n = false
-beginsAt place.Gap n = false
-beginsAt place.Word n = false
-beginsAt (place.Line k last) n = false
-beginsAt place.Ended n = false
-beginsAt place.Dead n = false
 
 -- the next command of a text that reads so: none behind a refusal n, nor in another phase
 abbrev pub nextIn : ℕ → Phase → Reading → Reading
@@ -62,11 +44,3 @@ comesTo r xs hs b text =
 -- no response is due
 abbrev pub NoneDue : CodeReceived → Type 0
 NoneDue r = verdictSaid (r .verdict) ≡ 0 → isWaiting client (r .session .phase) ≡ false
-
--- what is said of a chunk's front: it begins a stanza, and nothing is taken yet; it ends one behind k bytes; or the chunk is answered
-abbrev pub FrontSays : CodeSession → List ℕ → List ℕ → List ℕ → CodeFront → CodeReceived → Type 0
-FrontSays s chunk input after the-front.Begins r = (beginsAt (s .reading) (min (s .kept) 8191) ≡ true) × (after ≡ input) × (r ≡ begunBy s)
-FrontSays s chunk input after (the-front.Ends k) r = (continued (placeSaid (s .reading)) (min (s .kept) 8191) chunk ≡ whole k) × (after ≡ input) × (r ≡ begunBy s)
-FrontSays s chunk input after the-front.Answered r =
-    ((xs hs : List (List ℕ)) (b : Buffers) → Says plugin r xs hs input after [] b (taken plugin (intakeOf plugin s xs hs input) b chunk))
-    × (r .written ≡ 0) × (r .session .name ≡ s .name)

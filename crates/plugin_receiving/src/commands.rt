@@ -5,7 +5,7 @@ ghost use Prim.Native.Nat.{ℕ, _≤_, min};
 ghost use lib.ListN.{length, drop};
 ghost use Rattle.refusal.specs.Verdict.{verdictSaid};
 ghost use Rattle.stanza.specs.Reading.{readSaid, readFirst, stanza};
-ghost use Rattle.stanza.specs.Resuming.{placeSaid, continued, whole};
+ghost use Rattle.stanza.specs.Resuming.{whole};
 ghost use Rattle.session.specs.declared.phases.Phase.the-variants.{One};
 ghost use Rattle.phase_one.specs.PhaseOne as one;
 ghost use Rattle.conversation.specs.Kinds.{Buffers, buffersOf};
@@ -13,12 +13,11 @@ ghost use Rattle.conversation.specs.PhaseTwo.{BuffersTwo};
 ghost use Rattle.chunks.specs.Taking.{plugin};
 ghost use Rattle.chunks.specs.Chunks.{taken};
 ghost use Rattle.intake.specs.Intake.{intakeOf};
+ghost use Rattle.intake.specs.Fronts.{frontOf};
 ghost use Rattle.intake.specs.Settling.{Says};
 ghost use Rattle.plugin_receiving.specs.Commands.{nextIn, answerBehind, comesTo, NoneDue};
-use crate::fronts::Front;
 use crate::fronts::begin;
 use crate::fronts::put_together;
-use crate::fronts::read_front;
 use crate::receiving::Receipt;
 use crate::receiving::Taking;
 use crate::receiving::receive_stanza;
@@ -150,7 +149,7 @@ fn receive_text(
     }
 }
 
-// The stanza that began in an earlier chunk and ends behind the first k bytes of this one.
+// The stanza that began in an earlier chunk and ends behind the first k bytes of this one; there is none where k is 0.
 fn receive_front(
     session: Session,
     chunk: &[u8],
@@ -164,7 +163,7 @@ fn receive_front(
     headers: &mut [u8],
 ) -> Received
     requires { ⌜ session .phase ≡ One ⌝ }
-    requires { ⌜ continued (placeSaid (session .reading)) (min (session .kept) 8191) (now chunk) ≡ whole k ⌝ }
+    requires { ⌜ frontOf (session .reading) (min (session .kept) 8191) (now chunk) ≡ whole k ⌝ }
     ensures outcome { λ r. ⌜ ((c : BuffersTwo) →
         comesTo r (now (slots .exit)) (now («header_slots» .exit))
         (buffersOf (one.buffersOf (now (recipients .exit)) (now (identities .exit)) (now (keys .exit)) (now (headers .exit))) c) (drop k (now (chunk .entry))) ≡
@@ -172,7 +171,10 @@ fn receive_front(
         (buffersOf (one.buffersOf (now (recipients .entry)) (now (identities .entry)) (now (keys .entry)) (now (headers .entry))) c) (now (chunk .entry))) ⌝ }
     ensures rest { λ r. ⌜ NoneDue r × (r .count ≤ 1) × (r .written ≡ 0) × (r .session .name ≡ session .name) ⌝ }
 {
-    let kept = intake::kept_of(session);
+    if k == 0 {
+        return begin(session);
+    }
+    let kept = intake::kept_of(session.kept);
     let mut store = [0u8; stanza::LONGEST];
     let n = put_together(input, kept, chunk, k, &mut store);
     let first = stanza::read(front(&store, n));
@@ -204,10 +206,11 @@ fn receive_front(
     }
 }
 
-// A chunk in phase one.
-pub(crate) fn receive_one(
+// A chunk in phase one, whose first k bytes end the stanza that is unfinished; none is where k is 0.
+pub(crate) fn receive_commands(
     session: Session,
     chunk: &[u8],
+    k: usize,
     input: &mut [u8; Session::PLUGIN_INPUT],
     slots: &mut [[usize; 4]; Session::OTHER_SLOTS],
     header_slots: &mut [[usize; 4]; Session::HEADER_STANZAS],
@@ -217,6 +220,7 @@ pub(crate) fn receive_one(
     headers: &mut [u8],
 ) -> Received
     requires { ⌜ session .phase ≡ One ⌝ }
+    requires { ⌜ frontOf (session .reading) (min (session .kept) 8191) (now chunk) ≡ whole k ⌝ }
     ensures outcome { λ r. ⌜ ((c : BuffersTwo) →
         Says plugin r (now (slots .exit)) (now («header_slots» .exit)) (now (input .entry)) (now (input .exit)) []
         (buffersOf (one.buffersOf (now (recipients .exit)) (now (identities .exit)) (now (keys .exit)) (now (headers .exit))) c)
@@ -224,46 +228,27 @@ pub(crate) fn receive_one(
         (buffersOf (one.buffersOf (now (recipients .entry)) (now (identities .entry)) (now (keys .entry)) (now (headers .entry))) c) (now (chunk .entry)))) ⌝ }
     ensures rest { λ r. ⌜ (r .written ≡ 0) × (r .session .name ≡ session .name) ⌝ }
 {
-    let begun = read_front(session, chunk, input);
-    let front = begun.front;
-    let answer = begun.answer;
-    match front {
-        Front::Answered => answer,
-        Front::Begins => receive_text(
-            answer,
-            chunk,
-            input,
-            slots,
-            header_slots,
-            recipients,
-            identities,
-            keys,
-            headers,
-        ),
-        Front::Ends(k) => {
-            let so_far = receive_front(
-                session,
-                chunk,
-                k,
-                input,
-                slots,
-                header_slots,
-                recipients,
-                identities,
-                keys,
-                headers,
-            );
-            receive_text(
-                so_far,
-                &chunk[k..],
-                input,
-                slots,
-                header_slots,
-                recipients,
-                identities,
-                keys,
-                headers,
-            )
-        }
-    }
+    let so_far = receive_front(
+        session,
+        chunk,
+        k,
+        input,
+        slots,
+        header_slots,
+        recipients,
+        identities,
+        keys,
+        headers,
+    );
+    receive_text(
+        so_far,
+        &chunk[k..],
+        input,
+        slots,
+        header_slots,
+        recipients,
+        identities,
+        keys,
+        headers,
+    )
 }

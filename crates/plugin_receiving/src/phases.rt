@@ -13,16 +13,18 @@ ghost use Rattle.chunks.specs.Taking.{plugin};
 ghost use Rattle.chunks.specs.Chunks.{taken, chunked};
 ghost use Rattle.intake.specs.Intake.{intakeOf, storedIn, receivedSaid};
 ghost use Rattle.intake.specs.Settling.{Says};
-use crate::commands::receive_one;
+use crate::commands::receive_commands;
 use crate::responding::none_behind;
 use crate::responding::receive_due;
 use intake::Last;
+use intake::OneByte;
 use intake::Received;
 use refusal::Refusal;
 use refusal::Verdict;
 use session::Phase;
 use session::Session;
 use session::front;
+use stanza::Continued;
 use stanza::Place;
 
 // Phase two while no response is due: any byte is dropped with 14.
@@ -33,7 +35,7 @@ fn drop_chunk(session: Session, chunk: &[u8], input: &[u8]) -> Received
         (taken plugin (intakeOf plugin session xs hs (now (input .entry))) b (now (chunk .entry)))) ⌝ }
     ensures rest { λ r. ⌜ (r .written ≡ 0) × (r .session .name ≡ session .name) ⌝ }
 {
-    let kept = front(input, intake::kept_of(session)).len();
+    let kept = front(input, intake::kept_of(session.kept)).len();
     let emptied = session.keeping(Place::Start, 0, 0);
     let verdict = dropped(kept, chunk.len());
     Received {
@@ -80,21 +82,37 @@ pub fn receive(
     ensures name { λ r. ⌜ r .session .name ≡ session .name ⌝ }
 {
     let phase = session.phase;
-    match phase {
-        Phase::One => receive_one(
-            session,
-            chunk,
-            input,
-            slots,
-            header_slots,
-            recipients,
-            identities,
-            keys,
-            headers,
-        ),
-        Phase::Two => drop_chunk(session, chunk, input),
-        Phase::Awaiting(word) => receive_due(session, word, chunk, input, out),
-        Phase::Ended => intake::leave(session, Refusal::SessionOver),
-        Phase::Closed => intake::leave(session, Refusal::SessionOver),
+    let reading = session.reading;
+    let turn = intake::turn_plugin(phase);
+    let one = intake::read_one(turn, reading, session.kept, chunk, input);
+    if let OneByte::GoesOn(place) = one {
+        return intake::keep_on(session, place, chunk);
+    }
+    let front = intake::read_front(turn, reading, session.kept, chunk, input);
+    match front {
+        Continued::Unfinished(place) => {
+            return intake::keep_on(session, place, chunk);
+        }
+        Continued::Refused(r) => {
+            return intake::close(session, r);
+        }
+        Continued::Whole(k) => match phase {
+            Phase::One => receive_commands(
+                session,
+                chunk,
+                k,
+                input,
+                slots,
+                header_slots,
+                recipients,
+                identities,
+                keys,
+                headers,
+            ),
+            Phase::Two => drop_chunk(session, chunk, input),
+            Phase::Awaiting(word) => receive_due(session, word, chunk, k, input, out),
+            Phase::Ended => intake::leave(session, Refusal::SessionOver),
+            Phase::Closed => intake::leave(session, Refusal::SessionOver),
+        },
     }
 }

@@ -1,28 +1,26 @@
 // Phase two: the client's response to the command that awaits it, judged, and its body decoded.
 ghost use mathlib.Core.Path.{_≡_};
 ghost use mathlib.Core.List.{List};
-ghost use mathlib.Core.Bool.{true};
 ghost use Prim.Native.Nat.{ℕ, _≤_, min};
 ghost use lib.Dec.{eqb};
 ghost use lib.ListN.{length};
 ghost use Rattle.refusal.specs.Pick.{pick};
 ghost use Rattle.refusal.specs.Verdict.{verdictSaid};
-ghost use Rattle.stanza.specs.Resuming.{placeSaid, continued, whole};
+ghost use Rattle.stanza.specs.Resuming.{whole};
 ghost use Rattle.session.specs.declared.phases.Phase.the-variants.{Awaiting};
 ghost use Rattle.conversation.specs.Kinds.{Buffers};
 ghost use Rattle.chunks.specs.Taking.{plugin};
 ghost use Rattle.chunks.specs.Chunks.{judged, taken};
 ghost use Rattle.intake.specs.Intake.{intakeOf, storedIn, receivedSaid};
-ghost use Rattle.plugin_receiving.specs.Commands.{begunBy, beginsAt};
+ghost use Rattle.intake.specs.Fronts.{frontOf};
 ghost use Rattle.stanza.specs.Parts.{argumentsIn, bodyIn};
 ghost use Rattle.stanza.specs.Reading.{readFirst, stanza};
 ghost use Rattle.responses.specs.Responses.{response, responseOf};
 ghost use Rattle.session.specs.Session.{sessionOf, carriedBy};
 ghost use Rattle.conversation.specs.Responding.{respondedText, respondedAs, refusedResponse};
 ghost use Rattle.plugin_receiving.specs.Responding.{respondedSaid, settledResponse};
-use crate::fronts::Front;
+use crate::fronts::begin;
 use crate::fronts::put_together;
-use crate::fronts::read_front;
 use intake::Last;
 use intake::Received;
 use intake::Turn;
@@ -173,27 +171,25 @@ pub(crate) fn none_behind(left: usize) -> Verdict
 
 // A chunk that begins a stanza, while a command awaits its response.
 fn receive_begun(
-    so_far: Received,
+    session: Session,
     word: WordTwo,
     chunk: &[u8],
     input: &mut [u8],
     out: &mut [u8],
 ) -> Received
-    requires { ⌜ «so_far» .session .phase ≡ Awaiting word ⌝ }
+    requires { ⌜ session .phase ≡ Awaiting word ⌝ }
     requires { ⌜ 8192 ≤ length (now input) ⌝ }
-    requires { ⌜ «so_far» ≡ begunBy («so_far» .session) ⌝ }
-    requires { ⌜ beginsAt («so_far» .session .reading) (min («so_far» .session .kept) 8191) ≡ true ⌝ }
+    requires { ⌜ frontOf (session .reading) (min (session .kept) 8191) (now chunk) ≡ whole 0 ⌝ }
     ensures outcome { λ r. ⌜ ((xs hs : List (List ℕ)) (b : Buffers) →
         receivedSaid plugin r xs hs (now (input .exit)) b (now (out .exit)) ≡
-        judged (intakeOf plugin («so_far» .session) xs hs (now (input .entry))) b (now (out .entry))
-        (taken plugin (intakeOf plugin («so_far» .session) xs hs (now (input .entry))) b (now (chunk .entry)))) ⌝ }
+        judged (intakeOf plugin (session) xs hs (now (input .entry))) b (now (out .entry))
+        (taken plugin (intakeOf plugin (session) xs hs (now (input .entry))) b (now (chunk .entry)))) ⌝ }
     ensures stored { λ r. ⌜ ((xs hs : List (List ℕ)) → now (input .exit) ≡ storedIn (intakeOf plugin (r .session) xs hs (now (input .exit))) (now (input .entry))) ⌝ }
-    ensures name { λ r. ⌜ r .session .name ≡ «so_far» .session .name ⌝ }
+    ensures name { λ r. ⌜ r .session .name ≡ session .name ⌝ }
 {
-    let session = so_far.session;
     let first = stanza::read(chunk);
     match first {
-        First::Refused(_) => intake::settle(so_far, Turn::Reads, &[], chunk, input),
+        First::Refused(_) => intake::settle(begin(session), Turn::Reads, &[], chunk, input),
         First::Stanza(s) => {
             let responded = receive_stanza(session, word, chunk, s, out);
             let left = chunk.len() - s.taken;
@@ -213,14 +209,15 @@ fn receive_ended(
 ) -> Received
     requires { ⌜ session .phase ≡ Awaiting word ⌝ }
     requires { ⌜ 8192 ≤ length (now input) ⌝ }
-    requires { ⌜ continued (placeSaid (session .reading)) (min (session .kept) 8191) (now chunk) ≡ whole k ⌝ }
+    requires { ⌜ frontOf (session .reading) (min (session .kept) 8191) (now chunk) ≡ whole k ⌝ }
+    requires { ⌜ 1 ≤ k ⌝ }
     ensures outcome { λ r. ⌜ ((xs hs : List (List ℕ)) (b : Buffers) →
         receivedSaid plugin r xs hs (now (input .entry)) b (now (out .exit)) ≡
         judged (intakeOf plugin session xs hs (now (input .entry))) b (now (out .entry))
         (taken plugin (intakeOf plugin session xs hs (now (input .entry))) b (now (chunk .entry)))) ⌝ }
     ensures name { λ r. ⌜ r .session .name ≡ session .name ⌝ }
 {
-    let kept = intake::kept_of(session);
+    let kept = intake::kept_of(session.kept);
     let mut store = [0u8; stanza::LONGEST];
     let n = put_together(input, kept, chunk, k, &mut store);
     let responded = receive_awaited(session, word, front(&store, n), out);
@@ -228,16 +225,18 @@ fn receive_ended(
     settle_response(session, responded, left)
 }
 
-// A chunk while a command awaits its response: at most one is taken.
+// A chunk while a command awaits its response, whose first k bytes end the stanza that is unfinished; none is where k is 0. At most one response is taken.
 pub(crate) fn receive_due(
     session: Session,
     word: WordTwo,
     chunk: &[u8],
+    k: usize,
     input: &mut [u8],
     out: &mut [u8],
 ) -> Received
     requires { ⌜ session .phase ≡ Awaiting word ⌝ }
     requires { ⌜ 8192 ≤ length (now input) ⌝ }
+    requires { ⌜ frontOf (session .reading) (min (session .kept) 8191) (now chunk) ≡ whole k ⌝ }
     ensures outcome { λ r. ⌜ ((xs hs : List (List ℕ)) (b : Buffers) →
         receivedSaid plugin r xs hs (now (input .exit)) b (now (out .exit)) ≡
         judged (intakeOf plugin session xs hs (now (input .entry))) b (now (out .entry))
@@ -245,12 +244,8 @@ pub(crate) fn receive_due(
     ensures stored { λ r. ⌜ ((xs hs : List (List ℕ)) → now (input .exit) ≡ storedIn (intakeOf plugin (r .session) xs hs (now (input .exit))) (now (input .entry))) ⌝ }
     ensures name { λ r. ⌜ r .session .name ≡ session .name ⌝ }
 {
-    let begun = read_front(session, chunk, input);
-    let front = begun.front;
-    let answer = begun.answer;
-    match front {
-        Front::Answered => answer,
-        Front::Begins => receive_begun(answer, word, chunk, input, out),
-        Front::Ends(k) => receive_ended(session, word, chunk, k, input, out),
+    if k == 0 {
+        return receive_begun(session, word, chunk, input, out);
     }
+    receive_ended(session, word, chunk, k, input, out)
 }

@@ -16,6 +16,7 @@ pub use parts::body_of;
 pub use parts::lines_of;
 pub use places::Continued;
 pub use places::Place;
+pub use places::read_byte;
 pub use places::read_on;
 pub use reading::First;
 pub use reading::Stanza;

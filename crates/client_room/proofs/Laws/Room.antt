@@ -1,5 +1,5 @@
 -- What a text needs of room, stanza by stanza.
-use Prim.Native.Nat.{ℕ, _+_, _-_, _*_, _≤_, _<_, min}
+use Prim.Native.Nat.{ℕ, _+_, _-_, _*_, _≤_, _<_}
 use mathlib.Core.Path.{_≡_, refl, sym, ap, ap₂, _∙_}
 use mathlib.Core.Bool.{Bool, true, false, _&&_}
 use mathlib.Core.List.{List, [], _++_}
@@ -11,30 +11,23 @@ use Rattle.refusal.specs.Pick.{pick}
 use lib.Seq.{drop-drop}
 use Rattle.refusal.proofs.Laws.Booleans.{cases, true-and}
 use Rattle.refusal.proofs.Laws.Lists.{part-rest}
-use Rattle.stanza.specs.Automaton.{State, start}
+use Rattle.stanza.specs.Automaton.{start}
 use Rattle.stanza.specs.Reading.{stanza, refused, readFirst}
-use Rattle.stanza.specs.Resuming as resuming
-use Rattle.stanza.specs.Resuming.{continued, placeSaid}
 use Rattle.stanza.proofs.Laws.Exact.{refused-2}
-use Rattle.stanza.proofs.Laws.Resuming.{unfinished-is, whole-iff, whole-within}
+use Rattle.stanza.proofs.Laws.Resuming.{whole-iff, whole-within}
 use Rattle.session.specs.declared.words.WordTwo.{WordTwo}
-use Rattle.session.specs.declared.phases.Phase.{Phase}
-use Rattle.session.specs.declared.phases.Phase.the-variants.{Two}
-use Rattle.session.specs.declared.sessions.Session.{Session as CodeSession}
-use Rattle.session.specs.Session.{Session, sessionOf, closed}
+use Rattle.session.specs.Session.{Session}
 use Rattle.conversation.specs.CommandsTwo.{wordOf}
 use Rattle.conversation.specs.ReceivingTwo.{Taking, took, declined, refusedReceipt, receivedStanza}
 use Rattle.conversation.specs.Kinds.{Buffers, buffersOf}
 use Rattle.conversation.specs.Calls.{receive-two, command-two, nothing, Outcome, outcome, receivedTwoOutcome}
 use Rattle.conversation.proofs.Laws.StepsTwo.{all-written}
 use Rattle.conversation.proofs.Laws.Refusals.{either}
-use Rattle.chunks.specs.Taking.{client, Turn, reads, drops, keeps-back, turnAt, ample, awaitedBehind, Intake, Last, Taken, lastIn, noMore, emptied, keeping, oneMore, takenText}
+use Rattle.chunks.specs.Taking.{client, Turn, reads, drops, keeps-back, turnAt, ample, awaitedBehind, Intake, Last, Taken, lastIn, noMore, emptied, oneMore, takenText}
 use Rattle.chunks.specs.Chunks.{taken}
-use Rattle.chunks.specs.Uncut.{isWaiting}
-use Rattle.intake.specs.Intake.{intakeOf}
 use Rattle.chunks.proofs.Laws.Numbers.{room-size}
 use Rattle.chunks.proofs.Laws.Short.{read-number}
-use Rattle.chunks.proofs.Laws.Texts.{stanzaTaken, front-left, front-fault, front-stanza, text-dropped, text-kept-back, text-left, text-fault, text-stanza}
+use Rattle.chunks.proofs.Laws.Texts.{stanzaTaken, text-dropped, text-kept-back, text-left, text-fault, text-stanza}
 use Rattle.chunks.proofs.Laws.Bounds.{front-written, text-written, text-kept, read-kept}
 use Rattle.phase_two.specs.Entering.{AreLong}
 use Rattle.client_room.specs.Stanzas.{nextIn, Tried}
@@ -230,24 +223,9 @@ module _ (s : Session) (b : Buffers) (a text : List ℕ) (at l m k : ℕ) (y : T
       ∙ ap (λ x. hasRoom (takenText client after onTurn (awaitedBehind client (after .phase) (take k part)) x) (n - j))
       (ap (drop k) (part-rest at text) ∙ drop-drop k at text)
 
--- ---- the front of a stanza that was put together, and the bytes behind it
+-- ---- room that needs no look at the bytes
 
 module _ (i : Intake) (b : Buffers) (x : List ℕ) (n : ℕ) (turn : turnAt client (i .session .phase) ≡ reads) where
-  pub front-on : (k : ℕ) → continued (i .reading) (length (i .kept)) x ≡ resuming.whole k →
-      hasRoom (stanzaAhead (i .session) b (i .kept ++ take k x) (drop k x)) n ≡ hasRoom (taken client i b x) n
-  front-on k h = sym (ap (λ u. hasRoom u n) (front-stanza client (i .session) b (i .awaited) turn (i .reading) (i .kept) x k h))
-
-  pub front-over : (q : State) → continued (i .reading) (length (i .kept)) x ≡ resuming.unfinished q → true ≡ hasRoom (taken client i b x) n
-  front-over q h =
-      let l = unfinished-is x (i .reading) q (length (i .kept)) h .1 in
-      sym (ap (λ u. hasRoom u n) (front-left client (i .session) b (i .awaited) turn (i .reading) q (i .kept) x h)
-      ∙ true-and (leb 0 n) (leb (length (i .kept ++ x)) 8192) (zero-room n) (le-leb (length (i .kept ++ x)) 8192 (omega (arith, length-append (i .kept) x))))
-
-  pub front-at-fault : (m : ℕ) → length (i .kept) < 8192 → continued (i .reading) (length (i .kept)) x ≡ resuming.refused m → true ≡ hasRoom (taken client i b x) n
-  front-at-fault m l h =
-      sym (ap (λ u. hasRoom u n) (front-fault client (i .session) b (i .awaited) turn (i .reading) (i .kept) x m l h) ∙ none-room n m (closed (i .session)) b [])
-
-  -- room that needs no look at the text
   pub front-ample : length (i .kept) ≤ 8191 → length x ≤ 8193 → 16 * (length (i .kept) + length x) < 6 * n + 6 → true ≡ hasRoom (taken client i b x) n
   front-ample l m h =
       let w = front-written (i .session) b (i .awaited) (i .reading) (i .kept) x in
@@ -297,15 +275,3 @@ pub record Onward (e r t : ℕ) (first : Bool) (s : Session) (x : List ℕ) (n :
   pub buffers : Buffers
   pub long : AreLong (buffers .second) e r t
   pub same : first ≡ hasRoom (takenText client s buffers awaited x) n
-
--- ---- what the client keeps in phase two
-
-pub intake-two : (s : CodeSession) (xs hs : List (List ℕ)) (input : List ℕ) → s .phase ≡ Two →
-    intakeOf client s xs hs input ≡ keeping (sessionOf s xs hs) (placeSaid (s .reading)) (take (min (s .kept) 8191) input) []
-intake-two s xs hs input e = rw (keeps (s .phase) e (s .kept) (s .awaited), waits (s .phase) e (s .awaited))
-  where
-    keeps : (p : Phase) → p ≡ Two → (k a : ℕ) → take (min k (pick (isWaiting client p) 8192 8191)) (drop (pick (isWaiting client p) (min a 8192) 0) input) ≡ take (min k 8191) input
-    keeps p e k a = rw e
-
-    waits : (p : Phase) → p ≡ Two → (a : ℕ) → take (pick (isWaiting client p) (min a 8192) 0) input ≡ []
-    waits p e a = rw e

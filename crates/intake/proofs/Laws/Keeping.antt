@@ -1,23 +1,15 @@
 -- What is kept in the lent input, and read back from it.
-use Prim.Native.Nat.{ℕ, _+_, _≤_, _<_, min}
+use Prim.Native.Nat.{ℕ, suc, _+_, _≤_, _<_, min}
 use mathlib.Core.Path.{_≡_, refl, sym, ap, _∙_, subst}
-use mathlib.Core.Bool.{false}
 use mathlib.Core.List.{List, [], _∷_, _++_, append-assoc, append-nil}
-use lib.ListN.{length, take, drop, length-append, length-drop, drop-of-length-le, take-append-drop}
-use lib.Seq.{take-at, drop-at, take-all, take-add, drop-drop, take-append-seam, drop-append-seam, length-take-le}
+use lib.ListN.{length, take, drop, set, getD, length-append, length-drop, drop-of-length-le, take-append-drop}
+use lib.Seq.{set-split, take-at, drop-at, take-all, take-add, drop-drop, take-append-seam, drop-append-seam, length-take-le}
 use native.Mathlib.Omega.{arith}
 use borrow.Author.Tests.{lt-ltb, le-ltb}
 use Rattle.refusal.specs.Output.{filled}
-use Rattle.session.specs.declared.phases.Phase.the-variants.{Closed}
 use Rattle.session.specs.declared.sessions.Session.{Session as CodeSession}
-use Rattle.chunks.specs.Taking.{End, client, plugin}
-use Rattle.chunks.specs.Uncut.{isWaiting}
+use Rattle.chunks.specs.Taking.{End}
 use Rattle.intake.specs.Intake.{awaitedSize, keptSize, intakeOf, storedIn}
-
--- no command waits in a closed session
-pub closed-waits : (e : End) → isWaiting e Closed ≡ false
-closed-waits client = refl
-closed-waits plugin = refl
 
 -- ---- copies
 
@@ -51,6 +43,20 @@ pub both : (a p o : List ℕ) → length a + length p ≤ length o → take (len
 both a p o h =
     rw (filled-whole a o (omega arith), take-append-seam a (drop (length a) o), drop-append-seam a (drop (length a) o), filled-whole p (drop (length a) o) (simp length-drop (omega arith)), filled-whole (a ++ p) o (rw (length-append a p) h), length-append a p, drop-drop)
     (sym (append-assoc a p (drop (length a + length p) o)))
+
+-- one byte behind the first k
+pub byte-behind : (o : List ℕ) (k b : ℕ) → k < length o → set o k b ≡ take k o ++ filled (b ∷ []) (drop k o)
+byte-behind o k b h =
+    let n : k + 1 ≡ suc k = omega arith in
+    set-split o k b h
+    ∙ ap (λ d. take k o ++ b ∷ d) (sym (drop-drop 1 k o ∙ ap (λ n. drop n o) n))
+    ∙ ap (λ d. take k o ++ d) (sym (filled-whole (b ∷ []) (drop k o) (simp length-drop (omega arith))))
+
+-- a list of one byte
+pub one-of : (x : List ℕ) → length x ≡ 1 → x ≡ getD x 0 0 ∷ []
+one-of [] h = absurd (omega arith)
+one-of (b ∷ []) h = refl
+one-of (b ∷ c ∷ x) h = absurd (omega arith)
 
 -- ---- read back
 

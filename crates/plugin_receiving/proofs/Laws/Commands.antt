@@ -5,7 +5,7 @@ use mathlib.Core.Bool.{Bool, true, false, false≢true}
 use mathlib.Core.List.{List, [], _++_}
 use lib.Dec.{eqb}
 use lib.ListN.{length, take, drop, length-drop}
-use lib.Seq.{length-take-le, take-all, drop-drop}
+use lib.Seq.{take-all, drop-drop}
 use native.Mathlib.Omega.{arith}
 use borrow.Author.Tests.{eqb-true, eqb-false}
 use Rattle.refusal.specs.Number.{numberOf}
@@ -17,15 +17,11 @@ use Rattle.refusal.proofs.Laws.Number.{number-not-zero}
 use Rattle.base64.specs.Lines.{bodyOf}
 use Rattle.stanza.specs.Reading.{Reading, stanza, refused, readFirst}
 use Rattle.stanza.specs.Parts.{argumentsIn, bodyIn}
-use Rattle.stanza.specs.Automaton.{State, start}
-use Rattle.stanza.specs.Resuming.{Continued, whole, continued, placeSaid}
-use Rattle.stanza.specs.Resuming as resuming
-use Rattle.stanza.specs.declared.places.Place.{Place}
-use Rattle.stanza.specs.declared.places.Place.the-variants as place
+use Rattle.stanza.specs.Automaton.{start}
+use Rattle.stanza.specs.Resuming.{whole}
 use Rattle.stanza.specs.declared.places.Place.the-variants.{Start}
 use Rattle.stanza.specs.declared.reading.Stanza.{Stanza}
 use Rattle.stanza.proofs.Laws.Exact.{taken-iff}
-use Rattle.stanza.proofs.Laws.Resuming.{unfinished-is, whole-within}
 use Rattle.session.specs.Phases.{closes}
 use Rattle.session.specs.Session.{Session, sessionOf, closed}
 use Rattle.session.specs.declared.phases.Phase.{Phase}
@@ -38,21 +34,23 @@ use Rattle.phase_one.specs.Turns.{turnOne, phaseAfter}
 use Rattle.conversation.specs.Calls.{Outcome, receive, outcome, receivedOutcome, takingNumber, takingGiven}
 use Rattle.conversation.specs.Kinds.{Buffers, buffersOf}
 use Rattle.conversation.specs.PhaseTwo.{BuffersTwo}
-use Rattle.conversation.specs.Receiving.{Taking, took, declined, Received, received, receivedAs, receivedStanza}
+use Rattle.conversation.specs.Receiving.{Taking, took, declined, Received, receivedAs, receivedStanza}
 use Rattle.conversation.proofs.Laws.Receiving.{received-in-turn}
 use Rattle.conversation.proofs.Laws.Refusals.{either, refusal}
-use Rattle.chunks.specs.Taking.{client, plugin, Turn, reads, keeps-back, turnAt, stanzaCall, no-stanza, command, Taken, noMore, emptied, keeping, behind, oneMore, takenText}
+use Rattle.chunks.specs.Taking.{client, plugin, Turn, reads, keeps-back, turnAt, stanzaCall, no-stanza, command, Taken, noMore, emptied, behind, oneMore, takenText}
 use Rattle.chunks.specs.Chunks.{taken}
 use Rattle.chunks.specs.Cutting.{cut}
 use Rattle.chunks.specs.Uncut.{isWaiting}
 use Rattle.chunks.proofs.Laws.Bounds.{stanza-long}
 use Rattle.chunks.proofs.Laws.Cases.{drops-not-reads, keeps-not-reads, keeps-not-drops}
-use Rattle.chunks.proofs.Laws.Texts.{stanzaTaken, takenCut, text-stanza, front-left, front-fault, front-stanza, behind-more, behind-none}
+use Rattle.chunks.proofs.Laws.Texts.{stanzaTaken, takenCut, text-stanza, behind-more, behind-none}
+use Rattle.intake.proofs.Laws.Fronts.{between, intake-reads, chunk-ends}
 use Rattle.intake.proofs.Laws.Keeping.{filled-empty}
+use Rattle.intake.specs.Fronts.{frontOf}
 use Rattle.intake.specs.Intake.{intakeOf, storedIn, lastSaid, takenSaid}
 use Rattle.intake.specs.Settling.{MaySettle, Says}
 use Rattle.intake.specs.declared.answers.Received.{Received as CodeReceived}
-use Rattle.plugin_receiving.specs.Commands.{begunBy, beginsAt, nextIn, answerBehind, comesTo, NoneDue}
+use Rattle.plugin_receiving.specs.Commands.{begunBy, nextIn, answerBehind, comesTo, NoneDue}
 use Rattle.plugin_receiving.specs.Receiving.{takingSaid}
 use Rattle.plugin_receiving.specs.declared.receiving.Taking.{Taking as CodeTaking}
 use Rattle.plugin_receiving.specs.declared.receiving.Taking.the-variants as the
@@ -308,60 +306,14 @@ says-emptied r xs hs input b n s h = record { taken = h; input = filled-empty in
 
 -- ---- a stanza that began in an earlier chunk
 
-module _ (s : CodeSession) (xs hs : List (List ℕ)) (input : List ℕ) (long : 8192 ≤ length input) (turn : turnAt plugin (s .phase) ≡ reads) (chunk : List ℕ) where
-  abbrev v : Session
-  v = sessionOf s xs hs
-
-  abbrev front : List ℕ
-  front = take (min (s .kept) 8191) input
-
-  front-size : length front ≡ min (s .kept) 8191
-  front-size = length-take-le (min (s .kept) 8191) input (omega arith)
-
-  abbrev chunkTaken : Buffers → Taken
-  chunkTaken b = taken plugin (intakeOf plugin s xs hs input) b chunk
-
-  -- none did
-  pub chunk-begins : (b : Buffers) → beginsAt (s .reading) (min (s .kept) 8191) ≡ true → comesTo (begunBy s) xs hs b chunk ≡ chunkTaken b
-  chunk-begins b h =
-      let z = go (s .reading) (min (s .kept) 8191) h in
-      behind-none plugin v b [] (cut start [] chunk .texts) (cut start [] chunk .rest)
-      ∙ ap₂ (λ q n. takenCut plugin v b [] (cut q (take n input) chunk)) (sym (z .0)) (sym (z .1))
-    where
-      go : (p : Place) (n : ℕ) → beginsAt p n ≡ true → (placeSaid p ≡ start) × (n ≡ 0)
-      go place.Start n h = (refl, eqb-true n 0 h)
-      go place.Hyphen n h = absurd (false≢true h)
-      go place.Arrow n h = absurd (false≢true h)
-      go place.Gap n h = absurd (false≢true h)
-      go place.Word n h = absurd (false≢true h)
-      go (place.Line k l) n h = absurd (false≢true h)
-      go place.Ended n h = absurd (false≢true h)
-      go place.Dead n h = absurd (false≢true h)
-
-  at-front : (r : Continued) → continued (placeSaid (s .reading)) (min (s .kept) 8191) chunk ≡ r → continued (placeSaid (s .reading)) (length front) chunk ≡ r
-  at-front r h = ap (λ n. continued (placeSaid (s .reading)) n chunk) front-size ∙ h
-
-  -- it goes on
-  pub chunk-goes-on : (b : Buffers) (q : State) → continued (placeSaid (s .reading)) (min (s .kept) 8191) chunk ≡ resuming.unfinished q →
-      noMore 0 (keeping v q (front ++ chunk) []) b ≡ chunkTaken b
-  chunk-goes-on b q h = sym (front-left plugin v b [] turn (placeSaid (s .reading)) q front chunk (at-front (resuming.unfinished q) h))
-
-  pub chunk-short : (q : State) → continued (placeSaid (s .reading)) (min (s .kept) 8191) chunk ≡ resuming.unfinished q → min (s .kept) 8191 + length chunk ≤ 8191
-  chunk-short q h = omega (arith, unfinished-is chunk (placeSaid (s .reading)) q (min (s .kept) 8191) h .1)
-
-  -- no stanza goes on so
-  pub chunk-fault : (b : Buffers) (m : ℕ) → continued (placeSaid (s .reading)) (min (s .kept) 8191) chunk ≡ resuming.refused m →
-      noMore m (emptied (closed v) []) b ≡ chunkTaken b
-  chunk-fault b m h = sym (front-fault plugin v b [] turn (placeSaid (s .reading)) front chunk m (omega (arith, front-size)) (at-front (resuming.refused m) h))
-
-  module _ (k : ℕ) (h : continued (placeSaid (s .reading)) (min (s .kept) 8191) chunk ≡ whole k) where
-    -- it ends
-    pub chunk-ends : (b : Buffers) →
-        chunkTaken b ≡ stanzaTaken plugin b (outcome v b (stanzaCall plugin (s .phase) (front ++ take k chunk))) (front ++ take k chunk) (drop k chunk)
-    chunk-ends b = front-stanza plugin v b [] turn (placeSaid (s .reading)) front chunk k (at-front (whole k) h)
-
-    pub chunk-within : (k ≤ length chunk) × (min (s .kept) 8191 + k ≤ 8192)
-    chunk-within = let w = whole-within chunk (placeSaid (s .reading)) (min (s .kept) 8191) k h in (w .1, w .2)
+-- none did
+pub chunk-begun : (s : CodeSession) (xs hs : List (List ℕ)) (input : List ℕ) → turnAt plugin (s .phase) ≡ reads → (chunk : List ℕ) (b : Buffers) →
+    frontOf (s .reading) (min (s .kept) 8191) chunk ≡ whole 0 → comesTo (begunBy s) xs hs b chunk ≡ taken plugin (intakeOf plugin s xs hs input) b chunk
+chunk-begun s xs hs input turn chunk b h =
+    let z = between (s .reading) (min (s .kept) 8191) chunk h in
+    behind-none plugin (sessionOf s xs hs) b [] (cut start [] chunk .texts) (cut start [] chunk .rest)
+    ∙ sym (ap (λ i. taken plugin i b chunk) (intake-reads plugin s xs hs input turn)
+    ∙ ap₂ (λ q n. takenCut plugin (sessionOf s xs hs) b [] (cut q (take n input) chunk)) (z .0) (z .1))
 
 -- a command that did
 pub record Fronted (s : CodeSession) (xs hs xs′ hs′ : List (List ℕ)) (b b′ : BuffersOne) (input chunk : List ℕ) (k : ℕ) (r : CodeReceived) (after : CodeSession) : Type 0 where
@@ -372,16 +324,16 @@ pub record Fronted (s : CodeSession) (xs hs xs′ hs′ : List (List ℕ)) (b b�
   pub session : r .session ≡ after
 
 pub fronted : (s : CodeSession) (xs hs xs′ hs′ : List (List ℕ)) (b b′ : BuffersOne) (input chunk : List ℕ) (k : ℕ) (r : CodeReceived) (answer : CodeTaking) (after : CodeSession) →
-    8192 ≤ length input → s .phase ≡ One → continued (placeSaid (s .reading)) (min (s .kept) 8191) chunk ≡ whole k →
+    8192 ≤ length input → s .phase ≡ One → frontOf (s .reading) (min (s .kept) 8191) chunk ≡ whole k → (k ≡ 0 → ⊥) →
     (text : List ℕ) → text ≡ take (min (s .kept) 8191) input ++ take k chunk →
     record { answer = takingSaid answer; session = sessionOf after xs′ hs′; buffers = b′ } ≡ receivedAs (readFirst text) (sessionOf s xs hs) text b →
     r ≡ answerBehind (begunBy s) answer after → Fronted s xs hs xs′ hs′ b b′ input chunk k r after
-fronted s xs hs xs′ hs′ b b′ input chunk k r answer after long first h text at is e =
+fronted s xs hs xs′ hs′ b b′ input chunk k r answer after long first h some text at is e =
     let z = stepped (begunBy s) xs hs xs′ hs′ b b′ text answer after first is r e in
     record {
       comes = λ c.
           let turn : turnAt plugin (s .phase) ≡ reads = ap (turnAt plugin) first in
-          let d = chunk-ends s xs hs input long turn chunk k h (buffersOf b c) in
+          let d = chunk-ends plugin s xs hs input turn long chunk (buffersOf b c) k h some in
           let whole-taken : taken plugin (intakeOf plugin s xs hs input) (buffersOf b c) chunk ≡ callTaken (sessionOf s xs hs) b c text first _ is text (drop k chunk) =
           d ∙ ap (λ t. stanzaTaken plugin (buffersOf b c) (outcome (sessionOf s xs hs) (buffersOf b c) (stanzaCall plugin (s .phase) t)) t (drop k chunk)) (sym at) in
           sym (z .comes c text (drop k chunk))

@@ -1,20 +1,19 @@
 -- A chunk in which a response ends: what the code's step for one stanza and the bytes behind it come to.
-use Prim.Native.Nat.{ℕ, zero, suc, _-_, _≤_, _<_, min}
+use Prim.Native.Nat.{ℕ, _-_, _≤_, _<_, min}
 use mathlib.Core.Path.{_≡_, refl, sym, ap, ap₂, _∙_}
 use mathlib.Core.Bool.{Bool, true, false, _&&_}
-use mathlib.Core.List.{List, [], _∷_, _++_, append-nil}
+use mathlib.Core.List.{List, [], _++_, append-nil}
 use lib.Dec.{eqb, leb}
-use lib.ListN.{length, take, drop, length-drop, length-take, take-append-drop}
+use lib.ListN.{length, take, drop, length-drop}
 use native.Mathlib.Omega.{arith}
-use borrow.Author.Tests.{eqb-true, eqb-false, eq-eqb, ne-eqb, le-leb, lt-leb, leb-true, leb-false, ltb-false}
+use borrow.Author.Tests.{eqb-true, eqb-false, eq-eqb, ne-eqb, lt-leb, leb-true, leb-false, ltb-false}
 use Rattle.refusal.specs.Number.{numberOf}
 use Rattle.refusal.specs.Output.{filled}
 use Rattle.refusal.specs.Pick.{pick}
 use Rattle.refusal.proofs.Laws.Booleans.{cases}
 use Rattle.refusal.proofs.Laws.Number.{number-not-zero}
-use Rattle.refusal.specs.Verdict.{verdictSaid}
 use Rattle.stanza.specs.Reading.{stanza, refused, readFirst}
-use Rattle.stanza.specs.Resuming.{placeSaid, continued, whole}
+use Rattle.stanza.specs.Resuming.{whole}
 use Rattle.session.specs.Session.{Session, sessionOf}
 use Rattle.session.specs.declared.phases.Phase.the-variants.{Awaiting}
 use Rattle.session.specs.declared.sessions.Session.{Session as CodeSession}
@@ -30,53 +29,27 @@ use Rattle.conversation.proofs.Laws.Accepted.{accepted}
 use Rattle.conversation.proofs.Laws.StepsTwo.{all-written}
 use Rattle.chunks.specs.Taking.{plugin, reads, ample, turnAt, stanzaCall, no-stanza, lastIn, Taken, Intake, noMore, emptied, oneMore, takenText}
 use Rattle.chunks.specs.Chunks.{Outcome, judged, untaken, taken}
-use Rattle.chunks.proofs.Laws.Cases.{keeps-not-reads}
+use Rattle.chunks.proofs.Laws.Cases.{held, keeps-not-reads}
 use Rattle.chunks.proofs.Laws.Rooms.{response-fits, response-overflows, response-declined}
+use Rattle.chunks.proofs.Laws.Runs.{judged-held}
 use Rattle.chunks.proofs.Laws.Short.{taken-not-short}
-use Rattle.chunks.proofs.Laws.Texts.{stanzaTaken, text-dropped, text-stanza, behind-none}
-use Rattle.intake.specs.Intake.{intakeOf, lastSaid, takenSaid, receivedSaid}
-use Rattle.intake.specs.Settling.{MaySettle, Says}
-use Rattle.intake.specs.declared.answers.Received.{Received as CodeReceived}
-use Rattle.intake.proofs.Laws.Keeping.{filled-whole, filled-empty}
-use Rattle.plugin_receiving.specs.Commands.{beginsAt}
+use Rattle.chunks.proofs.Laws.Texts.{stanzaTaken, text-dropped, text-stanza}
+use Rattle.intake.specs.Intake.{intakeOf}
+use Rattle.intake.specs.Settling.{MaySettle}
+use Rattle.intake.specs.Fronts.{frontOf}
+use Rattle.intake.proofs.Laws.Fronts.{chunk-begins, chunk-ends}
+use Rattle.intake.proofs.Laws.Keeping.{filled-empty}
 use Rattle.plugin_receiving.specs.Responding.{answeringSaid, respondedSaid, settledAs, settledResponse}
 use Rattle.plugin_receiving.specs.declared.responding.Answering.{Answering as CodeAnswering}
 use Rattle.plugin_receiving.specs.declared.responding.Answering.the-variants as the
 use Rattle.plugin_receiving.specs.declared.responding.Responded.{Responded as CodeResponded}
-use Rattle.plugin_receiving.proofs.Laws.Commands.{chunk-begins, chunk-ends, stanza-not-refused}
+use Rattle.plugin_receiving.proofs.Laws.Commands.{stanza-not-refused}
 
 -- some buffers, where none is used
 pub noBuffers : Buffers
 noBuffers = buffersOf (one.buffersOf [] [] [] []) (two.buffersOf [] [] [])
 
--- bytes that stand at the front already
-pub filled-own : (k : ℕ) (o : List ℕ) → o ≡ filled (take k o) o
-filled-own k o =
-    sym (filled-whole (take k o) o (omega (arith, length-take k o)) ∙ ap (λ d. take k o ++ d) (behind-front k o) ∙ take-append-drop k o)
-  where
-    behind-front : (k : ℕ) (o : List ℕ) → drop (length (take k o)) o ≡ drop k o
-    behind-front zero o = refl
-    behind-front (suc k) [] = refl
-    behind-front (suc k) (x ∷ o) = behind-front k o
-
 -- ---- what a text comes to, by the output buffer
-
--- what is answered where all is held
-abbrev answered : Taken → List ℕ → Outcome
-answered t out = record {
-  number = t .number;
-  count = t .count;
-  last = t .last;
-  size = length (t .written);
-  intake = t .intake;
-  buffers = t .buffers;
-  output = filled (t .written) out;
-}
-
-judged-held : (i : Intake) (b : Buffers) (out : List ℕ) (t : Taken) → length (t .written) ≤ length out → length (t .intake .kept) ≤ 8192 →
-    judged i b out t ≡ answered t out
-judged-held i b out t w k =
-    ap (λ f. pick f (answered t out) (untaken 15 i b out)) (ap₂ _&&_ (le-leb (length (t .written)) (length out) w) (le-leb (length (t .intake .kept)) 8192 k))
 
 -- where nothing is written and no more than 8,192 bytes are kept, a chunk is answered by what its text comes to
 pub judged-silent : (i : Intake) (b : Buffers) (out : List ℕ) (t : Taken) → t .written ≡ [] → length (t .intake .kept) ≤ 8192 →
@@ -90,7 +63,7 @@ judged-silent i b out t w k =
 -- more is written than has room
 judged-overflows : (i : Intake) (b : Buffers) (out : List ℕ) (t : Taken) → length out < length (t .written) → judged i b out t ≡ untaken 15 i b out
 judged-overflows i b out t l =
-    ap (λ f. pick (f && leb (length (t .intake .kept)) 8192) (answered t out) (untaken 15 i b out)) (lt-leb (length (t .written)) (length out) l)
+    ap (λ f. pick (f && leb (length (t .intake .kept)) 8192) (held out t) (untaken 15 i b out)) (lt-leb (length (t .written)) (length out) l)
 
 -- ---- a response and what stands behind it
 
@@ -225,25 +198,6 @@ module _ (s : Session) (b : Buffers) (i : Intake) (bytes t rest out : List ℕ)
       (λ h. taken-not-short plugin i b bytes (ap (λ (t : Taken). t .number) (none-taken z) ∙ h))
       ∙ sym (ap (judged i b out) (none-taken z) ∙ judged-silent i b out (noMore (inRoom .number) (emptied (inRoom .session) []) b) refl (omega arith)))
 
--- an answer that says what was taken, and wrote nothing
-pub says-judged : (r : CodeReceived) (xs hs : List (List ℕ)) (before after out : List ℕ) (b : Buffers) (i : Intake) (t : Taken) →
-    Says plugin r xs hs before after [] b t → r .written ≡ 0 → receivedSaid plugin r xs hs after b out ≡ judged i b out t
-says-judged r xs hs before after out b i t h z =
-    ap at z
-    ∙ sym (judged-silent i b out (takenSaid plugin r xs hs after [] b) refl (omega (arith, length-take (min (r .session .kept) 8191) after)))
-    ∙ ap (judged i b out) (h .taken)
-  where
-    at : ℕ → Outcome
-    at n = record {
-      number = verdictSaid (r .verdict);
-      count = r .count;
-      last = lastSaid (r .last);
-      size = n;
-      intake = intakeOf plugin (r .session) xs hs after;
-      buffers = b;
-      output = out;
-    }
-
 -- ---- a chunk while a command awaits its response
 
 module _ (s : CodeSession) (w : WordTwo) (due : s .phase ≡ Awaiting w) (input : List ℕ) (long : 8192 ≤ length input) (chunk : List ℕ) where
@@ -265,15 +219,15 @@ module _ (s : CodeSession) (w : WordTwo) (due : s .phase ≡ Awaiting w) (input 
     v = sessionOf s xs hs
 
     -- it begins a stanza
-    begun-text : beginsAt (s .reading) (min (s .kept) 8191) ≡ true → takenText plugin v b [] chunk ≡ taken plugin i b chunk
-    begun-text h = sym (behind-none plugin v b [] _ _) ∙ chunk-begins s xs hs input long (ap (turnAt plugin) due) chunk b h
+    begun-text : frontOf (s .reading) (min (s .kept) 8191) chunk ≡ whole 0 → takenText plugin v b [] chunk ≡ taken plugin i b chunk
+    begun-text h = sym (chunk-begins plugin s xs hs input (ap (turnAt plugin) due) long chunk b h)
 
     module _ (x : CodeResponded) (out after : List ℕ) where
       by-due : (text : List ℕ) → respondedSaid x xs hs after ≡ respondedText (readFirst text) w v text out → respondedSaid x xs hs after ≡ responded v text out
       by-due text e = e ∙ sym (ap (λ p. respondedBy (dueIn p) v text out) due)
 
       -- .. and the stanza ends in it
-      pub begun-settled : beginsAt (s .reading) (min (s .kept) 8191) ≡ true → (l m k : ℕ) → readFirst chunk ≡ stanza l m k →
+      pub begun-settled : frontOf (s .reading) (min (s .kept) 8191) chunk ≡ whole 0 → (l m k : ℕ) → readFirst chunk ≡ stanza l m k →
           respondedSaid x xs hs after ≡ respondedText (stanza l m k) w v chunk out →
           settledResponse (respondedSaid x xs hs after) i b (length chunk - k) ≡ judged i b out (taken plugin i b chunk)
       begun-settled f l m k h e =
@@ -284,13 +238,13 @@ module _ (s : CodeSession) (w : WordTwo) (due : s .phase ≡ Awaiting w) (input 
           x xs hs after (by-due chunk (e ∙ ap (λ r. respondedText r w v chunk out) (sym h)))
 
       -- a stanza that began in an earlier chunk ends behind k bytes
-      pub ended-settled : (k : ℕ) → continued (placeSaid (s .reading)) (min (s .kept) 8191) chunk ≡ whole k →
+      pub ended-settled : (k : ℕ) → frontOf (s .reading) (min (s .kept) 8191) chunk ≡ whole k → (k ≡ 0 → ⊥) →
           (text : List ℕ) → text ≡ take (min (s .kept) 8191) input ++ take k chunk →
           respondedSaid x xs hs after ≡ respondedText (readFirst text) w v text out →
           settledResponse (respondedSaid x xs hs after) i b (length chunk - k) ≡ judged i b out (taken plugin i b chunk)
-      ended-settled k h text at e =
+      ended-settled k h some text at e =
           ap (settledResponse (respondedSaid x xs hs after) i b) (sym (length-drop k chunk))
           ∙ response-settled v b i chunk text (drop k chunk) out
-          (chunk-ends s xs hs input long (ap (turnAt plugin) due) chunk k h b
+          (chunk-ends plugin s xs hs input (ap (turnAt plugin) due) long chunk b k h some
           ∙ ap₂ (λ p t. stanzaTaken plugin b (outcome v b (stanzaCall plugin p t)) t (drop k chunk)) due (sym at))
           x xs hs after (by-due text e)

@@ -7,6 +7,8 @@ use lib.Dec.{ltb, eqb}
 use lib.ListN.{length, take, drop, getD, drop-of-length-le}
 use native.Mathlib.Nat.{add-zero}
 use native.Mathlib.Omega.{arith}
+use denote.Enum.Declared.{tagOf}
+use types.Run.{OneOf, miss}
 use borrow.Author.Tests.{lt-ltb, le-ltb, ne-eqb, ltb-true, eqb-true}
 use Rattle.refusal.specs.Pick.{pick}
 use Rattle.refusal.proofs.Laws.Booleans.{cases}
@@ -16,7 +18,10 @@ use Rattle.stanza.specs.Automaton as automaton
 use Rattle.stanza.specs.Reading.{Reading, stanza, found, readFirst}
 use Rattle.stanza.specs.Reading as reading
 use Rattle.stanza.proofs.Laws.Grammar.{after-append}
-use Rattle.stanza.specs.Resuming.{Continued, whole, unfinished, refused, behind, led, continued, fromReading}
+use Rattle.stanza.specs.declared.places.Place.{Place}
+use Rattle.stanza.specs.declared.places.Place.the-variants as place
+use Rattle.stanza.proofs.places.Place.{the-type}
+use Rattle.stanza.specs.Resuming.{placeSaid, Continued, whole, unfinished, refused, behind, led, continued, fromReading}
 
 -- ---- counting
 
@@ -261,3 +266,20 @@ unfolding behind
 pieces-kept a b q e u =
     let p : q ≡ after start (a ++ b) = unfinished-is b (after start a) q (length a) u .0 ∙ sym (after-append start a b) in
     (p, unfinished-iff (a ++ b) .0 (kept-on a b e ∙ rw u (ap unfinished p)))
+
+-- one byte that is not byte 8,192
+pub one-byte : (s : State) (b n : ℕ) → n < 8191 → continued s n (b ∷ []) ≡ led (next s b) (unfinished (next s b))
+unfolding continued
+one-byte s b n h = rw (lt-ltb n 8192 (omega arith), lt-ltb (n + 1) 8192 (omega arith))
+
+-- a place that is neither dead nor ended
+pub goes-on : (p : Place) (rest : Continued) → OneOf (0 ∷ 1 ∷ 2 ∷ 3 ∷ 4 ∷ 5 ∷ []) (tagOf the-type p) → led (placeSaid p) rest ≡ behind 1 rest
+unfolding led
+goes-on place.Start rest h = refl
+goes-on place.Hyphen rest h = refl
+goes-on place.Arrow rest h = refl
+goes-on place.Gap rest h = refl
+goes-on place.Word rest h = refl
+goes-on (place.Line k last) rest h = refl
+goes-on place.Ended rest h = absurd (miss (0 ∷ 1 ∷ 2 ∷ 3 ∷ 4 ∷ 5 ∷ []) 6 tt h)
+goes-on place.Dead rest h = absurd (miss (0 ∷ 1 ∷ 2 ∷ 3 ∷ 4 ∷ 5 ∷ []) 7 tt h)

@@ -1,22 +1,33 @@
--- By how reading goes on; a short chunk has room by its length alone.
+-- By whether a stanza is unfinished; a short chunk has room by its length alone.
 use Prim.Native.Nat.{min}
-use mathlib.Core.List.{[], _++_}
-use lib.Seq.{length-take-le}
-use Rattle.stanza.specs.Resuming.{placeSaid, continued, continuedSaid}
-use Rattle.stanza.proofs.Laws.Resuming.{whole-within}
-use Rattle.session.specs.Session.{sessionOf}
 use mathlib.Core.Path.{_≡_, sym, ap, _∙_}
+use mathlib.Core.List.{[], _++_}
 use lib.ListN.{length, take, drop}
+use lib.Seq.{length-take-le}
 use native.Mathlib.Omega.{arith}
 use denote.Ref.{now}
+use Rattle.stanza.specs.Resuming.{placeSaid, whole}
+use Rattle.session.specs.Session.{sessionOf}
 use Rattle.conversation.proofs.Laws.ReceivingTwo.{turn-second}
 use Rattle.chunks.specs.Taking.{client, turnAt, keeping}
 use Rattle.chunks.specs.Chunks.{taken}
+use Rattle.intake.proofs.Laws.Fronts.{intake-reads, chunk-begins, chunk-ends, front-within}
 use Rattle.client_room.specs.Room.{hasRoom, stanzaAhead}
-use Rattle.client_room.proofs.Laws.Room.{front-on, front-over, front-at-fault, front-ample, intake-two}
+use Rattle.client_room.proofs.Laws.Room.{front-ample}
 use borrow.Author.Needs.{needs}
 use Rattle.client_room.proofs.fitting.has_room.Statement.{statement}
 use Rattle.client_room.proofs.fitting.has_room.Tie as tie
+
+text-has-room-requires : tie.Need-text-has-room-requires
+text-has-room-requires c κs = search needs
+
+returns : tie.Need-returns
+returns c = λ b long two.
+    let a = c .before .before .before .before .args in
+    let p = c .before .before .before .before .pre in
+    let turn = ap (turnAt client) (turn-second (a .session .phase) two) in
+    c .text-has-room .ensures [] b long
+    ∙ sym (ap (λ t. hasRoom t (a .room)) (chunk-begins client (a .session) (now (a .slots)) (now (a .header-slots)) (now (a .input)) turn (p .1) (now (a .chunk)) b (p .0 ∙ ap whole (c .before .if1 .taken))))
 
 kept-of-requires : tie.Need-kept-of-requires
 kept-of-requires c κs = search needs
@@ -27,80 +38,42 @@ add-is-ample c = search needs
 is-ample-requires : tie.Need-is-ample-requires
 is-ample-requires c κs = search needs
 
-returns : tie.Need-returns
-returns c = λ b m long two.
-    let a = c .before .before .before .before .before .before .args in
-    let i = keeping (sessionOf (a .session) (now (a .slots)) (now (a .header-slots))) (placeSaid (a .session .reading)) (take (min (a .session .kept) 8191) (now (a .input))) [] in
-    let z = ap (λ i. hasRoom (taken client i b (now (a .chunk))) (a .room)) (sym (intake-two (a .session) (now (a .slots)) (now (a .header-slots)) (now (a .input)) (turn-second (a .session .phase) two))) in
-    let turn = ap (turnAt client) (turn-second (a .session .phase) two) in
-    let l : length (take (min (a .session .kept) 8191) (now (a .input))) ≡ min (a .session .kept) 8191 = length-take-le (min (a .session .kept) 8191) (now (a .input)) (omega arith) in
-    front-ample i b (now (a .chunk)) (a .room) turn (omega arith) (omega arith) (omega (arith, c .before .is-ample .ensures (c .if2 .taken), c .before .before .before .kept-of .ensures)) ∙ z
-
-read-on-requires : tie.Need-read-on-requires
-read-on-requires c κs = search needs
-
-enum-told : tie.Need-enum-told
-enum-told c = search needs
-
-enum-told-2 : tie.Need-enum-told-2
-enum-told-2 c = search needs
-
-enum-known-continued : tie.Need-enum-known-continued
-enum-known-continued c = search needs
-
 returns-2 : tie.Need-returns-2
-returns-2 c = λ b m long two. absurd (omega (arith, c .before .before .before .before .before .before .kept-of .ensures))
+returns-2 c = λ b long two.
+    let a = c .before .before .before .before .before .before .before .args in
+    let p = c .before .before .before .before .before .before .before .pre in
+    let i = keeping (sessionOf (a .session) (now (a .slots)) (now (a .header-slots))) (placeSaid (a .session .reading)) (take (min (a .session .kept) 8191) (now (a .input))) [] in
+    let turn = ap (turnAt client) (turn-second (a .session .phase) two) in
+    let z = ap (λ i. hasRoom (taken client i b (now (a .chunk))) (a .room)) (sym (intake-reads client (a .session) (now (a .slots)) (now (a .header-slots)) (now (a .input)) turn)) in
+    let l : length (take (min (a .session .kept) 8191) (now (a .input))) ≡ min (a .session .kept) 8191 = length-take-le (min (a .session .kept) 8191) (now (a .input)) (omega (arith, p .1)) in
+    front-ample i b (now (a .chunk)) (a .room) turn (omega arith) (omega arith) (omega (arith, c .before .is-ample .ensures (c .if3 .taken), c .before .before .before .kept-of .ensures)) ∙ z
 
 joined-fits-requires : tie.Need-joined-fits-requires
 joined-fits-requires c κs =
-    let a = c .before .before .before .before .before .before .before .before .before .args in
-    let w = whole-within (now (a .chunk)) (placeSaid (a .session .reading)) _ _ (sym (c .before .before .before .before .read-on .ensures) ∙ ap continuedSaid (c .before .before .continued .given .1)) in
-    (omega arith, w .1, w .2)
+    let a = c .before .before .before .before .before .args in
+    let p = c .before .before .before .before .before .pre in
+    let w = front-within (a .session .reading) (min (a .session .kept) 8191) (now (a .chunk)) (a .k) (p .0) (omega arith) in
+    (omega (arith, p .1, c .before .kept-of .ensures), w .0, omega (arith, w .1, c .before .kept-of .ensures))
 
 returns-3 : tie.Need-returns-3
-returns-3 c = λ b m long two.
-    let a = c .before .before .before .before .before .before .before .args in
-    let i = keeping (sessionOf (a .session) (now (a .slots)) (now (a .header-slots))) (placeSaid (a .session .reading)) (take (min (a .session .kept) 8191) (now (a .input))) [] in
-    let z = ap (λ i. hasRoom (taken client i b (now (a .chunk))) (a .room)) (sym (intake-two (a .session) (now (a .slots)) (now (a .header-slots)) (now (a .input)) (turn-second (a .session .phase) two))) in
+returns-3 c = λ b long two.
+    let a = c .before .before .before .before .before .before .args in
+    let p = c .before .before .before .before .before .before .pre in
+    let s = sessionOf (a .session) (now (a .slots)) (now (a .header-slots)) in
     let turn = ap (turnAt client) (turn-second (a .session .phase) two) in
-    let l : length (take (min (a .session .kept) 8191) (now (a .input))) ≡ min (a .session .kept) 8191 = length-take-le (min (a .session .kept) 8191) (now (a .input)) (omega arith) in
-    front-over i b (now (a .chunk)) (a .room) turn _ (ap (λ n. continued (placeSaid (a .session .reading)) n (now (a .chunk))) (l ∙ sym (c .before .before .before .before .kept-of .ensures)) ∙ sym (c .before .before .read-on .ensures) ∙ ap continuedSaid (c .enum-told .given .1)) ∙ z
-
-returns-4 : tie.Need-returns-4
-returns-4 c = λ b m long two.
-    let a = c .before .before .before .before .before .before .before .args in
-    let i = keeping (sessionOf (a .session) (now (a .slots)) (now (a .header-slots))) (placeSaid (a .session .reading)) (take (min (a .session .kept) 8191) (now (a .input))) [] in
-    let z = ap (λ i. hasRoom (taken client i b (now (a .chunk))) (a .room)) (sym (intake-two (a .session) (now (a .slots)) (now (a .header-slots)) (now (a .input)) (turn-second (a .session .phase) two))) in
-    let turn = ap (turnAt client) (turn-second (a .session .phase) two) in
-    let l : length (take (min (a .session .kept) 8191) (now (a .input))) ≡ min (a .session .kept) 8191 = length-take-le (min (a .session .kept) 8191) (now (a .input)) (omega arith) in
-    front-at-fault i b (now (a .chunk)) (a .room) turn _ (omega arith) (ap (λ n. continued (placeSaid (a .session .reading)) n (now (a .chunk))) (l ∙ sym (c .before .before .before .before .kept-of .ensures)) ∙ sym (c .before .before .read-on .ensures) ∙ ap continuedSaid (c .enum-told2 .given .1)) ∙ z
-
-returns-5 : tie.Need-returns-5
-returns-5 c = λ b m long two.
-    let a = c .before .before .before .before .before .before .before .before .before .before .args in
-    let i = keeping (sessionOf (a .session) (now (a .slots)) (now (a .header-slots))) (placeSaid (a .session .reading)) (take (min (a .session .kept) 8191) (now (a .input))) [] in
-    let z = ap (λ i. hasRoom (taken client i b (now (a .chunk))) (a .room)) (sym (intake-two (a .session) (now (a .slots)) (now (a .header-slots)) (now (a .input)) (turn-second (a .session .phase) two))) in
-    let turn = ap (turnAt client) (turn-second (a .session .phase) two) in
-    let l : length (take (min (a .session .kept) 8191) (now (a .input))) ≡ min (a .session .kept) 8191 = length-take-le (min (a .session .kept) 8191) (now (a .input)) (omega arith) in
-    let k = c .before .before .before .continued .given .0 .0 in
     c .joined-fits .ensures b long two
-    ∙ ap (λ n. hasRoom (stanzaAhead (i .session) b (take n (now (a .input)) ++ take k (now (a .chunk))) (drop k (now (a .chunk)))) (a .room)) (c .before .before .before .before .before .before .before .kept-of .ensures)
-    ∙ front-on i b (now (a .chunk)) (a .room) turn k (ap (λ n. continued (placeSaid (a .session .reading)) n (now (a .chunk))) (l ∙ sym (c .before .before .before .before .before .before .before .kept-of .ensures)) ∙ sym (c .before .before .before .before .before .read-on .ensures) ∙ ap continuedSaid (c .before .before .before .continued .given .1)) ∙ z
+    ∙ ap (λ n. hasRoom (stanzaAhead s b (take n (now (a .input)) ++ take (a .k) (now (a .chunk))) (drop (a .k) (now (a .chunk)))) (a .room)) (c .before .before .kept-of .ensures)
+    ∙ ap (λ t. hasRoom t (a .room)) (sym (chunk-ends client (a .session) (now (a .slots)) (now (a .header-slots)) (now (a .input)) turn (p .1) (now (a .chunk)) b (a .k) (p .0) (c .before .before .before .if1 .left)))
 
 pub has-room-spec : {M : Type 1} → statement M
 has-room-spec =
     tie.close
     (tie.spec
+    text-has-room-requires
+    returns
     kept-of-requires
     add-is-ample
     is-ample-requires
-    returns
-    read-on-requires
-    enum-told
-    enum-told-2
-    enum-known-continued
     returns-2
     joined-fits-requires
-    returns-3
-    returns-4
-    returns-5)
+    returns-3)

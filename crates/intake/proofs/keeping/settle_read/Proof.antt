@@ -1,7 +1,6 @@
 -- By what reading on gives; no whole stanza stands there.
 use mathlib.Core.Path.{_≡_, refl, sym, ap, _∙_}
 use mathlib.Core.List.{[]}
-use lib.ListN.{length}
 use native.Mathlib.Omega.{arith}
 use Rattle.session.specs.Session.{sessionOf}
 use denote.Ref.{now}
@@ -9,27 +8,26 @@ use Rattle.refusal.specs.Number.{numberOf}
 use Rattle.stanza.specs.Automaton.{start}
 use Rattle.stanza.specs.Resuming.{placeSaid, continuedSaid}
 use Rattle.stanza.proofs.Laws.Resuming.{whole-iff, unfinished-is}
-use Rattle.chunks.specs.Taking.{noMore, emptied, keeping, behind}
+use Rattle.chunks.proofs.Laws.Taking.{closed-waits}
+use Rattle.chunks.specs.Taking.{emptied, keeping, behind}
 use Rattle.session.specs.Session.{closed}
+use Rattle.intake.specs.Fronts.{inputBehind}
 use Rattle.intake.specs.Intake.{lastSaid}
-use Rattle.intake.proofs.Laws.Keeping.{closed-waits, front-back, filled-empty}
+use Rattle.intake.proofs.Laws.Keeping.{front-back, filled-empty}
 use Rattle.intake.proofs.Laws.Settling.{reads-waits, behind-last, rest-kept, rest-closes}
 use Rattle.refusal.specs.Output.{filled}
 use borrow.Author.Needs.{needs}
 use Rattle.intake.proofs.keeping.settle_read.Statement.{statement}
 use Rattle.intake.proofs.keeping.settle_read.Tie as tie
 
-read-on-requires : tie.Need-read-on-requires
-read-on-requires c κs = search needs
+read-more-requires : tie.Need-read-more-requires
+read-more-requires c κs = search needs
 
 enum-told : tie.Need-enum-told
 enum-told c = search needs
 
 enum-known-continued : tie.Need-enum-known-continued
 enum-known-continued c = search needs
-
-copy-requires : tie.Need-copy-requires
-copy-requires c κs = search needs
 
 keeping-requires : tie.Need-keeping-requires
 keeping-requires c κs = search needs
@@ -49,28 +47,31 @@ keeping-requires-2 c κs = search needs
 settled-requires-2 : tie.Need-settled-requires-2
 settled-requires-2 c κs = search needs
 
-returns : tie.Need-returns
-returns c =
-    let a = c .before .before .before .before .before .before .args in (
-      (λ e xs hs w b m. let h = (whole-iff (now (a .rest)) _) .0 (sym (c .before .before .read-on .ensures) ∙ ap continuedSaid (c .enum-told .given .1)) in absurd (m .no-stanza refl (h .0) (h .1) _ (h .2))),
-      (refl, refl),
-    )
-
 same-length : tie.Need-same-length
 same-length c = search needs
 
+returns : tie.Need-returns
+returns c =
+    let a = c .before .before .before .before .before .before .before .before .before .args in (
+      (λ e xs hs w b m. let h = (whole-iff (now (a .rest)) _) .0 (sym (c .before .before .before .before .read-more .ensures .0) ∙ ap continuedSaid (c .enum-told .given .1)) in absurd (m .no-stanza refl (h .0) (h .1) _ (h .2))),
+      (refl, refl),
+    )
+
+same-length-2 : tie.Need-same-length-2
+same-length-2 c = search needs
+
 returns-2 : tie.Need-returns-2
 returns-2 c =
-    let a = c .before .before .before .before .before .before .before .before .before .before .before .before .before .args in
+    let a = c .before .before .before .before .before .before .before .before .before .before .before .before .args in
     let f = a .so-far in
     let rest = now (a .rest) in
     let o = now (a .input) in
-    let q = c .before .before .before .before .before .before .before .continued .given .0 .0 in
-    let g = sym (c .before .before .before .before .before .before .before .before .before .read-on .ensures) ∙ ap continuedSaid (c .before .before .before .before .before .before .before .continued .given .1) in (
+    let q = c .before .before .before .continued .given .0 .0 in
+    let g = sym (c .before .before .before .before .before .before .before .read-more .ensures .0) ∙ ap continuedSaid (c .before .before .before .continued .given .1) in
+    let x : c .before .before .before .before .before .before .before .read-more .last .1 .1 .1 .0 ≡ filled rest o = c .before .before .before .before .before .before .before .read-more .ensures .1 ∙ ap (λ q. inputBehind (continuedSaid q) 0 rest o) (c .before .before .before .continued .given .1) in (
       (λ e xs hs w b m.
           let s = sessionOf (f .session) xs hs in
           let z = front-back rest o (omega (arith, unfinished-is rest start (placeSaid q) 0 g .1)) (m .long) in
-          let x = c .before .before .before .before .copy .ensures in
           record {
             taken = rw (c .settled .ensures, c .before .keeping .ensures, reads-waits e (f .session .phase) (m .turn), x, z) (sym (ap (behind (f .count) (lastSaid (f .last)) w) (rest-kept e s b rest (m .turn) (placeSaid q) g) ∙ behind-last (f .count) (lastSaid (f .last)) w 0 (keeping s (placeSaid q) rest []) b));
             input = rw (c .settled .ensures, c .before .keeping .ensures, reads-waits e (f .session .phase) (m .turn), x, z);
@@ -78,19 +79,23 @@ returns-2 c =
       (ap (λ r. r .written) (c .settled .ensures), ap (λ r. r .session .name) (c .settled .ensures) ∙ ap (λ s. s .name) (c .before .keeping .ensures)),
     )
 
+same-length-3 : tie.Need-same-length-3
+same-length-3 c = search needs
+
 returns-3 : tie.Need-returns-3
 returns-3 c =
-    let a = c .before .before .before .before .before .before .before .before .before .before .args in
+    let a = c .before .before .before .before .before .before .before .before .before .before .before .before .before .args in
     let f = a .so-far in
     let rest = now (a .rest) in
     let o = now (a .input) in
     let r = c .before .before .before .before .continued2 .given .0 .0 in
-    let g = sym (c .before .before .before .before .before .before .read-on .ensures) ∙ ap continuedSaid (c .before .before .before .before .continued2 .given .1) in (
+    let g = sym (c .before .before .before .before .before .before .before .before .read-more .ensures .0) ∙ ap continuedSaid (c .before .before .before .before .continued2 .given .1) in
+    let x : c .before .before .before .before .before .before .before .before .read-more .last .1 .1 .1 .0 ≡ o = c .before .before .before .before .before .before .before .before .read-more .ensures .1 ∙ ap (λ q. inputBehind (continuedSaid q) 0 rest o) (c .before .before .before .before .continued2 .given .1) in (
       (λ e xs hs w b m.
           let s = sessionOf (f .session) xs hs in
           record {
             taken = rw (c .settled2 .ensures, c .before .keeping2 .ensures, c .before .before .moved .ensures, closed-waits e) (sym (ap (behind (f .count) (lastSaid (f .last)) w) (rest-closes e s b rest (m .turn) (numberOf r) g) ∙ behind-last (f .count) (lastSaid (f .last)) w (numberOf r) (emptied (closed s) []) b));
-            input = rw (c .settled2 .ensures, c .before .keeping2 .ensures, c .before .before .moved .ensures, closed-waits e) (filled-empty o);
+            input = rw (c .settled2 .ensures, c .before .keeping2 .ensures, c .before .before .moved .ensures, closed-waits e) (x ∙ filled-empty o);
           }),
       (ap (λ r. r .written) (c .settled2 .ensures), ap (λ r. r .session .name) (c .settled2 .ensures) ∙ ap (λ s. s .name) (c .before .keeping2 .ensures) ∙ ap (λ s. s .name) (c .before .before .moved .ensures)),
     )
@@ -99,17 +104,18 @@ pub settle-read-spec : {M : Type 1} → statement M
 settle-read-spec =
     tie.close
     (tie.spec
-    read-on-requires
+    read-more-requires
     enum-told
     enum-known-continued
-    copy-requires
     keeping-requires
     settled-requires
     enum-known-continued-2
     moved-requires
     keeping-requires-2
     settled-requires-2
-    returns
     same-length
+    returns
+    same-length-2
     returns-2
+    same-length-3
     returns-3)

@@ -1,6 +1,5 @@
 -- By what the chunk reads as: it is settled where no whole stanza stands in it, else the first is the response.
-use Prim.Native.Nat.{min}
-use mathlib.Core.Path.{_≡_, refl, sym, ap, _∙_}
+use mathlib.Core.Path.{_≡_, refl, sym, ap, subst, _∙_}
 use mathlib.Core.List.{[]}
 use native.Mathlib.Omega.{arith}
 use denote.Ref.{now}
@@ -8,12 +7,15 @@ use Rattle.refusal.specs.Number.{numberOf}
 use Rattle.stanza.specs.Reading.{readSaid, readFirst, stanza, refused}
 use Rattle.stanza.proofs.Laws.Exact.{taken-iff}
 use Rattle.session.specs.Session.{Carried, sessionOf}
-use Rattle.chunks.specs.Taking.{plugin, turnAt, behind, takenText}
+use Rattle.chunks.specs.Taking.{plugin, reads, turnAt, behind, takenText}
 use Rattle.chunks.specs.Chunks.{taken}
 use Rattle.intake.specs.Intake.{intakeOf, lastSaid}
+use Rattle.intake.specs.Settling.{MaySettle}
 use Rattle.intake.specs.declared.answers.Received.{Received}
-use Rattle.plugin_receiving.proofs.Laws.Commands.{says-same, chunk-begins}
-use Rattle.plugin_receiving.proofs.Laws.Responses.{noBuffers, filled-own, says-judged, may-settle-due, begun-settled}
+use Rattle.intake.proofs.Laws.Keeping.{stored-own}
+use Rattle.intake.proofs.Laws.Fronts.{says-judged}
+use Rattle.plugin_receiving.proofs.Laws.Commands.{says-same, chunk-begun}
+use Rattle.plugin_receiving.proofs.Laws.Responses.{noBuffers, may-settle-due, begun-settled}
 use borrow.Author.Needs.{needs}
 use Rattle.plugin_receiving.proofs.responding.receive_begun.Statement.{statement}
 use Rattle.plugin_receiving.proofs.responding.receive_begun.Tie as tie
@@ -23,6 +25,9 @@ read-requires c κs = search needs
 
 enum-told : tie.Need-enum-told
 enum-told c = search needs
+
+begin-requires : tie.Need-begin-requires
+begin-requires c κs = search needs
 
 slice-aggregate-settle : tie.Need-slice-aggregate-settle
 slice-aggregate-settle c = search needs
@@ -38,7 +43,7 @@ receive-stanza-requires c κs = sym (c .before .before .before .before .read .en
 
 sub-left : tie.Need-sub-left
 sub-left c =
-    let a = c .before .before .before .before .before .before .before .before .before .before .before .before .before .args in
+    let a = c .before .before .before .before .before .before .before .before .before .before .before .before .args in
     let v = c .before .before .before .before .before .before .first .given .0 .0 in
     omega (arith, taken-iff (now (a .chunk)) (v .taken) .0 (v .line, v .body, sym (c .before .before .before .before .before .before .before .before .read .ensures) ∙ ap readSaid (c .before .before .before .before .before .before .first .given .1)) .within)
 
@@ -53,17 +58,17 @@ returns c =
     let a = c .before .before .before .before .before .before .before .before .before .before .before .before .args in
     let p = c .before .before .before .before .before .before .before .before .before .before .before .before .pre in
     let n = c .before .before .settle in
-    let reading : readFirst (now (a .chunk)) ≡ refused (numberOf (c .before .before .before .before .before .enum-told .given .0 .0)) = sym (c .before .before .before .before .before .before .before .read .ensures) ∙ ap readSaid (c .before .before .before .before .before .enum-told .given .1) in
-    let may = may-settle-due (a .so-far .session) (a .word) (p .0) (now (a .input)) (p .1 .0) (now (a .chunk)) _ reading in (
+    let e = c .before .before .before .before .before .begin .ensures in
+    let reading : readFirst (now (a .chunk)) ≡ refused (numberOf (c .before .before .before .before .before .before .enum-told .given .0 .0)) = sym (c .before .before .before .before .before .before .before .before .read .ensures) ∙ ap readSaid (c .before .before .before .before .before .before .enum-told .given .1) in
+    let may = subst (λ (r : Received). MaySettle plugin (r .session .phase) reads [] (now (a .chunk)) (now (a .input))) (sym e) (may-settle-due (a .session) (a .word) (p .0) (now (a .input)) (p .1 .0) (now (a .chunk)) _ reading) in (
       λ xs hs b.
-          let i = intakeOf plugin (a .so-far .session) xs hs (now (a .input)) in
-          let t = takenText plugin (sessionOf (a .so-far .session) xs hs) b [] (now (a .chunk)) in
-          says-judged (n .result) xs hs (now (a .input)) (n .last .1 .1 .1 .1 .0) (now (a .out)) b i (taken plugin i b (now (a .chunk)))
+          let i = intakeOf plugin (a .session) xs hs (now (a .input)) in
+          says-judged plugin (n .result) xs hs (now (a .input)) (n .last .1 .1 .1 .1 .0) (now (a .out)) b i b (taken plugin i b (now (a .chunk)))
           (says-same (n .result) xs hs (now (a .input)) (now (a .input)) (n .last .1 .1 .1 .1 .0) b _ _ refl
-          (ap (λ (r : Received). behind (r .count) (lastSaid (r .last)) [] t) (p .1 .1 .0) ∙ chunk-begins (a .so-far .session) xs hs (now (a .input)) (p .1 .0) (ap (turnAt plugin) (p .0)) (now (a .chunk)) b (p .1 .1 .1))
+          (ap (λ (r : Received). behind (r .count) (lastSaid (r .last)) [] (takenText plugin (sessionOf (r .session) xs hs) b [] (now (a .chunk)))) e ∙ chunk-begun (a .session) xs hs (now (a .input)) (ap (turnAt plugin) (p .0)) (now (a .chunk)) b (p .1 .1))
           (n .ensures .0 plugin xs hs [] b may))
-          (n .ensures .1 .0 ∙ ap (λ (r : Received). r .written) (p .1 .1 .0)),
-      (λ xs hs. n .ensures .0 plugin xs hs [] noBuffers may .input, n .ensures .1 .1),
+          (n .ensures .1 .0 ∙ ap (λ (r : Received). r .written) e),
+      (λ xs hs. n .ensures .0 plugin xs hs [] noBuffers may .input, n .ensures .1 .1 ∙ ap (λ (r : Received). r .session .name) e),
     )
 
 same-length-2 : tie.Need-same-length-2
@@ -71,13 +76,13 @@ same-length-2 c = search needs
 
 returns-2 : tie.Need-returns-2
 returns-2 c =
-    let a = c .before .before .before .before .before .before .before .before .before .before .before .before .before .before .args in
-    let p = c .before .before .before .before .before .before .before .before .before .before .before .before .before .before .pre in
+    let a = c .before .before .before .before .before .before .before .before .before .before .before .before .before .args in
+    let p = c .before .before .before .before .before .before .before .before .before .before .before .before .before .pre in
     let v = c .before .before .before .before .before .before .before .first .given .0 .0 in
     let n = c .before .before .before .before .receive-stanza in
     let reading : readFirst (now (a .chunk)) ≡ stanza (v .line) (v .body) (v .taken) = sym (c .before .before .before .before .before .before .before .before .before .read .ensures) ∙ ap readSaid (c .before .before .before .before .before .before .before .first .given .1) in (
-      λ xs hs b. c .settle-response .ensures .0 xs hs (now (a .input)) b _ ∙ begun-settled (a .so-far .session) (a .word) (p .0) (now (a .input)) (p .1 .0) (now (a .chunk)) xs hs b (n .result) (now (a .out)) _ (p .1 .1 .1) (v .line) (v .body) (v .taken) reading (n .ensures .0 xs hs),
-      (λ xs hs. filled-own (min (c .settle-response .result .session .kept) 8191) (now (a .input)), c .settle-response .ensures .1),
+      λ xs hs b. c .settle-response .ensures .0 xs hs (now (a .input)) b _ ∙ begun-settled (a .session) (a .word) (p .0) (now (a .input)) (p .1 .0) (now (a .chunk)) xs hs b (n .result) (now (a .out)) _ (p .1 .1) (v .line) (v .body) (v .taken) reading (n .ensures .0 xs hs),
+      (λ xs hs. sym (stored-own plugin (c .settle-response .result .session) xs hs (now (a .input))), c .settle-response .ensures .1),
     )
 
 pub receive-begun-spec : {M : Type 1} → statement M
@@ -86,6 +91,7 @@ receive-begun-spec =
     (tie.spec
     read-requires
     enum-told
+    begin-requires
     slice-aggregate-settle
     settle-requires
     enum-known-first

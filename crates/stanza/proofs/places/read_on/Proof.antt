@@ -1,18 +1,12 @@
 -- Invariant: reading on from the place behind i bytes, with those counted, gives what it gives of all; the bytes looked at end where 8,192 have passed.
 use Prim.Native.Nat.{_+_, _-_, _≤_}
 use mathlib.Core.Path.{_≡_, refl, sym, _∙_}
-use mathlib.Core.List.{[], _∷_}
 use lib.ListN.{drop}
 use native.Mathlib.Nat.{add-zero}
 use native.Mathlib.Omega.{arith}
-use denote.Enum.Declared.{tagOf}
-use types.Run.{OneOf, miss}
 use borrow.Author.Needs.{needs}
-use Rattle.stanza.specs.declared.places.Place.{Place}
-use Rattle.stanza.specs.declared.places.Place.the-variants as place
-use Rattle.stanza.specs.Resuming.{placeSaid, Continued, behind, led, continued}
-use Rattle.stanza.proofs.places.Place.{the-type}
-use Rattle.stanza.proofs.Laws.Resuming.{behind-none, behind-behind, continued-over, continued-end, continued-at}
+use Rattle.stanza.specs.Resuming.{placeSaid, behind, led, continued}
+use Rattle.stanza.proofs.Laws.Resuming.{goes-on, behind-none, behind-behind, continued-over, continued-end, continued-at}
 use Rattle.stanza.proofs.places.read_on.Statement.{statement}
 use Rattle.stanza.proofs.places.read_on.Tie as tie
 
@@ -22,18 +16,6 @@ Inv-loop kept bytes left n at₀ i₀ at i =
 
 abbrev μ-loop : tie.MeasureT-loop
 μ-loop kept bytes left n at₀ i₀ at i = n - i
-
--- a place that is neither dead nor ended
-goes-on : (p : Place) (rest : Continued) → OneOf (0 ∷ 1 ∷ 2 ∷ 3 ∷ 4 ∷ 5 ∷ []) (tagOf the-type p) → led (placeSaid p) rest ≡ behind 1 rest
-unfolding led
-goes-on place.Start rest h = refl
-goes-on place.Hyphen rest h = refl
-goes-on place.Arrow rest h = refl
-goes-on place.Gap rest h = refl
-goes-on place.Word rest h = refl
-goes-on (place.Line k last) rest h = refl
-goes-on place.Ended rest h = absurd (miss (0 ∷ 1 ∷ 2 ∷ 3 ∷ 4 ∷ 5 ∷ []) 6 tt h)
-goes-on place.Dead rest h = absurd (miss (0 ∷ 1 ∷ 2 ∷ 3 ∷ 4 ∷ 5 ∷ []) 7 tt h)
 
 least-requires : tie.Need-least-requires Inv-loop μ-loop
 least-requires c κs = search needs

@@ -1,6 +1,7 @@
+-- Each place; only at the start can there be no byte of a stanza.
 use borrow.Author.Needs.{needs}
-use Rattle.plugin_receiving.proofs.fronts.begins.Statement.{statement}
-use Rattle.plugin_receiving.proofs.fronts.begins.Tie as tie
+use Rattle.intake.proofs.keeping.is_between.Statement.{statement}
+use Rattle.intake.proofs.keeping.is_between.Tie as tie
 
 enum-told : tie.Need-enum-told
 enum-told c = search needs
@@ -50,8 +51,8 @@ returns-7 c = search needs
 returns-8 : tie.Need-returns-8
 returns-8 c = search needs
 
-pub begins-spec : {M : Type 1} → statement M
-begins-spec =
+pub is-between-spec : {M : Type 1} → statement M
+is-between-spec =
     tie.close
     (tie.spec
     enum-told
