@@ -1,6 +1,5 @@
 -- By the place that the byte leads to (`one-byte`).
 use mathlib.Core.Path.{sym, ap, _∙_}
-use Rattle.stanza.specs.Automaton.{next}
 use Rattle.stanza.specs.Resuming.{placeSaid, unfinished, behind, led}
 use Rattle.stanza.proofs.Laws.Resuming.{goes-on, one-byte}
 use borrow.Author.Needs.{needs}

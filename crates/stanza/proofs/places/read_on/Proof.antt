@@ -1,6 +1,6 @@
 -- Invariant: reading on from the place behind i bytes, with those counted, gives what it gives of all; the bytes looked at end where 8,192 have passed.
 use Prim.Native.Nat.{_+_, _-_, _≤_}
-use mathlib.Core.Path.{_≡_, refl, sym, _∙_}
+use mathlib.Core.Path.{_≡_, sym, _∙_}
 use lib.ListN.{drop}
 use native.Mathlib.Nat.{add-zero}
 use native.Mathlib.Omega.{arith}
