@@ -1,4 +1,4 @@
--- An identity file's commands as a plugin session receives them (document 02, No. 8: each valid line "is written as an add-identity command .. ended by done").
+-- An identity file's commands as a plugin session receives them (document 02, No. 8: "Reading that transcript back, with room enough, gives exactly those identities").
 use mathlib.Core.Path.{_≡_}
 use mathlib.Core.Bool.{false}
 use mathlib.Core.List.{List, [], map}

@@ -15,7 +15,7 @@ use Rattle.bech32.specs.Text as bech32
 use Rattle.bech32.specs.Text.{parse}
 use Rattle.tables.specs.Tables.{Row}
 use Rattle.phase_one.specs.Commands as one-command
-use Rattle.phase_one.specs.Commands.{CommandOne, identity, done, bad, wordIn, rowCommand, payloadOf}
+use Rattle.phase_one.specs.Commands.{identity, done, bad, wordIn, rowCommand, payloadOf}
 use Rattle.phase_one.specs.PhaseOne.{BuffersOne, commandIn, payloadIn}
 use Rattle.phase_one.specs.Views.{KindOne, recipients, identities, keys, headers, bufferOf, rowsOf}
 use Rattle.session.specs.declared.opening.Machine.{Machine}
@@ -25,13 +25,12 @@ use Rattle.conversation.specs.Phases as phases
 use Rattle.conversation.specs.Phases.{All, Whole, lineIn, bodyIn, isDone, rowsFrom, one-part, Block, Phase, blocksOf, textsOf, Quiet, IsPhase}
 use Rattle.conversation.specs.Shapes.{BeginsWhole, ShapedOne}
 use Rattle.conversation.specs.WrittenRead.{ReadsBack}
-use Rattle.conversation.proofs.Laws.Lists.{all-append}
 use Rattle.conversation.proofs.Laws.WrittenRead.{reads-back}
 use Rattle.chunks.specs.Taking.{joined}
 use Rattle.chunks.proofs.Laws.Written.{back-whole}
 use Rattle.identity_file.specs.Files.{addIdentity, doneWord, commandOf, commandsOf, transcript}
 use Rattle.identity_file_back.specs.ReadBack.{entryOf}
-use Rattle.identity_file_back.proofs.Laws.Texts.{Argument, word, command-words, command-writable, done-writable}
+use Rattle.identity_file_back.proofs.Laws.Texts.{Argument, command-words, command-writable, done-writable}
 
 -- ---- one text
 

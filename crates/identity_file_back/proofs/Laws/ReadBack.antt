@@ -4,16 +4,14 @@ use mathlib.Core.Path.{_≡_, refl, sym, ap, ap₂, subst, _∙_}
 use mathlib.Core.Bool.{Bool, true, false}
 use mathlib.Core.Logic.{inl}
 use mathlib.Core.List.{List, [], _∷_, _++_, map}
-use lib.Dec.{ltb}
 use lib.ListN.{length, take, drop}
 use lib.Seq.{take-append-seam}
 use native.Mathlib.Omega.{arith}
 use borrow.Author.Tests.{ltb-false}
-use Rattle.refusal.specs.Output.{Answer, bytes, refused, overflows, answered, filled}
+use Rattle.refusal.specs.Output.{bytes, refused, overflows, filled}
 use Rattle.refusal.specs.Pick.{pick}
 use Rattle.stanza.specs.Automaton.{start}
-use Rattle.phase_one.specs.Views as one-kind
-use Rattle.phase_one.specs.Views.{KindOne, recipients, identities, keys, headers}
+use Rattle.phase_one.specs.Views.{recipients, identities, keys, headers}
 use Rattle.session.specs.declared.opening.Machine.{Machine}
 use Rattle.session.specs.declared.phases.Phase.the-variants.{Two}
 use Rattle.tables.specs.Tables.{view}
@@ -37,7 +35,7 @@ use Rattle.identity_file.specs.Files.{validBy, validIn, transcript, transcriptO
 use Rattle.identity_file_back.specs.ReadBack.{justOpened, entryOf, ReadsBack}
 use Rattle.identity_file_back.proofs.Laws.Taking.{came}
 use Rattle.identity_file_back.proofs.Laws.Texts.{Argument, valid-argument}
-use Rattle.identity_file_back.proofs.Laws.Phase.{textsFor, written-joined, texts-whole, texts-shaped, rowsFor, texts-rows, texts-allowed, phaseFor, phase-texts, is-phase}
+use Rattle.identity_file_back.proofs.Laws.Phase.{textsFor, written-joined, texts-whole, texts-shaped, texts-rows, texts-allowed, phaseFor, phase-texts, is-phase}
 
 -- ---- a stanza to a call
 

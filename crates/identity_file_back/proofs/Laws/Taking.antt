@@ -2,7 +2,7 @@
 use Prim.Native.Nat.{ℕ, _≤_}
 use mathlib.Core.Path.{_≡_, refl, sym, ap, subst, _∙_}
 use mathlib.Core.Bool.{true, false, false≢true}
-use mathlib.Core.Logic.{_⊎_, inl, inr, ⊎-elim}
+use mathlib.Core.Logic.{_⊎_, inl, inr}
 use mathlib.Core.List.{List, [], _∷_, _++_, map, map-append}
 use lib.Dec.{T}
 use lib.ListN.{length}
@@ -23,7 +23,7 @@ use Rattle.conversation.proofs.Laws.Accepted.{accepted}
 use Rattle.conversation.proofs.Laws.Runs.{after-append, accepted-append}
 use Rattle.chunks.specs.Cutting.{Rest, unfinished, impossible, bytesOf, Cut, cut}
 use Rattle.chunks.specs.Taking.{client, plugin, drops, turnAt, stanzaCall, Intake, Taken, takenRest, takenAll, joined}
-use Rattle.chunks.specs.Chunks.{Outcome, taken, turnOf, chunked}
+use Rattle.chunks.specs.Chunks.{taken, turnOf, chunked}
 use Rattle.chunks.specs.Uncut.{Piece, chunk, reply, after, numbers, textIn, isReply, isWaiting, isClosed}
 use Rattle.chunks.proofs.Laws.Bounds.{plugin-kept}
 use Rattle.chunks.proofs.Laws.Cases.{drops-not-reads, keeps-not-reads, stanza-cases, chunk-cases, isTurned}

@@ -1,22 +1,20 @@
 -- A valid line has bytes from 33 to 126 only, as a name, the separator and the alphabet have: so its command is a whole stanza, and brings an identity to either machine.
 use Prim.Native.Nat.{ℕ, _+_, _-_, _<_, _≤_}
 use mathlib.Core.Path.{_≡_, refl, sym, ap, subst, _∙_}
-use mathlib.Core.Bool.{true, false, _&&_, _||_, false≢true}
+use mathlib.Core.Bool.{true, false, _&&_, false≢true}
 use mathlib.Core.Logic.{_⊎_, inl, inr}
-use mathlib.Core.List.{List, [], _∷_, _++_, map, append-nil}
-use lib.Dec.{eqb, ltb, leb}
-use lib.ListN.{length, getD, length-append}
+use mathlib.Core.List.{List, [], _∷_, _++_, map}
+use lib.Dec.{ltb, leb}
+use lib.ListN.{length, length-append}
 use native.Mathlib.Omega.{arith}
-use borrow.Author.Tests.{eqb-true, leb-true, le-leb, leb-false, lt-leb, ltb-true, ne-eqb}
-use Rattle.refusal.specs.Pick.{pick}
+use borrow.Author.Tests.{le-leb, leb-false, lt-leb, ltb-true, ne-eqb}
 use Rattle.refusal.specs.Run.{all}
-use Rattle.refusal.specs.Same.{same}
 use Rattle.refusal.proofs.Laws.Below.{below}
 use Rattle.refusal.proofs.Laws.Booleans.{T-true, and-true, true-and, cases}
 use Rattle.refusal.proofs.Laws.Run.{all-append, all-wider}
 use Rattle.base64.specs.Code.{encoded}
 use Rattle.base64.specs.Lines.{wrapped}
-use Rattle.stanza.specs.Arguments.{isGraphic, words, before, isArgument, areArguments, isLine, countOf, argumentOf}
+use Rattle.stanza.specs.Arguments.{isGraphic, words, before, isArgument, areArguments, isLine}
 use Rattle.stanza.specs.Grammar.{stanzaText}
 use Rattle.stanza.specs.Writing.{isWritable}
 use Rattle.stanza.proofs.Laws.Arguments.{graphic-no-space}
@@ -26,12 +24,12 @@ use Rattle.symbols.specs.Regroup.{symbols}
 use Rattle.symbols.proofs.Laws.Charset.{lower-bounds}
 use Rattle.symbols.proofs.Laws.Checksum.{six-lt}
 use Rattle.symbols.proofs.Laws.Regroup.{symbols-small}
-use Rattle.bech32.specs.Calls.{textNumber, markOf}
+use Rattle.bech32.specs.Calls.{textNumber}
 use Rattle.bech32.specs.Text as bech32
 use Rattle.bech32.specs.Text.{isNameByte, isName, humanPart, plainText, Parsed, parsed, none, parse, Read}
 use Rattle.bech32.proofs.Laws.Text.{text-parse}
 use Rattle.identity_file.specs.Kinds.{valid, kindOf}
-use Rattle.identity_file.specs.Files.{addIdentity, doneWord, commandOf}
+use Rattle.identity_file.specs.Files.{addIdentity, doneWord}
 use Rattle.identity_file.proofs.Laws.Kinds.{judgement}
 
 -- ---- the bytes of a valid line
