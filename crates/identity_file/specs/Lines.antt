@@ -19,7 +19,7 @@ lines (b ∷ t) = pick (eqb b 10) ([] ∷ lines t) (before b (lines t))
 abbrev pub isLineByte : ℕ → Bool
 isLineByte b = not (eqb b 10)
 
--- the text has no LF that its last line lacks
+-- the text is empty, or its last byte is LF
 unfoldable pub isEnded : List ℕ → Bool
 isEnded [] = true
 isEnded (b ∷ []) = eqb b 10
@@ -30,9 +30,9 @@ abbrev pub ended : List ℕ → List ℕ
 ended t = pick (isEnded t) t (t ++ 10 ∷ [])
 
 -- each line with its LF, one behind the other
-unfoldable pub joined : List (List ℕ) → List ℕ
-joined [] = []
-joined (l ∷ ls) = l ++ 10 ∷ joined ls
+unfoldable pub unlines : List (List ℕ) → List ℕ
+unlines [] = []
+unlines (l ∷ ls) = l ++ 10 ∷ unlines ls
 
 -- none of them has an LF
 unfoldable pub areLines : List (List ℕ) → Type 0
@@ -41,5 +41,5 @@ areLines (l ∷ ls) = (all isLineByte l ≡ true) × areLines ls
 
 -- the lines partition the text
 pub record Partition (t : List ℕ) (ls : List (List ℕ)) : Type 0 where
-  pub whole : joined ls ≡ ended t
+  pub whole : unlines ls ≡ ended t
   pub apart : areLines ls

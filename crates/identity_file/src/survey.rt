@@ -30,6 +30,7 @@ fn put_pair(pairs: &mut [[usize; 2]], i: usize, a: usize, b: usize)
     pairs[i] = pair;
 }
 
+// The same number, as an index.
 fn wide(n: u8) -> usize
     ensures { λ r. ⌜ r ≡ n ⌝ }
 {
