@@ -30,9 +30,9 @@ abbrev pub ended : List ℕ → List ℕ
 ended t = pick (isEnded t) t (t ++ 10 ∷ [])
 
 -- each line with its LF, one behind the other
-unfoldable pub unlines : List (List ℕ) → List ℕ
-unlines [] = []
-unlines (l ∷ ls) = l ++ 10 ∷ unlines ls
+unfoldable pub textOfLines : List (List ℕ) → List ℕ
+textOfLines [] = []
+textOfLines (l ∷ ls) = l ++ 10 ∷ textOfLines ls
 
 -- none of them has an LF
 unfoldable pub areLines : List (List ℕ) → Type 0
@@ -41,5 +41,5 @@ areLines (l ∷ ls) = (all isLineByte l ≡ true) × areLines ls
 
 -- the lines partition the text
 pub record Partition (t : List ℕ) (ls : List (List ℕ)) : Type 0 where
-  pub whole : unlines ls ≡ ended t
+  pub whole : textOfLines ls ≡ ended t
   pub apart : areLines ls

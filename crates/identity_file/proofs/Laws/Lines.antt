@@ -13,16 +13,16 @@ use Rattle.refusal.specs.Run.{all, run}
 use Rattle.refusal.proofs.Laws.Booleans.{cases}
 use Rattle.refusal.proofs.Laws.Run.{run-le}
 use Rattle.stanza.specs.Arguments.{before}
-use Rattle.identity_file.specs.Lines.{lines, isLineByte, isEnded, ended, unlines, areLines, Partition}
+use Rattle.identity_file.specs.Lines.{lines, isLineByte, isEnded, ended, textOfLines, areLines, Partition}
 use Rattle.identity_file.specs.Steps.{lineEnd, nextLine}
 
 -- ---- the lines partition the text
 
 -- a byte before the first line of some lines, of which there is one
-unlines-before : (b : ℕ) (ls : List (List ℕ)) (c : ℕ) (t : List ℕ) → unlines ls ≡ c ∷ t → unlines (before b ls) ≡ b ∷ c ∷ t
-unfolding unlines before
-unlines-before b [] c t h = let z : _≡_ {A = ℕ} 0 1 = cc in absurd (omega arith)
-unlines-before b (l ∷ ls) c t h = ap (λ x. b ∷ x) h
+text-before : (b : ℕ) (ls : List (List ℕ)) (c : ℕ) (t : List ℕ) → textOfLines ls ≡ c ∷ t → textOfLines (before b ls) ≡ b ∷ c ∷ t
+unfolding textOfLines before
+text-before b [] c t h = let z : _≡_ {A = ℕ} 0 1 = cc in absurd (omega arith)
+text-before b (l ∷ ls) c t h = ap (λ x. b ∷ x) h
 
 apart-before : (b : ℕ) (ls : List (List ℕ)) → eqb b 10 ≡ false → areLines ls → areLines (before b ls)
 unfolding areLines before all
@@ -30,17 +30,17 @@ apart-before b [] e h = (rw e, tt)
 apart-before b (l ∷ ls) e h = (rw e (h .0), h .1)
 
 -- a byte before a text, behind whose lines there is an LF or is none
-unlines-more : (b c : ℕ) (t : List ℕ) (f : Bool) → unlines (lines (c ∷ t)) ≡ pick f (c ∷ t) (c ∷ t ++ 10 ∷ []) →
-    (b ≡ 10 → 10 ∷ unlines (lines (c ∷ t)) ≡ pick f (b ∷ c ∷ t) (b ∷ c ∷ t ++ 10 ∷ [])) × (unlines (before b (lines (c ∷ t))) ≡ pick f (b ∷ c ∷ t) (b ∷ c ∷ t ++ 10 ∷ []))
-unlines-more b c t true h = (λ e. ap₂ (λ x y. x ∷ y) (sym e) h, unlines-before b (lines (c ∷ t)) c t h)
-unlines-more b c t false h = (λ e. ap₂ (λ x y. x ∷ y) (sym e) h, unlines-before b (lines (c ∷ t)) c (t ++ 10 ∷ []) h)
+text-more : (b c : ℕ) (t : List ℕ) (f : Bool) → textOfLines (lines (c ∷ t)) ≡ pick f (c ∷ t) (c ∷ t ++ 10 ∷ []) →
+    (b ≡ 10 → 10 ∷ textOfLines (lines (c ∷ t)) ≡ pick f (b ∷ c ∷ t) (b ∷ c ∷ t ++ 10 ∷ [])) × (textOfLines (before b (lines (c ∷ t))) ≡ pick f (b ∷ c ∷ t) (b ∷ c ∷ t ++ 10 ∷ []))
+text-more b c t true h = (λ e. ap₂ (λ x y. x ∷ y) (sym e) h, text-before b (lines (c ∷ t)) c t h)
+text-more b c t false h = (λ e. ap₂ (λ x y. x ∷ y) (sym e) h, text-before b (lines (c ∷ t)) c (t ++ 10 ∷ []) h)
 
-unlines-lines : (t : List ℕ) → unlines (lines t) ≡ ended t
-unfolding unlines lines isEnded before
-unlines-lines [] = refl
-unlines-lines (b ∷ []) = cases (eqb b 10) (λ e. rw e (ap (λ x. x ∷ []) (sym (eqb-true b 10 e)))) (λ e. rw e)
-unlines-lines (b ∷ c ∷ t) =
-    let m = unlines-more b c t (isEnded (c ∷ t)) (unlines-lines (c ∷ t)) in
+text-lines : (t : List ℕ) → textOfLines (lines t) ≡ ended t
+unfolding textOfLines lines isEnded before
+text-lines [] = refl
+text-lines (b ∷ []) = cases (eqb b 10) (λ e. rw e (ap (λ x. x ∷ []) (sym (eqb-true b 10 e)))) (λ e. rw e)
+text-lines (b ∷ c ∷ t) =
+    let m = text-more b c t (isEnded (c ∷ t)) (text-lines (c ∷ t)) in
     cases (eqb b 10) (λ e. rw e (m .0 (eqb-true b 10 e))) (λ e. rw e (m .1))
 
 apart-lines : (t : List ℕ) → areLines (lines t)
@@ -49,7 +49,7 @@ apart-lines [] = tt
 apart-lines (b ∷ t) = cases (eqb b 10) (λ e. rw e (refl, apart-lines t)) (λ e. rw e (apart-before b (lines t) e (apart-lines t)))
 
 pub partition : (t : List ℕ) → Partition t (lines t)
-partition t = record { whole = unlines-lines t; apart = apart-lines t }
+partition t = record { whole = text-lines t; apart = apart-lines t }
 
 -- ---- one line at a time
 
