@@ -69,7 +69,7 @@ abbrev Shape : SessionPhase → List (List ℕ) → Type 0
 Shape q ts = ((q ≡ Two) × ShapedOne ts) ⊎ ((q ≡ One) × FrontOne ts)
 
 -- behind done no text is accepted
-none-behind : (s : Session) (b : Buffers) (ts : List (List ℕ)) → s .phase ≡ Two → Accepted s b (map receive ts) → ts ≡ []
+pub none-behind : (s : Session) (b : Buffers) (ts : List (List ℕ)) → s .phase ≡ Two → Accepted s b (map receive ts) → ts ≡ []
 unfolding AllZero numbers
 none-behind s b [] p a = refl
 none-behind s b (t ∷ ts) p a = let q = accepted s b (receive t) (a .0) .applied .turn in let z : _≡_ {A = ℕ} 0 1 = cc in absurd (omega arith)

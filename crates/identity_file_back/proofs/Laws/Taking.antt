@@ -21,6 +21,7 @@ use Rattle.conversation.specs.Kinds.{Buffers}
 use Rattle.conversation.specs.Phases.{All, lineIn, bodyIn}
 use Rattle.conversation.proofs.Laws.Accepted.{accepted}
 use Rattle.conversation.proofs.Laws.Runs.{after-append, accepted-append}
+use Rattle.conversation.proofs.Laws.ShapesOne.{none-behind}
 use Rattle.chunks.specs.Cutting.{Rest, unfinished, impossible, bytesOf, Cut, cut}
 use Rattle.chunks.specs.Taking.{client, plugin, drops, turnAt, stanzaCall, Intake, Taken, takenRest, takenAll, joined}
 use Rattle.chunks.specs.Chunks.{taken, turnOf, chunked}
@@ -123,12 +124,6 @@ pub record Came (i : Intake) (b : Buffers) (cs : List Piece) (ts : List (List �
   pub accepted : AllZero (numbers plugin i b cs)
   pub session : after plugin i b cs .intake .session ≡ one-call.after (i .session) b (map receive ts) .session
   pub buffers : after plugin i b cs .buffers ≡ one-call.after (i .session) b (map receive ts) .buffers
-
--- nothing is accepted in phase two
-none-behind : (s : Session) (b : Buffers) (ts : List (List ℕ)) → s .phase ≡ Two → Accepted s b (map receive ts) → ts ≡ []
-unfolding AllZero one-call.numbers
-none-behind s b [] p a = refl
-none-behind s b (t ∷ ts) p a = let q = turn-one s b t (a .0) in let z : _≡_ {A = ℕ} 0 1 = cc in absurd (omega arith)
 
 nothing-left : (f y : List ℕ) → [] ≡ f ++ y → (f ≡ []) × (y ≡ [])
 nothing-left [] y h = (refl, sym h)
