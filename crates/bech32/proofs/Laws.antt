@@ -3,3 +3,4 @@ pub mod Parsing
 pub mod Writing
 pub mod Human
 pub mod Calls
+pub mod Faults

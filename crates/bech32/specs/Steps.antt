@@ -1,16 +1,16 @@
 -- What the private functions ask of the table and the buffers that they are lent, and what they work out. Nobody has to believe this: each caller shows it.
 use Prim.Native.Nat.{ℕ, _-_, _<_}
 use mathlib.Core.Path.{_≡_}
-use mathlib.Core.Bool.{_&&_}
+use mathlib.Core.Bool.{Bool, _&&_}
 use mathlib.Core.List.{List, [], _++_, map}
 use lib.Dec.{leb}
 use lib.ListN.{length, take, drop, getD}
 use Rattle.refusal.specs.Pick.{pick}
 use Rattle.refusal.specs.Same.{same}
 use Rattle.symbols.specs.Charset.{characterOf, lower, upper}
-use Rattle.symbols.specs.Checksum.{polymod, checksum}
-use Rattle.symbols.specs.Regroup.{symbols}
-use Rattle.bech32.specs.Text.{Form, isName, isHuman, nameIn, isText, humanIn}
+use Rattle.symbols.specs.Checksum.{polymod, checksum, areSymbols}
+use Rattle.symbols.specs.Regroup.{symbols, isWhole}
+use Rattle.bech32.specs.Text.{Form, isName, isHuman, nameIn, humanIn, isCased, separator, valuesIn, payloadIn, isClosed}
 
 -- a byte in the form's case
 abbrev pub casedByte : Form → ℕ → ℕ
@@ -40,6 +40,14 @@ nameBetween front back h = pick (same h (front ++ between front back h ++ back) 
 abbrev pub nameOr : Form → List ℕ → List ℕ
 nameOr k h = pick (isHuman k h) (nameIn k h) []
 
--- the name of a text of the form, empty where it is none
-abbrev pub nameOf : Form → List ℕ → List ℕ
-nameOf k t = pick (isText k t) (nameIn k (humanIn (map lower t))) []
+-- what stands before the tail is that of a text of the form: at most 1,024 characters, none of the wrong case, six behind the separator, and the human part
+unfoldable pub hasHead : Form → List ℕ → Bool
+hasHead k t = leb (length t) 1024 && isCased k t && leb 7 (length t - separator t) && isHuman k (humanIn (map lower t))
+
+-- the name there, empty where there is none
+abbrev pub nameAt : Form → List ℕ → List ℕ
+nameAt k t = pick (hasHead k t) (nameIn k (humanIn (map lower t))) []
+
+-- the number of a tail in lower case: a byte outside the alphabet, the checksum, the bits left over
+abbrev pub tailNumber : List ℕ → ℕ
+tailNumber l = pick (areSymbols (valuesIn l)) (pick (isClosed l) (pick (isWhole (payloadIn l)) 0 22) 21) 16

@@ -1,5 +1,5 @@
 -- Recipients and identities as texts (document 01, "Recipients and identities").
-use Prim.Native.Nat.{ℕ, suc, _+_, _-_, _≤_}
+use Prim.Native.Nat.{ℕ, suc, _+_, _-_, _≤_, min}
 use mathlib.Core.Path.{_≡_}
 use mathlib.Core.Bool.{Bool, true, false, _&&_, _||_, not}
 use mathlib.Core.List.{List, [], _∷_, _++_, map}
@@ -7,9 +7,10 @@ use lib.Dec.{leb, ltb, eqb}
 use lib.ListN.{length, take, drop}
 use lib.Pow.{areBytes}
 use Rattle.refusal.specs.Pick.{pick}
-use Rattle.refusal.specs.Run.{all}
+use Rattle.refusal.specs.Run.{all, run, isGraphic}
 use Rattle.refusal.specs.Same.{same}
 use Rattle.symbols.specs.Charset.{valueOf, characterOf, isUpper, isLower, lower, upper}
+use Rattle.symbols.specs.Calls.{valueAt}
 use Rattle.symbols.specs.Checksum.{areSymbols, polymod, expanded, checksum}
 use Rattle.symbols.specs.Regroup.{symbols, bytes, isWhole}
 
@@ -78,10 +79,12 @@ separator (b ∷ t) = pick (all isNotOne t) (pick (eqb b 49) 0 (suc (length t)))
 abbrev pub nameIn : Form → List ℕ → List ℕ
 nameIn k h = take (length h - length (k .front) - length (k .back)) (drop (length (k .front)) h)
 
--- what a text is read as: a name and a payload, or none
+-- what a text is read as: a name and a payload; or what is wrong with it: the form, with the place; or, of a name, the checksum, or bits left over
 pub data Parsed : Type 0 where
   parsed : List ℕ → List ℕ → Parsed
-  none : Parsed
+  malformed : ℕ → Parsed
+  bad-checksum : List ℕ → Parsed
+  leftover-bits : List ℕ → Parsed
 
 -- the human part of a text in lower case: what stands before the separator
 abbrev pub humanIn : List ℕ → List ℕ
@@ -95,24 +98,40 @@ valuesIn l = map valueOf (drop (separator l + 1) l)
 abbrev pub payloadIn : List ℕ → List ℕ
 payloadIn l = take (length (valuesIn l) - 6) (valuesIn l)
 
--- the checksum holds: a separator, behind it at least six characters of the alphabet, and the final value 1
-unfoldable pub isChecked : List ℕ → Bool
-isChecked l =
-    ltb (separator l) (length l) && leb 6 (length (valuesIn l)) && areSymbols (valuesIn l)
-    && eqb (polymod 1 (expanded (humanIn l) ++ valuesIn l)) 1
+-- a separator, and behind it at least six characters of the alphabet
+unfoldable pub hasTail : List ℕ → Bool
+hasTail l = ltb (separator l) (length l) && leb 6 (length (valuesIn l)) && areSymbols (valuesIn l)
+
+-- the checksum's final value is 1
+unfoldable pub isClosed : List ℕ → Bool
+isClosed l = eqb (polymod 1 (expanded (humanIn l) ++ valuesIn l)) 1
 
 -- the human part is that of a name
 unfoldable pub isHuman : Form → List ℕ → Bool
 isHuman k h = same h (humanPart k (nameIn k h)) && isName (nameIn k h)
 
--- a text of the kind: at most 1,024 characters, none of the wrong case; the rest goes by its lower-case form
-unfoldable pub isText : Form → List ℕ → Bool
-isText k t =
-    leb (length t) 1024 && isCased k t && isChecked (map lower t) && isWhole (payloadIn (map lower t)) && isHuman k (humanIn (map lower t))
+-- the form of the kind: at most 1,024 characters, none of the wrong case; the rest goes by its lower-case form
+unfoldable pub isFormed : Form → List ℕ → Bool
+isFormed k t = leb (length t) 1024 && isCased k t && hasTail (map lower t) && isHuman k (humanIn (map lower t))
 
--- reading a text
-abbrev pub parse : Form → List ℕ → Parsed
-parse k t = pick (isText k t) (parsed (nameIn k (humanIn (map lower t))) (bytes (payloadIn (map lower t)))) none
+-- a character of the alphabet, in lower or upper case
+abbrev pub isInAlphabet : ℕ → Bool
+isInAlphabet b = ltb (valueAt b) 32
+
+-- "the place of the first byte outside 33 to 126 or, after the separator, outside the alphabet in either case; if there is none, the text's length": of the whole
+-- text, as it stands
+unfoldable pub placeIn : List ℕ → ℕ
+placeIn t = min (run isGraphic t) (separator t + 1 + run isInAlphabet (drop (separator t + 1) t))
+
+-- reading a text: the form, then the checksum, then the bits left over
+unfoldable pub parse : Form → List ℕ → Parsed
+parse k t =
+    pick (isFormed k t)
+    (pick (isClosed (map lower t))
+    (pick (isWhole (payloadIn (map lower t))) (parsed (nameIn k (humanIn (map lower t))) (bytes (payloadIn (map lower t))))
+    (leftover-bits (nameIn k (humanIn (map lower t)))))
+    (bad-checksum (nameIn k (humanIn (map lower t)))))
+    (malformed (placeIn t))
 
 -- what a text that was read is: at most 1,024 characters, the text of its name and its payload
 pub record Read (k : Form) (t name payload : List ℕ) : Type 0 where

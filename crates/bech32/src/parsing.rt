@@ -1,16 +1,20 @@
 // Reading recipients and identities. The verdict comes first, then the bytes, so that nothing is written where the text is refused.
 ghost use mathlib.Core.Path.{_≡_};
 ghost use Prim.Native.Nat.{_+_, _≤_};
-ghost use mathlib.Core.Bool.{_||_};
+ghost use mathlib.Core.Bool.{_&&_, _||_};
 ghost use mathlib.Core.List.{[], map};
+ghost use lib.Dec.{eqb};
 ghost use lib.ListN.{length, drop, take};
-ghost use Rattle.refusal.specs.Run.{all};
+ghost use Rattle.refusal.specs.Pick.{pick};
+ghost use Rattle.refusal.specs.Number.{numberOf};
+ghost use Rattle.refusal.specs.Run.{all, run, isGraphic};
 ghost use Rattle.refusal.specs.Output.{said};
+ghost use Rattle.refusal.specs.Verdict.{verdictSaid};
 ghost use Rattle.symbols.specs.Charset.{lower};
 ghost use Rattle.symbols.specs.Steps.{Values};
-ghost use Rattle.bech32.specs.Text.{noLower, noUpper, isCased, isNotOne, separator, isChecked, parse};
-ghost use Rattle.bech32.specs.Calls.{formOf, isSound, padded, readAnswer, readBuffer, readName, textNumber, markOf};
-ghost use Rattle.bech32.specs.Steps.{nameOf};
+ghost use Rattle.bech32.specs.Text.{noLower, noUpper, isCased, isNotOne, separator, hasTail, isClosed, placeIn, parse};
+ghost use Rattle.bech32.specs.Calls.{formOf, isSound, padded, readAnswer, readPlace, readBuffer, readName, textNumber, markOf};
+ghost use Rattle.bech32.specs.Steps.{nameAt, tailNumber};
 use crate::CHECKSUM;
 use crate::LONGEST;
 use crate::TAIL;
@@ -20,8 +24,11 @@ use crate::human::is_lowered;
 use crate::human::name_in;
 use crate::human::nameless;
 use refusal::Refusal;
+use refusal::Verdict;
 use refusal::Written;
+use symbols::are_characters;
 use symbols::bytes_length;
+use symbols::character_run;
 use symbols::decode;
 use symbols::fold_human;
 use symbols::is_closed;
@@ -30,11 +37,15 @@ use symbols::is_upper;
 use symbols::is_whole;
 use symbols::values;
 
-// What reading gives: how long the payload at the buffer's front is, or 16 or 15; and the name, empty where refused.
+// What reading gives: how long the payload at the buffer's front is, or 16, 21, 22 or 15; the place with 16, else 0; and the name, empty where refused.
 pub struct ReadText {
     pub answer: Written,
+    pub place: usize,
     pub name: Name,
 }
+
+// Where no place comes with an answer.
+const NO_PLACE: usize = 0;
 
 // Whether no letter is in lower case. No early exit, so that the loop is vectorised.
 fn no_lower(text: &[u8]) -> bool
@@ -120,7 +131,7 @@ fn find_separator(text: &[u8]) -> usize
 fn is_checked(table: &[u8; 256], text: &[u8], at: usize) -> bool
     requires { ⌜ Values (now table) ⌝ }
     requires { ⌜ at ≡ separator (now text) ⌝ }
-    ensures { λ r. ⌜ r ≡ isChecked (map lower (now (text .entry))) ⌝ }
+    ensures { λ r. ⌜ r ≡ (hasTail (map lower (now (text .entry))) && isClosed (map lower (now (text .entry)))) ⌝ }
 {
     if text.len() - at < TAIL {
         return false;
@@ -140,97 +151,174 @@ pub fn holds(text: &[u8]) -> bool
     is_checked(&table, text, find_separator(text))
 }
 
-// The name of a text of the kind; no name where it is none. `at` is where the separator stands.
-fn examine(kind: TextKind, table: &[u8; 256], text: &[u8], at: usize) -> Name
-    requires { ⌜ Values (now table) ⌝ }
+// The name of a text of the kind, by what stands before its tail; no name where that is none of the kind. `at` is where the separator stands.
+fn name_at(kind: TextKind, text: &[u8], at: usize) -> Name
     requires { ⌜ at ≡ separator (now text) ⌝ }
-    ensures bytes { λ r. ⌜ r .bytes ≡ padded (nameOf (formOf kind) (now (text .entry))) ⌝ }
-    ensures length { λ r. ⌜ r .length ≡ length (nameOf (formOf kind) (now (text .entry))) ⌝ }
+    ensures bytes { λ r. ⌜ r .bytes ≡ padded (nameAt (formOf kind) (now (text .entry))) ⌝ }
+    ensures length { λ r. ⌜ r .length ≡ length (nameAt (formOf kind) (now (text .entry))) ⌝ }
 {
     let n = text.len();
     if LONGEST < n {
         return nameless();
     }
+    if n - at < TAIL {
+        return nameless();
+    }
     if !is_cased(kind, text) {
-        return nameless();
-    }
-    if !is_checked(table, text, at) {
-        return nameless();
-    }
-    let from = at + 1;
-    let end = n - CHECKSUM;
-    if !is_whole(table, &text[from..end]) {
         return nameless();
     }
     name_in(kind, &text[..at])
 }
 
-// The payload of a text of the kind at the front of `out`, and its name: 16 if it isn't one, then 15; nothing written then.
+// What is wrong with a text's tail: 16 for a byte outside the alphabet, 21, or 22. The alphabet is looked through only where the checksum does not hold.
+fn judge_tail(table: &[u8; 256], text: &[u8], at: usize) -> Verdict
+    requires { ⌜ Values (now table) ⌝ }
+    requires { ⌜ at ≡ separator (now text) ⌝ }
+    requires { ⌜ at + 7 ≤ length (now text) ⌝ }
+    ensures { λ r. ⌜ verdictSaid r ≡ tailNumber (map lower (now (text .entry))) ⌝ }
+{
+    if is_checked(table, text, at) {
+        let from = at + 1;
+        let end = text.len() - CHECKSUM;
+        if is_whole(table, &text[from..end]) {
+            return Verdict::Accepted;
+        }
+        return Verdict::Refused(Refusal::LeftoverBits);
+    }
+    let from = at + 1;
+    if are_characters(table, &text[from..]) {
+        return Verdict::Refused(Refusal::BadChecksum);
+    }
+    Verdict::Refused(Refusal::Malformed)
+}
+
+fn is_graphic(b: u8) -> bool
+    ensures { λ r. ⌜ r ≡ isGraphic b ⌝ }
+{
+    (b'!' <= b) & (b <= b'~')
+}
+
+// How many bytes from 33 to 126 stand at a text's front.
+fn graphic_run(text: &[u8]) -> usize
+    ensures { λ r. ⌜ r ≡ run isGraphic (now (text .entry)) ⌝ }
+{
+    let mut i: usize = 0;
+    while i < text.len() {
+        if !is_graphic(text[i]) {
+            return i;
+        }
+        i += 1;
+    }
+    i
+}
+
+// The place of the first byte outside 33 to 126 or, behind the separator, outside the alphabet; the length where there is none.
+fn place_in(text: &[u8], at: usize) -> usize
+    requires { ⌜ at ≡ separator (now text) ⌝ }
+    ensures { λ r. ⌜ r ≡ placeIn (now (text .entry)) ⌝ }
+{
+    let graphic = graphic_run(text);
+    if graphic <= at {
+        return graphic;
+    }
+    let table = values();
+    let from = at + 1;
+    let place = from + character_run(&table, &text[from..]);
+    if graphic < place {
+        return graphic;
+    }
+    place
+}
+
+// The payload of a text of the kind at the front of `out`, and its name: 16 with the place, 21 or 22 if it isn't one, then 15; nothing written then.
 pub fn read(kind: TextKind, text: &[u8], out: &mut [u8]) -> ReadText
     ensures answer { λ r. ⌜ said (r .answer) ≡ readAnswer (parse (formOf kind) (now (text .entry))) (now (out .entry)) ⌝ }
+    ensures place { λ r. ⌜ r .place ≡ readPlace (parse (formOf kind) (now (text .entry))) ⌝ }
     ensures bytes { λ r. ⌜ r .name .bytes ≡ padded (readName (parse (formOf kind) (now (text .entry))) (now (out .entry))) ⌝ }
     ensures length { λ r. ⌜ r .name .length ≡ length (readName (parse (formOf kind) (now (text .entry))) (now (out .entry))) ⌝ }
     ensures buffer { λ r. ⌜ now (out .exit) ≡ readBuffer (parse (formOf kind) (now (text .entry))) (now (out .entry)) ⌝ }
 {
-    let table = values();
     let at = find_separator(text);
-    let name = examine(kind, &table, text, at);
+    let name = name_at(kind, text, at);
     if name.length == 0 {
-        return refused(Refusal::NotBech32);
+        return refuse(Refusal::Malformed, text, at);
     }
-    let from = at + 1;
-    let end = text.len() - CHECKSUM;
-    let n = bytes_length(end - from);
-    if out.len() < n {
-        return refused(Refusal::ShortOutput);
-    }
-    decode(&table, &text[from..end], out);
-    ReadText {
-        answer: Written::Bytes(n),
-        name: name,
+    let table = values();
+    let verdict = judge_tail(&table, text, at);
+    match verdict {
+        Verdict::Accepted => {
+            let from = at + 1;
+            let end = text.len() - CHECKSUM;
+            let n = bytes_length(end - from);
+            if out.len() < n {
+                return refused(Refusal::ShortOutput, NO_PLACE);
+            }
+            decode(&table, &text[from..end], out);
+            ReadText {
+                answer: Written::Bytes(n),
+                place: NO_PLACE,
+                name: name,
+            }
+        }
+        Verdict::Refused(r) => refuse(r, text, at),
     }
 }
 
-// A refusal, with no name.
-fn refused(r: Refusal) -> ReadText
+// A refusal, with the place where it is 16, and no name.
+fn refuse(r: Refusal, text: &[u8], at: usize) -> ReadText
+    requires { ⌜ at ≡ separator (now text) ⌝ }
     ensures answer { λ x. ⌜ x .answer ≡ Written.Refused r ⌝ }
+    ensures place { λ x. ⌜ x .place ≡ pick (eqb (numberOf r) 16) (placeIn (now (text .entry))) 0 ⌝ }
+    ensures bytes { λ x. ⌜ x .name .bytes ≡ padded [] ⌝ }
+    ensures length { λ x. ⌜ x .name .length ≡ 0 ⌝ }
+{
+    if refusal::number(r) == refusal::number(Refusal::Malformed) {
+        return refused(r, place_in(text, at));
+    }
+    refused(r, NO_PLACE)
+}
+
+// A refusal with a place, and no name.
+fn refused(r: Refusal, place: usize) -> ReadText
+    ensures answer { λ x. ⌜ x .answer ≡ Written.Refused r ⌝ }
+    ensures place { λ x. ⌜ x .place ≡ «place» ⌝ }
     ensures bytes { λ x. ⌜ x .name .bytes ≡ padded [] ⌝ }
     ensures length { λ x. ⌜ x .name .length ≡ 0 ⌝ }
 {
     ReadText {
         answer: Written::Refused(r),
+        place: place,
         name: nameless(),
     }
 }
 
-// No refusal.
-const VALID: u8 = 0;
-
-// The reader's number for a text of the kind, of any plugin: 0, or 16.
+// The reader's number for a text of the kind, of any plugin: 0, or 16, 21, 22.
 pub fn judge(kind: TextKind, text: &[u8]) -> u8
     ensures { λ r. ⌜ r ≡ textNumber (parse (formOf kind) (now (text .entry))) ⌝ }
 {
-    let table = values();
-    let name = examine(kind, &table, text, find_separator(text));
+    let at = find_separator(text);
+    let name = name_at(kind, text, at);
     if name.length == 0 {
-        return refusal::number(Refusal::NotBech32);
+        return refusal::number(Refusal::Malformed);
     }
-    VALID
+    let table = values();
+    refusal::number_of(judge_tail(&table, text, at))
 }
 
-// The reader's number for a text of the kind and of a plugin, by its name in either case: 0, or 16, also for another name.
+// The mark of a text of the kind for a plugin's name, in either case: 16 where it has no human part of that name; else the reader's number.
 pub fn mark(kind: TextKind, text: &[u8], plugin: &[u8]) -> u8
     ensures { λ r. ⌜ r ≡ markOf (parse (formOf kind) (now (text .entry))) (now (plugin .entry)) ⌝ }
 {
-    let table = values();
-    let name = examine(kind, &table, text, find_separator(text));
+    let at = find_separator(text);
+    let name = name_at(kind, text, at);
     let bytes = name.bytes;
     let length = name.length;
     if length == 0 {
-        return refusal::number(Refusal::NotBech32);
+        return refusal::number(Refusal::Malformed);
     }
-    if is_lowered(plugin, &bytes[..length]) {
-        return VALID;
+    if !is_lowered(plugin, &bytes[..length]) {
+        return refusal::number(Refusal::Malformed);
     }
-    refusal::number(Refusal::NotBech32)
+    let table = values();
+    refusal::number_of(judge_tail(&table, text, at))
 }

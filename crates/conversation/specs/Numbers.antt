@@ -8,7 +8,7 @@ use mathlib.Core.List.{List, [], _∷_, _++_}
 use lib.ListN.{length, take}
 use Rattle.refusal.specs.Number.{numberOf}
 use Rattle.refusal.specs.declared.Refusal.{Refusal}
-use Rattle.refusal.specs.declared.Refusal.the-variants.{NotStanza, Unfinished, TooLong, BadCommand, BadIndex, NoSuchIndex, FallingIndex, NoSpace, SecondKey, TooManyStanzas, WorkAndError, UnfitResponse, SessionOver, OutOfTurn, ShortOutput, NotBech32, Unwritable, NoSuchMachine, HeldBack}
+use Rattle.refusal.specs.declared.Refusal.the-variants.{NotStanza, Unfinished, TooLong, BadCommand, BadIndex, NoSuchIndex, FallingIndex, NoSpace, SecondKey, TooManyStanzas, WorkAndError, UnfitResponse, SessionOver, OutOfTurn, ShortOutput, Malformed, Unwritable, NoSuchMachine, HeldBack, BadChecksum, LeftoverBits}
 use Rattle.base64.specs.Code.{isBase64}
 use Rattle.stanza.specs.Arguments.{words, isLine, argumentOf}
 use Rattle.stanza.specs.Grammar.{stanzaText}
@@ -463,10 +463,12 @@ Holds s b c UnfitResponse = Unfit c (s .phase)
 Holds s b c SessionOver = Over (s .phase)
 Holds s b c OutOfTurn = InTurn c (s .phase) → ⊥
 Holds s b c ShortOutput = Overflowing s c
-Holds s b c NotBech32 = ⊥
+Holds s b c Malformed = ⊥
 Holds s b c Unwritable = UnwrittenIn c
 Holds s b c NoSuchMachine = ⊥
 Holds s b c HeldBack = HeldIn s b c
+Holds s b c BadChecksum = ⊥
+Holds s b c LeftoverBits = ⊥
 
 -- a number's condition: that of its fault
 abbrev pub Condition : Session → Buffers → Call → ℕ → Type 0

@@ -9,9 +9,9 @@ use native.Mathlib.Omega.{arith}
 use Rattle.base64.specs.Alphabet.{isCharacter, valueOf, characterOf}
 use Rattle.base64.specs.Code.{encoded, decoded, endsWell}
 use Rattle.base64.specs.Lines.{wrapped, unwrapped}
-use Rattle.refusal.specs.Run.{run}
+use Rattle.refusal.specs.Run.{run, isGraphic}
 use Rattle.refusal.specs.Same.{same}
-use Rattle.stanza.specs.Arguments.{isGraphic, isWordByte, before, words}
+use Rattle.stanza.specs.Arguments.{isWordByte, before, words}
 use Rattle.stanza.specs.Automaton.{next, verdict, scan}
 use Rattle.stanza.specs.Grammar.{stanzaText}
 use Rattle.stanza.specs.Reading.{found}

@@ -16,9 +16,9 @@ use Rattle.symbols.specs.Charset.{isUpper, isLower, lower}
 use Rattle.bech32.specs.Text.{isName, isNameByte, separator, isChecked, isText}
 use Rattle.refusal.proofs.Laws.Booleans.{cases}
 use Rattle.refusal.specs.Pick.{pick}
-use Rattle.refusal.specs.Run.{all, run}
+use Rattle.refusal.specs.Run.{all, run, isGraphic}
 use Rattle.refusal.specs.Same.{same}
-use Rattle.stanza.specs.Arguments.{isGraphic, isWordByte, before, words, isArgument, areArguments}
+use Rattle.stanza.specs.Arguments.{isWordByte, before, words, isArgument, areArguments}
 use Rattle.stanza.specs.Automaton.{next, verdict, scan}
 use Rattle.stanza.specs.Grammar.{stanzaText}
 use Rattle.stanza.specs.Index.{digits, readIndex}

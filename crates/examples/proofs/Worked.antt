@@ -3,9 +3,9 @@ use mathlib.Core.Path.{refl}
 use Rattle.base64.specs.Alphabet.{isCharacter, valueOf, characterOf}
 use Rattle.base64.specs.Code.{encoded, decoded, endsWell}
 use Rattle.base64.specs.Lines.{wrapped, unwrapped}
-use Rattle.refusal.specs.Run.{run}
+use Rattle.refusal.specs.Run.{run, isGraphic}
 use Rattle.refusal.specs.Same.{same}
-use Rattle.stanza.specs.Arguments.{isGraphic, words, before}
+use Rattle.stanza.specs.Arguments.{words, before}
 use Rattle.stanza.specs.Automaton.{next, verdict, scan}
 use Rattle.stanza.specs.Index.{digits, readIndex, decimal, decimalWith}
 use Rattle.stanza.specs.Reading.{found}

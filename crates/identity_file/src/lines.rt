@@ -72,7 +72,7 @@ pub(crate) fn judge_line(line: &[u8]) -> LineKind
     ensures { λ r. ⌜ kindSaid r ≡ kindOf (now (line .entry)) ⌝ }
 {
     if LONGEST < line.len() {
-        return LineKind::Invalid(refusal::number(Refusal::NotBech32));
+        return LineKind::Invalid(refusal::number(Refusal::Malformed));
     }
     if is_skipped(line) {
         return LineKind::Skipped;

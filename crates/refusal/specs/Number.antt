@@ -1,9 +1,9 @@
--- Document 01, "Numbers given back": the number of each fault.
+-- Document 01, "Numbers given back", and document 02: the number of each fault.
 use Prim.Native.Nat.{ℕ}
 use Rattle.refusal.specs.declared.Refusal.{Refusal}
-use Rattle.refusal.specs.declared.Refusal.the-variants.{NotStanza, Unfinished, TooLong, BadCommand, BadIndex, NoSuchIndex, FallingIndex, NoSpace, SecondKey, TooManyStanzas, WorkAndError, UnfitResponse, SessionOver, OutOfTurn, ShortOutput, NotBech32, Unwritable, NoSuchMachine, HeldBack}
+use Rattle.refusal.specs.declared.Refusal.the-variants.{NotStanza, Unfinished, TooLong, BadCommand, BadIndex, NoSuchIndex, FallingIndex, NoSpace, SecondKey, TooManyStanzas, WorkAndError, UnfitResponse, SessionOver, OutOfTurn, ShortOutput, Malformed, Unwritable, NoSuchMachine, HeldBack, BadChecksum, LeftoverBits}
 
--- the first column of the paper's table
+-- the first column of the paper's table, and the requests' numbers
 abbrev pub numberOf : Refusal → ℕ
 numberOf NotStanza = 1
 numberOf Unfinished = 2
@@ -20,7 +20,9 @@ numberOf UnfitResponse = 12
 numberOf SessionOver = 13
 numberOf OutOfTurn = 14
 numberOf ShortOutput = 15
-numberOf NotBech32 = 16
+numberOf Malformed = 16
 numberOf Unwritable = 17
 numberOf NoSuchMachine = 18
 numberOf HeldBack = 19
+numberOf BadChecksum = 21
+numberOf LeftoverBits = 22

@@ -1,7 +1,8 @@
-// The nineteen faults of document 01, "Numbers given back", each under a name of its own, and the number that the paper gives it.
+// The faults of document 01, "Numbers given back", and of document 02, each under a name of its own, and the number that the papers give it.
 // No crate of the library knows a refusal by anything but this enum; 0, no refusal, is no variant of it.
 ghost use mathlib.Core.Path.{_≡_};
 ghost use Rattle.refusal.specs.Number.{numberOf};
+ghost use Rattle.refusal.specs.Verdict.{verdictSaid};
 
 pub enum Refusal {
     // 1: not a stanza
@@ -34,14 +35,18 @@ pub enum Refusal {
     OutOfTurn,
     // 15: output longer than the buffer
     ShortOutput,
-    // 16: a text that is no recipient (or identity)
-    NotBech32,
+    // 16: a text that has not the form of a recipient (or identity)
+    Malformed,
     // 17: an argument, a name or a length that cannot be written
     Unwritable,
     // 18: neither machine's name
     NoSuchMachine,
     // 19: the plugin end holds the command back
     HeldBack,
+    // 21: a recipient's (or identity's) checksum that fails
+    BadChecksum,
+    // 22: bits left over behind its payload
+    LeftoverBits,
 }
 
 // What a call that writes to a lent buffer answers: how many bytes it wrote at its front, or the refusal, nothing written.
@@ -56,7 +61,7 @@ pub enum Verdict {
     Refused(Refusal),
 }
 
-// The paper's number of a refusal.
+// The papers' number of a refusal.
 pub fn number(r: Refusal) -> u8
     ensures { λ n. ⌜ n ≡ numberOf r ⌝ }
 {
@@ -76,9 +81,21 @@ pub fn number(r: Refusal) -> u8
         Refusal::SessionOver => 13,
         Refusal::OutOfTurn => 14,
         Refusal::ShortOutput => 15,
-        Refusal::NotBech32 => 16,
+        Refusal::Malformed => 16,
         Refusal::Unwritable => 17,
         Refusal::NoSuchMachine => 18,
         Refusal::HeldBack => 19,
+        Refusal::BadChecksum => 21,
+        Refusal::LeftoverBits => 22,
+    }
+}
+
+// The number of a verdict, 0 where nothing is refused.
+pub fn number_of(verdict: Verdict) -> u8
+    ensures { λ n. ⌜ n ≡ verdictSaid verdict ⌝ }
+{
+    match verdict {
+        Verdict::Accepted => 0,
+        Verdict::Refused(r) => number(r),
     }
 }

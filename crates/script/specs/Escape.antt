@@ -5,9 +5,9 @@ use mathlib.Core.Bool.{Bool, false, _&&_}
 use mathlib.Core.List.{List, [], _∷_, _++_}
 use lib.Dec.{leb, ltb, eqb}
 use lib.ListN.{length}
+use Rattle.refusal.specs.Run.{isGraphic}
 use Rattle.refusal.specs.Output.{Answer, bytes, refused, said, answered, filled}
 use Rattle.refusal.specs.Pick.{pick}
-use Rattle.stanza.specs.Arguments.{isGraphic}
 use Rattle.script.specs.declared.unescaping.Size.{Size}
 use Rattle.script.specs.declared.unescaping.Size.the-variants as size-is
 use Rattle.script.specs.declared.unescaping.Step.{Step}

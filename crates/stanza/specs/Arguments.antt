@@ -6,11 +6,7 @@ use mathlib.Core.List.{List, [], _∷_, _++_}
 use lib.Dec.{leb, eqb}
 use lib.ListN.{length, getD}
 use Rattle.refusal.specs.Pick.{pick}
-use Rattle.refusal.specs.Run.{all}
-
--- a byte from 33 to 126
-unfoldable pub isGraphic : ℕ → Bool
-isGraphic b = leb 33 b && leb b 126
+use Rattle.refusal.specs.Run.{all, isGraphic}
 
 -- a byte that is no space
 unfoldable pub isWordByte : ℕ → Bool

@@ -2,10 +2,10 @@
 use Prim.Native.Nat.{ℕ, _+_}
 use mathlib.Core.List.{List, [], _∷_}
 use lib.Dec.{ltb, eqb}
+use Rattle.refusal.specs.Run.{isGraphic}
 use Rattle.refusal.specs.Pick.{pick}
 use Rattle.base64.specs.Alphabet.{isCharacter, valueOf}
 use Rattle.base64.specs.Code.{endsWell}
-use Rattle.stanza.specs.Arguments.{isGraphic}
 
 -- where a reader stands
 pub data State : Type 0 where

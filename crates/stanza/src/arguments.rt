@@ -3,9 +3,9 @@
 ghost use mathlib.Core.Path.{_≡_};
 ghost use Prim.Native.Nat.{_+_, _≤_};
 ghost use lib.ListN.{length, drop, take};
-ghost use Rattle.refusal.specs.Run.{all, run};
+ghost use Rattle.refusal.specs.Run.{all, run, isGraphic};
 ghost use Rattle.refusal.specs.Same.{same};
-ghost use Rattle.stanza.specs.Arguments.{isGraphic, isWordByte, isLine, countOf, argumentOf};
+ghost use Rattle.stanza.specs.Arguments.{isWordByte, isLine, countOf, argumentOf};
 use crate::parts::least;
 
 // A byte from 33, "!", to 126, "~".

@@ -1,6 +1,10 @@
 // The constants of Bech32, those of the checksum and the alphabet; values of characters, and letters by case.
 ghost use mathlib.Core.Path.{_≡_};
+ghost use mathlib.Core.List.{map};
+ghost use lib.Dec.{ltb};
+ghost use Rattle.refusal.specs.Run.{run};
 ghost use Rattle.symbols.specs.Charset.{isUpper, isLower, lower};
+ghost use Rattle.symbols.specs.Checksum.{areSymbols};
 ghost use Rattle.symbols.specs.Steps.{Values, Folds, valueIn};
 
 // What the five top bits of the checksum's state fold in, the lowest bit first.
@@ -338,6 +342,27 @@ pub(crate) fn look_up(table: &[u8; 256], b: u8) -> u8
     ensures { λ r. ⌜ r ≡ valueIn (now (table .entry)) b ⌝ }
 {
     table[wide(b)]
+}
+
+// Whether all bytes are characters, by the table.
+pub fn are_characters(table: &[u8; 256], text: &[u8]) -> bool
+    ensures { λ r. ⌜ r ≡ areSymbols (map (valueIn (now (table .entry))) (now (text .entry))) ⌝ }
+{
+    character_run(table, text) == text.len()
+}
+
+// How many characters, by the table, stand at a text's front.
+pub fn character_run(table: &[u8; 256], text: &[u8]) -> usize
+    ensures { λ r. ⌜ r ≡ run (λ v. ltb v 32) (map (valueIn (now (table .entry))) (now (text .entry))) ⌝ }
+{
+    let mut i: usize = 0;
+    while i < text.len() {
+        if SYMBOLS <= look_up(table, text[i]) {
+            return i;
+        }
+        i += 1;
+    }
+    i
 }
 
 pub fn is_upper(b: u8) -> bool

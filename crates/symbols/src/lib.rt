@@ -6,6 +6,8 @@ mod regroup;
 pub use charset::ALPHABET;
 pub use charset::CAPITALS;
 pub use charset::CASE;
+pub use charset::are_characters;
+pub use charset::character_run;
 pub use charset::is_lower;
 pub use charset::is_upper;
 pub use charset::lowered;

@@ -1,18 +1,27 @@
--- The calls' refusals: 16 at reading, 17 at writing, then 15, each exactly where the paper says, and nothing is written then.
+-- The calls' refusals: 16, 21 or 22 at reading, 17 at writing, then 15, each exactly where the paper says, and nothing is written then.
 use Prim.Native.Nat.{ℕ}
-use mathlib.Core.Path.{_≡_, refl}
-use mathlib.Core.Bool.{true, false}
-use mathlib.Core.List.{List, []}
+use mathlib.Core.Path.{_≡_}
+use mathlib.Core.Bool.{false}
+use mathlib.Core.List.{List}
+use lib.Dec.{eqb}
 use native.Mathlib.Omega.{arith}
+use borrow.Author.Tests.{eqb-true, eqb-false}
 use Rattle.refusal.specs.Output.{WritingJudged}
 use Rattle.refusal.proofs.Laws.Output.{judged, test-judged}
-use Rattle.bech32.specs.Text.{Form, textOf, Parsed, parsed, none}
-use Rattle.bech32.specs.Calls.{readAnswer, readBuffer, payloadOf, isWritable, writeAnswer, writeBuffer}
+use Rattle.bech32.specs.Text.{Form, textOf, Parsed, parsed, malformed, bad-checksum, leftover-bits}
+use Rattle.bech32.specs.Calls.{textNumber, readAnswer, readBuffer, payloadOf, isWritable, writeAnswer, writeBuffer}
 
-pub read-judged : (p : Parsed) (buffer : List ℕ) → WritingJudged 16 (p ≡ none) (payloadOf p) buffer (readAnswer p buffer) (readBuffer p buffer)
-read-judged none buffer = judged 16 [] buffer (λ e. omega arith) (none ≡ none) false (λ e. let z : _≡_ {A = ℕ} 0 1 = cc in absurd (omega arith)) (λ e. refl)
-read-judged (parsed name payload) buffer =
-    judged 16 payload buffer (λ e. omega arith) (parsed name payload ≡ none) true (λ e f. let z : _≡_ {A = ℕ} 0 1 = cc in omega arith) (λ e. let z : _≡_ {A = ℕ} 0 1 = cc in absurd (omega arith))
+-- reading: the text's own number, then 15
+pub read-judged : (p : Parsed) (buffer : List ℕ) →
+    WritingJudged (textNumber p) (textNumber p ≡ 0 → ⊥) (payloadOf p) buffer (readAnswer p buffer) (readBuffer p buffer)
+read-judged p buffer =
+    judged (textNumber p) (payloadOf p) buffer (other p) (textNumber p ≡ 0 → ⊥) (eqb (textNumber p) 0) (λ t b. b (eqb-true (textNumber p) 0 t)) (λ f e. eqb-false (textNumber p) 0 f e)
+  where
+    other : (p : Parsed) → textNumber p ≡ 15 → ⊥
+    other (parsed name payload) e = omega arith
+    other (malformed place) e = omega arith
+    other (bad-checksum name) e = omega arith
+    other (leftover-bits name) e = omega arith
 
 pub write-judged : (k : Form) (name payload buffer : List ℕ) →
     WritingJudged 17 (isWritable k name payload ≡ false) (textOf k name payload) buffer (writeAnswer k name payload buffer) (writeBuffer k name payload buffer)

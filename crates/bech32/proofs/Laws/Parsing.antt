@@ -1,31 +1,34 @@
 -- Reading a text as the code does: the separator from the right, the checksum over the lower-case form.
-use Prim.Native.Nat.{ℕ, zero, suc, _+_, _-_, _<_, _≤_}
+use Prim.Native.Nat.{ℕ, zero, suc, _+_, _-_, _<_, _≤_, min}
 use mathlib.Core.Path.{_≡_, refl, sym, ap, ap₂, _∙_}
 use mathlib.Core.Bool.{Bool, true, false, _&&_, not, false≢true}
 use mathlib.Core.List.{List, [], _∷_, _++_, map}
 use lib.Dec.{eqb, ltb, leb}
 use lib.ListN.{length, take, drop, getD, length-map, length-drop, take-append-drop}
 use lib.Seq.{drop-drop}
+use native.Mathlib.Nat.{min-eq-left}
 use native.Mathlib.Omega.{arith}
 use borrow.Author.Tests.{leb-true, leb-false, lt-ltb, le-ltb, le-leb, lt-leb, eq-eqb, ne-eqb}
 use Rattle.refusal.specs.Pick.{pick}
-use Rattle.refusal.specs.Run.{all}
+use Rattle.refusal.specs.Run.{all, run, isGraphic}
 use Rattle.refusal.specs.Same.{same}
-use Rattle.refusal.proofs.Laws.Booleans.{cases, and-true, true-and, and-assoc, and-false-right}
+use Rattle.refusal.proofs.Laws.Booleans.{cases, and-true, true-and, and-assoc, and-true-right, and-false-right}
+use Rattle.refusal.proofs.Laws.Pick.{pick-same}
 use Rattle.refusal.proofs.Laws.Lists.{drop-one}
 use Rattle.refusal.proofs.Laws.Run.{all-append, all-more}
 use Rattle.symbols.specs.Charset.{valueOf, isUpper, lower}
 use Rattle.symbols.specs.Checksum.{areSymbols, polymod, expanded}
 use Rattle.symbols.specs.Regroup.{isWhole, bytes}
-use Rattle.bech32.specs.Calls.{readAnswer, readName, readBuffer, textNumber, markOf}
+use Rattle.bech32.specs.Calls.{textNumber, nameOf, readAnswer, readPlace, readName, readBuffer, markOf}
 use Rattle.refusal.specs.Output.{refused, bytes as accepted}
-use Rattle.bech32.specs.Text.{Form, parse, humanPart, isNameByte, isName, isNotOne, isCased, separator, nameIn, humanIn, valuesIn, payloadIn, isChecked, isHuman, isText}
+use Rattle.bech32.specs.Text.{Form, parsed, parse, humanPart, isNameByte, isName, isNotOne, isCased, separator, nameIn, humanIn, valuesIn, payloadIn, hasTail, isClosed, isHuman, isFormed, placeIn}
 use Rattle.symbols.specs.Calls.{valueAt, closes}
-use Rattle.bech32.specs.Steps.{nameOr, nameOf}
+use Rattle.bech32.specs.Steps.{nameOr, hasHead, nameAt, tailNumber}
 use Rattle.symbols.proofs.Laws.Charset.{upper-bounds}
 use Rattle.symbols.proofs.Laws.Checksum.{polymod-append}
 use Rattle.symbols.proofs.Laws.Folds.{closes-is}
-use Rattle.symbols.proofs.Laws.Maps.{map-take, map-drop, map-map}
+use Rattle.symbols.proofs.Laws.Maps.{map-take, map-drop, map-map, run-map}
+use Rattle.bech32.proofs.Laws.Text.{parse-cases}
 
 -- one byte more of a class
 pub all-one : (class : ℕ → Bool) (t : List ℕ) (i : ℕ) {good r : Bool} → i < length t → good ≡ all class (take i t) → r ≡ class (getD t i 0) → (good && r) ≡ all class (take (i + 1) t)
@@ -108,21 +111,33 @@ seven s n m e =
     (λ q. let h = leb-true 7 (n - s) q in rw (q, lt-ltb s n (omega arith), le-leb 6 m (omega arith)))
     (λ q. let h = leb-false 7 (n - s) q in rw (q, lt-leb 6 m (omega arith)) (and-false-right (ltb s n)))
 
-parts : (s n : ℕ) (h vs : List ℕ) → length vs ≡ n - (s + 1) →
-    (ltb s n && leb 6 (length vs) && areSymbols vs && eqb (polymod 1 (expanded h ++ vs)) 1) ≡ (leb 7 (n - s) && closes (polymod 1 (expanded h)) vs)
-parts s n h vs e =
-    ap (λ b. b && areSymbols vs && eqb (polymod 1 (expanded h ++ vs)) 1) (seven s n (length vs) e)
-    ∙ ap (λ p. leb 7 (n - s) && areSymbols vs && eqb p 1) (polymod-append (expanded h) vs 1)
-    ∙ sym (and-assoc (leb 7 (n - s)) (areSymbols vs) (eqb (polymod (polymod 1 (expanded h)) vs) 1))
-    ∙ ap (λ b. leb 7 (n - s) && b) (sym (closes-is vs (polymod 1 (expanded h))))
+-- the tail of the lower-case form, with the separator at hand
+pub tail-lower : (t : List ℕ) → hasTail (map lower t) ≡ (leb 7 (length t - separator t) && areSymbols (valuesIn (map lower t)))
+unfolding hasTail
+tail-lower t =
+    ap (λ b. b && areSymbols (valuesIn (map lower t)))
+    (ap₂ (λ s n. ltb s n && leb 6 (length (valuesIn (map lower t)))) (separator-lower t) (length-map t lower)
+    ∙ seven (separator t) (length t) (length (valuesIn (map lower t)))
+    (ap length (values-lower t) ∙ length-map (drop (separator t + 1) t) valueAt ∙ length-drop (separator t + 1) t))
 
--- the checksum of the lower-case form, with the separator at hand
-pub checked-is : (t : List ℕ) → isChecked (map lower t) ≡
+-- the checksum of the lower-case form: the values behind the separator close from the state of the human part
+closes-lower : (t : List ℕ) → (areSymbols (valuesIn (map lower t)) && isClosed (map lower t)) ≡
+    closes (polymod 1 (expanded (map lower (take (separator t) t)))) (map valueAt (drop (separator t + 1) t))
+unfolding isClosed
+closes-lower t =
+    let vs = map valueAt (drop (separator t + 1) t) in
+    let h = map lower (take (separator t) t) in
+    ap₂ (λ (x y : List ℕ). areSymbols x && eqb (polymod 1 (expanded y ++ x)) 1) (values-lower t) (human-lower t)
+    ∙ ap (λ p. areSymbols vs && eqb p 1) (polymod-append (expanded h) vs 1)
+    ∙ sym (closes-is vs (polymod 1 (expanded h)))
+
+-- both together
+pub checked-is : (t : List ℕ) → (hasTail (map lower t) && isClosed (map lower t)) ≡
     (leb 7 (length t - separator t) && closes (polymod 1 (expanded (map lower (take (separator t) t)))) (map valueAt (drop (separator t + 1) t)))
-unfolding isChecked
 checked-is t =
-    rw (separator-lower t, length-map t lower, values-part (separator t + 1) t, map-take lower (separator t) t)
-    (parts (separator t) (length t) (map lower (take (separator t) t)) (map valueAt (drop (separator t + 1) t)) (length-map (drop (separator t + 1) t) valueAt ∙ length-drop (separator t + 1) t))
+    ap (λ b. b && isClosed (map lower t)) (tail-lower t)
+    ∙ sym (and-assoc (leb 7 (length t - separator t)) (areSymbols (valuesIn (map lower t))) (isClosed (map lower t)))
+    ∙ ap (λ b. leb 7 (length t - separator t) && b) (closes-lower t)
 
 -- the payload's values in the lower-case form, by the part of the text between separator and checksum
 pub payload-lower : (t : List ℕ) → payloadIn (map lower t) ≡ map valueAt (take (length t - 6 - (separator t + 1)) (drop (separator t + 1) t))
@@ -134,70 +149,147 @@ payload-lower t =
 
 -- ---- the tests in the order of the code
 
--- a text that is one passes them all
-pub text-checked : (k : Form) (t : List ℕ) → isText k t ≡ true → isChecked (map lower t) ≡ true
-unfolding isText
-text-checked k t e =
-    let l = map lower t in
-    let a = and-true (leb (length t) 1024 && isCased k t && isChecked l && isWhole (payloadIn l)) (isHuman k (humanIn l)) e in
-    let b = and-true (leb (length t) 1024 && isCased k t && isChecked l) (isWhole (payloadIn l)) (a .0) in
-    and-true (leb (length t) 1024 && isCased k t) (isChecked l) (b .0) .1
+-- the form: what stands before the tail, and the tail's characters
+formed-is : (k : Form) (t : List ℕ) → isFormed k t ≡ (hasHead k t && areSymbols (valuesIn (map lower t)))
+unfolding isFormed hasHead
+formed-is k t =
+    rw (tail-lower t)
+    (cases (areSymbols (valuesIn (map lower t)))
+    (λ e. rw (e, and-true-right (leb 7 (length t - separator t)), and-true-right (leb (length t) 1024 && isCased k t && leb 7 (length t - separator t) && isHuman k (humanIn (map lower t)))))
+    (λ e. rw (e, and-false-right (leb 7 (length t - separator t)), and-false-right (leb (length t) 1024 && isCased k t), and-false-right (leb (length t) 1024 && isCased k t && leb 7 (length t - separator t) && isHuman k (humanIn (map lower t))))))
 
--- a checksum that holds has six characters behind the separator
-pub checked-long : (t : List ℕ) → isChecked (map lower t) ≡ true → separator t + 7 ≤ length t
-checked-long t e =
-    let a = and-true (leb 7 (length t - separator t)) (closes (polymod 1 (expanded (map lower (take (separator t) t)))) (map valueAt (drop (separator t + 1) t))) (sym (checked-is t) ∙ e) in
-    let b = leb-true 7 (length t - separator t) (a .0) in
-    omega arith
+-- six characters stand behind the separator
+pub head-long : (k : Form) (t : List ℕ) → hasHead k t ≡ true → separator t + 7 ≤ length t
+unfolding hasHead
+head-long k t e =
+    let a = and-true (leb (length t) 1024 && isCased k t && leb 7 (length t - separator t)) (isHuman k (humanIn (map lower t))) e in
+    let b = leb-true 7 (length t - separator t) (and-true (leb (length t) 1024 && isCased k t) (leb 7 (length t - separator t)) (a .0) .1) in
+    omega (arith, separator-le t)
 
--- its name is not empty
-pub text-named : (k : Form) (t : List ℕ) → isText k t ≡ true → 1 ≤ length (nameIn k (humanIn (map lower t)))
-unfolding isText isHuman isName
-text-named k t e =
-    let l = map lower t in
-    let n = nameIn k (humanIn l) in
-    let a = and-true (leb (length t) 1024 && isCased k t && isChecked l && isWhole (payloadIn l)) (isHuman k (humanIn l)) e in
-    let f = and-true (same (humanIn l) (humanPart k n)) (isName n) (a .1) in
+-- the name is not empty
+head-named : (k : Form) (t : List ℕ) → hasHead k t ≡ true → 1 ≤ length (nameIn k (humanIn (map lower t)))
+unfolding hasHead isHuman isName
+head-named k t e =
+    let n = nameIn k (humanIn (map lower t)) in
+    let a = and-true (leb (length t) 1024 && isCased k t && leb 7 (length t - separator t)) (isHuman k (humanIn (map lower t))) e in
+    let f = and-true (same (humanIn (map lower t)) (humanPart k n)) (isName n) (a .1) in
     let g = and-true (leb 1 (length n) && leb (length n) 32) (all isNameByte n) (f .1) in
     leb-true 1 (length n) (and-true (leb 1 (length n)) (leb (length n) 32) (g .0) .0)
 
--- so the name tells whether the text is one
-pub is-text : (k : Form) (t : List ℕ) → (length (nameOf k t) ≡ 0 → ⊥) → isText k t ≡ true
-is-text k t h = cases (isText k t) (λ e. e) (λ e. absurd (h (rw e)))
+-- so it tells whether the head is one
+pub is-head : (k : Form) (t : List ℕ) → (length (nameAt k t) ≡ 0 → ⊥) → hasHead k t ≡ true
+is-head k t h = cases (hasHead k t) (λ e. e) (λ e. absurd (h (rw e)))
 
-pub no-text : (k : Form) (t : List ℕ) → length (nameOf k t) ≡ 0 → isText k t ≡ false
-no-text k t h = cases (isText k t) (λ e. let q : length (nameIn k (humanIn (map lower t))) ≡ 0 = rw e at h in absurd (omega (arith, text-named k t e))) (λ e. e)
+pub no-head : (k : Form) (t : List ℕ) → length (nameAt k t) ≡ 0 → hasHead k t ≡ false
+no-head k t h = cases (hasHead k t) (λ e. let q : length (nameIn k (humanIn (map lower t))) ≡ 0 = rw e at h in absurd (omega (arith, head-named k t e))) (λ e. e)
 
 -- where all else holds, the human part decides
-pub human-decides : (k : Form) (t : List ℕ) → length t ≤ 1024 → isCased k t ≡ true → isChecked (map lower t) ≡ true → isWhole (payloadIn (map lower t)) ≡ true →
-    nameOf k t ≡ nameOr k (map lower (take (separator t) t))
-unfolding isText
-human-decides k t n a b c = rw (le-leb (length t) 1024 n, a, b, c) (ap (nameOr k) (human-lower t))
+pub human-decides : (k : Form) (t : List ℕ) → length t ≤ 1024 → 7 ≤ length t - separator t → isCased k t ≡ true → nameAt k t ≡ nameOr k (map lower (take (separator t) t))
+unfolding hasHead
+human-decides k t n m a = rw (le-leb (length t) 1024 n, a, le-leb 7 (length t - separator t) m) (ap (nameOr k) (human-lower t))
 
--- ---- the three answers
+-- a tail whose checksum holds
+pub tail-closed : (t : List ℕ) → (hasTail (map lower t) && isClosed (map lower t)) ≡ true → tailNumber (map lower t) ≡ pick (isWhole (payloadIn (map lower t))) 0 22
+tail-closed t e =
+    let a = and-true (hasTail (map lower t)) (isClosed (map lower t)) e in
+    let b = and-true (leb 7 (length t - separator t)) (areSymbols (valuesIn (map lower t))) (sym (tail-lower t) ∙ a .0) in
+    rw (b .1, a .1)
 
-module _ (k : Form) (t o : List ℕ) where
-  pub reads-not : isText k t ≡ false → (refused 16 ≡ readAnswer (parse k t) o) × ([] ≡ readName (parse k t) o) × (o ≡ readBuffer (parse k t) o)
-  reads-not e = rw e (refl, refl, refl)
+-- and one whose checksum does not
+pub tail-open : (t : List ℕ) → separator t + 7 ≤ length t → (hasTail (map lower t) && isClosed (map lower t)) ≡ false →
+    tailNumber (map lower t) ≡ pick (areSymbols (map valueAt (drop (separator t + 1) t))) 21 16
+tail-open t h e =
+    ap (λ vs. pick (areSymbols vs) (pick (isClosed (map lower t)) (pick (isWhole (payloadIn (map lower t))) 0 22) 21) 16) (values-lower t)
+    ∙ by-tests (areSymbols (map valueAt (drop (separator t + 1) t))) (isClosed (map lower t)) (pick (isWhole (payloadIn (map lower t))) 0 22) unclosed
+  where
+    unclosed : areSymbols (map valueAt (drop (separator t + 1) t)) ≡ true → isClosed (map lower t) ≡ false
+    unclosed a =
+        let b : hasTail (map lower t) ≡ true = tail-lower t ∙ ap₂ _&&_ (le-leb 7 (length t - separator t) (omega arith)) (ap areSymbols (values-lower t) ∙ a) in
+        sym (ap (λ b. b && isClosed (map lower t)) b) ∙ e
 
-  pub reads-short : (p : List ℕ) → isText k t ≡ true → p ≡ bytes (payloadIn (map lower t)) → length o < length p →
-      (refused 15 ≡ readAnswer (parse k t) o) × ([] ≡ readName (parse k t) o) × (o ≡ readBuffer (parse k t) o)
-  reads-short p e q h = rw (e, ← q, lt-ltb (length o) (length p) h) (refl, refl, refl)
+    by-tests : (a c : Bool) (n : ℕ) → (a ≡ true → c ≡ false) → pick a (pick c n 21) 16 ≡ pick a 21 16
+    by-tests true c n u = ap (λ c. pick c n 21) (u refl)
+    by-tests false c n u = refl
 
-  pub reads : (p : List ℕ) → isText k t ≡ true → p ≡ bytes (payloadIn (map lower t)) → length p ≤ length o →
-      (accepted (length p) ≡ readAnswer (parse k t) o) × (nameOf k t ≡ readName (parse k t) o) × (p ++ drop (length p) o ≡ readBuffer (parse k t) o)
-  reads p e q h = rw (e, ← q, le-ltb (length o) (length p) h) (refl, refl, refl)
+-- a whole tail is one
+pub tail-whole : (t : List ℕ) → separator t + 7 ≤ length t → tailNumber (map lower t) ≡ 0 → hasTail (map lower t) ≡ true
+tail-whole t h e =
+    tail-lower t
+    ∙ ap₂ _&&_ (le-leb 7 (length t - separator t) (omega arith))
+    (by-test (areSymbols (valuesIn (map lower t))) (pick (isClosed (map lower t)) (pick (isWhole (payloadIn (map lower t))) 0 22) 21) e)
+  where
+    by-test : (a : Bool) (n : ℕ) → pick a n 16 ≡ 0 → a ≡ true
+    by-test true n e = refl
+    by-test false n e = absurd (omega arith)
 
--- the mark
-pub mark-none : (k : Form) (t plugin : List ℕ) → isText k t ≡ false → 16 ≡ markOf (parse k t) plugin
-mark-none k t plugin e = rw e
+-- ---- the answers
 
-pub mark-is : (k : Form) (t plugin : List ℕ) → isText k t ≡ true → pick (same (map lower plugin) (nameOf k t)) 0 16 ≡ markOf (parse k t) plugin
-mark-is k t plugin e = rw e
+-- without a head the text has not the form
+pub number-none : (k : Form) (t : List ℕ) → hasHead k t ≡ false → textNumber (parse k t) ≡ 16
+number-none k t e =
+    let n : isFormed k t ≡ false = formed-is k t ∙ rw e in
+    parse-cases (λ p. textNumber p ≡ 16) k t
+    (λ f g h. absurd (false≢true (sym n ∙ f))) (λ f g h. absurd (false≢true (sym n ∙ f))) (λ f g. absurd (false≢true (sym n ∙ f))) (λ f. refl)
 
--- the number
-pub number-none : (k : Form) (t : List ℕ) → isText k t ≡ false → 16 ≡ textNumber (parse k t)
-number-none k t e = rw e
+-- with one, the tail decides
+module _ (k : Form) (t : List ℕ) (e : hasHead k t ≡ true) where
+  characters : isFormed k t ≡ areSymbols (valuesIn (map lower t))
+  characters = formed-is k t ∙ rw e
 
-pub number-is : (k : Form) (t : List ℕ) → isText k t ≡ true → 0 ≡ textNumber (parse k t)
-number-is k t e = rw e
+  pub number-is : textNumber (parse k t) ≡ tailNumber (map lower t)
+  number-is =
+      parse-cases (λ p. textNumber p ≡ tailNumber (map lower t)) k t
+      (λ f g h. rw (sym characters ∙ f, g, h))
+      (λ f g h. rw (sym characters ∙ f, g, h))
+      (λ f g. rw (sym characters ∙ f, g))
+      (λ f. rw (sym characters ∙ f))
+
+  pub mark-is : (plugin : List ℕ) → markOf (parse k t) plugin ≡ pick (same (map lower plugin) (nameAt k t)) (tailNumber (map lower t)) 16
+  mark-is plugin =
+      parse-cases (λ p. markOf p plugin ≡ pick (same (map lower plugin) (nameAt k t)) (tailNumber (map lower t)) 16) k t
+      (λ f g h. rw (e, sym characters ∙ f, g, h))
+      (λ f g h. rw (e, sym characters ∙ f, g, h))
+      (λ f g. rw (e, sym characters ∙ f, g))
+      (λ f. rw (sym characters ∙ f) (pick-same (same (map lower plugin) []) 16 ∙ sym (pick-same (same (map lower plugin) (nameAt k t)) 16)))
+
+  -- a tail that is whole
+  pub text-is : tailNumber (map lower t) ≡ 0 → parse k t ≡ parsed (nameAt k t) (bytes (payloadIn (map lower t)))
+  text-is z =
+      parse-cases (λ p. textNumber p ≡ 0 → p ≡ parsed (nameAt k t) (bytes (payloadIn (map lower t)))) k t
+      (λ f g h y. rw e)
+      (λ f g h y. absurd (omega arith)) (λ f g y. absurd (omega arith)) (λ f y. absurd (omega arith)) (number-is ∙ z)
+
+-- another plugin's name
+pub mark-none : (k : Form) (t plugin : List ℕ) → hasHead k t ≡ false → markOf (parse k t) plugin ≡ 16
+mark-none k t plugin e = ap (λ n. pick (same (map lower plugin) (nameOf (parse k t))) n 16) (number-none k t e) ∙ pick-same (same (map lower plugin) (nameOf (parse k t))) 16
+
+-- a refusal, with the place where it is 16
+pub refuses : (k : Form) (t o : List ℕ) (n : ℕ) → textNumber (parse k t) ≡ n → eqb n 0 ≡ false →
+    (refused n ≡ readAnswer (parse k t) o) × (pick (eqb n 16) (placeIn t) 0 ≡ readPlace (parse k t)) × ([] ≡ readName (parse k t) o) × (o ≡ readBuffer (parse k t) o)
+refuses k t o n e z =
+    let y : eqb (textNumber (parse k t)) 0 ≡ false = ap (λ n. eqb n 0) e ∙ z in
+    (rw y (ap refused (sym e)), ap (λ n. pick (eqb n 16) (placeIn t) 0) (sym e) ∙ place, rw y, rw y)
+  where
+    place : pick (eqb (textNumber (parse k t)) 16) (placeIn t) 0 ≡ readPlace (parse k t)
+    place = parse-cases (λ p. pick (eqb (textNumber p) 16) (placeIn t) 0 ≡ readPlace p) k t (λ f g h. refl) (λ f g h. refl) (λ f g. refl) (λ f. refl)
+
+module _ (k : Form) (t o name payload : List ℕ) (e : parse k t ≡ parsed name payload) where
+  pub reads-short : length o < length payload →
+      (refused 15 ≡ readAnswer (parse k t) o) × (0 ≡ readPlace (parse k t)) × ([] ≡ readName (parse k t) o) × (o ≡ readBuffer (parse k t) o)
+  reads-short h = rw (e, lt-ltb (length o) (length payload) h) (refl, refl, refl, refl)
+
+  pub reads : length payload ≤ length o →
+      (accepted (length payload) ≡ readAnswer (parse k t) o) × (0 ≡ readPlace (parse k t)) × (name ≡ readName (parse k t) o) × (payload ++ drop (length payload) o ≡ readBuffer (parse k t) o)
+  reads h = rw (e, le-ltb (length o) (length payload) h) (refl, refl, refl, refl)
+
+-- ---- the place
+
+-- a byte outside 33 to 126 before the separator, or there
+pub place-graphic : (t : List ℕ) → run isGraphic t ≤ separator t → run isGraphic t ≡ placeIn t
+unfolding placeIn
+place-graphic t h = sym (min-eq-left (omega arith))
+
+-- else the least of two
+pub place-least : (t : List ℕ) (b : ℕ) → b ≡ separator t + 1 + run (λ v. ltb v 32) (map valueAt (drop (separator t + 1) t)) → placeIn t ≡ min (run isGraphic t) b
+unfolding placeIn
+place-least t b e = ap (λ n. min (run isGraphic t) (separator t + 1 + n)) (sym (run-map valueAt (λ v. ltb v 32) (drop (separator t + 1) t))) ∙ ap (min (run isGraphic t)) (sym e)

@@ -20,8 +20,8 @@ use Rattle.refusal.proofs.Laws.Same.{same-refl, same-eq}
 use Rattle.symbols.specs.Charset.{valueOf, characterOf, isUpper, isLower, lower, upper}
 use Rattle.symbols.specs.Checksum.{areSymbols, polymod, checksum, expanded}
 use Rattle.symbols.specs.Regroup.{symbols, bytes, isWhole}
-use Rattle.bech32.specs.Text.{recipient, identity, isNameByte, isName, Form, humanPart, plainText, textOf, isCased, inCase, noUpper, isNotOne, separator, nameIn, parsed, none, humanIn, valuesIn, payloadIn, isChecked, isHuman, isText, parse, Read}
-use Rattle.bech32.specs.Calls.{formOf}
+use Rattle.bech32.specs.Text.{recipient, identity, isNameByte, isName, Form, humanPart, plainText, textOf, isCased, inCase, noUpper, isNotOne, separator, nameIn, Parsed, parsed, malformed, bad-checksum, leftover-bits, humanIn, valuesIn, payloadIn, hasTail, isClosed, isHuman, isFormed, placeIn, parse, Read}
+use Rattle.bech32.specs.Calls.{formOf, textNumber}
 use Rattle.bech32.specs.declared.TextKind.{TextKind}
 use Rattle.bech32.specs.declared.TextKind.the-variants.{Recipient, Identity}
 use Rattle.symbols.proofs.Laws.Charset.{character-value, value-character, lower-upper, upper-lower, lower-plain, upper-not-lower}
@@ -31,7 +31,7 @@ use Rattle.symbols.proofs.Laws.Regroup.{bytes-symbols, symbols-bytes, symbols-s
 -- ---- the separator
 
 -- the last "1" stands behind what has one before it
-separator-is : (h d : List ℕ) → all isNotOne d ≡ true → separator (h ++ 49 ∷ d) ≡ length h
+pub separator-is : (h d : List ℕ) → all isNotOne d ≡ true → separator (h ++ 49 ∷ d) ≡ length h
 unfolding separator all
 separator-is [] d a = rw a
 separator-is (b ∷ h) d a = rw (has-one h d) (ap suc (separator-is h d a))
@@ -41,7 +41,7 @@ separator-is (b ∷ h) d a = rw (has-one h d) (ap suc (separator-is h d a))
     has-one (b ∷ h) d = cases (isNotOne b) (λ e. rw e (has-one h d)) (λ e. rw e)
 
 -- what the separator parts
-separator-split : (l : List ℕ) → separator l < length l → l ≡ take (separator l) l ++ 49 ∷ drop (separator l + 1) l
+pub separator-split : (l : List ℕ) → separator l < length l → l ≡ take (separator l) l ++ 49 ∷ drop (separator l + 1) l
 unfolding separator
 separator-split [] h = absurd (omega arith)
 separator-split (b ∷ t) h =
@@ -140,12 +140,12 @@ pub record Plain (k : Form) : Type 0 where
   pub front : all (λ b. not (isUpper b)) (k .front) ≡ true
   pub back : all (λ b. not (isUpper b)) (k .back) ≡ true
 
-name-in : (k : Form) (name : List ℕ) → nameIn k (humanPart k name) ≡ name
+pub name-in : (k : Form) (name : List ℕ) → nameIn k (humanPart k name) ≡ name
 name-in k name =
     let n : length (humanPart k name) - length (k .front) - length (k .back) ≡ length name = simp length-append (omega arith) in
     rw (n, append-assoc (k .front) name (k .back), drop-append-seam (k .front) (name ++ k .back), take-append-seam name (k .back))
 
-human-ok : (k : Form) (name : List ℕ) → isName name ≡ true → isHuman k (humanPart k name) ≡ true
+pub human-ok : (k : Form) (name : List ℕ) → isName name ≡ true → isHuman k (humanPart k name) ≡ true
 unfolding isHuman
 human-ok k name hn =
     true-and (same (humanPart k name) (humanPart k (nameIn k (humanPart k name)))) (isName (nameIn k (humanPart k name)))
@@ -196,23 +196,30 @@ text-plain k pl name vs hn a =
     all-append (λ b. not (isUpper b)) (humanPart k name) (49 ∷ map characterOf vs)
     ∙ true-and (noUpper (humanPart k name)) (noUpper (49 ∷ map characterOf vs)) (human-plain k pl name hn) (characters-plain vs a .1)
 
--- the checksum of a text holds
-checked-is : (h v : List ℕ) → areSymbols v ≡ true → isChecked (plainText h v) ≡ true
-unfolding isChecked
-checked-is h v s =
+-- a text has a tail
+tail-is : (h v : List ℕ) → areSymbols v ≡ true → hasTail (plainText h v) ≡ true
+unfolding hasTail
+tail-is h v s =
     let c = checksum (polymod 1 (expanded h ++ v)) in
     let a : areSymbols (v ++ c) ≡ true = all-append (λ d. ltb d 32) v c ∙ true-and (areSymbols v) (areSymbols c) s (six-lt _) in
     let l : List ℕ = plainText h v in
     let n : length l ≡ length h + suc (length (map characterOf (v ++ c))) = length-append h (49 ∷ map characterOf (v ++ c)) in
     let e = values-in h (v ++ c) a in
-    let q : polymod 1 (expanded h ++ (v ++ c)) ≡ 1 = ap (polymod 1) (sym (append-assoc (expanded h) v c)) ∙ polymod-append (expanded h ++ v) c 1 ∙ checksum-closes (polymod 1 (expanded h ++ v)) in
-    true-and (ltb (separator l) (length l) && leb 6 (length (valuesIn l)) && areSymbols (valuesIn l)) (eqb (polymod 1 (expanded (humanIn l) ++ valuesIn l)) 1)
-    (true-and (ltb (separator l) (length l) && leb 6 (length (valuesIn l))) (areSymbols (valuesIn l))
+    true-and (ltb (separator l) (length l) && leb 6 (length (valuesIn l))) (areSymbols (valuesIn l))
     (true-and (ltb (separator l) (length l)) (leb 6 (length (valuesIn l)))
     (lt-ltb (separator l) (length l) (omega (arith, n, sep-at h (v ++ c) a)))
     (le-leb 6 (length (valuesIn l)) (omega (arith, ap length e, length-append v c))))
-    (ap areSymbols e ∙ a))
-    (eq-eqb (polymod 1 (expanded (humanIn l) ++ valuesIn l)) 1 (ap₂ (λ x y. polymod 1 (expanded x ++ y)) (human-in h (v ++ c) a) e ∙ q))
+    (ap areSymbols e ∙ a)
+
+-- and its checksum holds
+closed-is : (h v : List ℕ) → areSymbols v ≡ true → isClosed (plainText h v) ≡ true
+unfolding isClosed
+closed-is h v s =
+    let c = checksum (polymod 1 (expanded h ++ v)) in
+    let a : areSymbols (v ++ c) ≡ true = all-append (λ d. ltb d 32) v c ∙ true-and (areSymbols v) (areSymbols c) s (six-lt _) in
+    let l : List ℕ = plainText h v in
+    let q : polymod 1 (expanded h ++ (v ++ c)) ≡ 1 = ap (polymod 1) (sym (append-assoc (expanded h) v c)) ∙ polymod-append (expanded h ++ v) c 1 ∙ checksum-closes (polymod 1 (expanded h ++ v)) in
+    eq-eqb (polymod 1 (expanded (humanIn l) ++ valuesIn l)) 1 (ap₂ (λ x y. polymod 1 (expanded x ++ y)) (human-in h (v ++ c) a) (values-in h (v ++ c) a) ∙ q)
 
 -- the payload's symbols are those before the checksum
 payload-is : (h v : List ℕ) → areSymbols v ≡ true → payloadIn (plainText h v) ≡ v
@@ -226,9 +233,15 @@ human-is h v s =
     let c = checksum (polymod 1 (expanded h ++ v)) in
     human-in h (v ++ c) (all-append (λ d. ltb d 32) v c ∙ true-and (areSymbols v) (areSymbols c) s (six-lt _))
 
-pub text-is : (k : Form) → Plain k → (name payload : List ℕ) → isName name ≡ true → areBytes payload ≡ true → length (textOf k name payload) ≤ 1024 →
-    (isText k (textOf k name payload) ≡ true) × (map lower (textOf k name payload) ≡ plainText (humanPart k name) (symbols payload))
-unfolding isText isName
+-- a text passes each test
+record Passed (k : Form) (t : List ℕ) : Type 0 where
+  pub formed : isFormed k t ≡ true
+  pub closed : isClosed (map lower t) ≡ true
+  pub whole : isWhole (payloadIn (map lower t)) ≡ true
+
+text-is : (k : Form) → Plain k → (name payload : List ℕ) → isName name ≡ true → areBytes payload ≡ true → length (textOf k name payload) ≤ 1024 →
+    Passed k (textOf k name payload) × (map lower (textOf k name payload) ≡ plainText (humanPart k name) (symbols payload))
+unfolding isFormed isName
 text-is k pl name payload hn hp hl =
     let h = humanPart k name in
     let v = symbols payload in
@@ -239,33 +252,36 @@ text-is k pl name payload hn hp hl =
     let w = cased k (plainText h v) (text-plain k pl name (v ++ c) (b .1) a) in
     let t = textOf k name payload in
     let e : humanIn (map lower t) ≡ h = ap humanIn (w .1) ∙ human-is h v s in (
-      true-and (leb (length t) 1024 && isCased k t && isChecked (map lower t) && isWhole (payloadIn (map lower t))) (isHuman k (humanIn (map lower t)))
-          (true-and (leb (length t) 1024 && isCased k t && isChecked (map lower t)) (isWhole (payloadIn (map lower t)))
-          (true-and (leb (length t) 1024 && isCased k t) (isChecked (map lower t))
-          (true-and (leb (length t) 1024) (isCased k t) (le-leb (length t) 1024 hl) (w .0))
-          (ap isChecked (w .1) ∙ checked-is h v s))
-          (ap (λ x. isWhole (payloadIn x)) (w .1) ∙ ap isWhole (payload-is h v s) ∙ symbols-whole payload))
-          (ap (isHuman k) e ∙ human-ok k name hn),
+      record {
+        formed =
+            true-and (leb (length t) 1024 && isCased k t && hasTail (map lower t)) (isHuman k (humanIn (map lower t)))
+            (true-and (leb (length t) 1024 && isCased k t) (hasTail (map lower t))
+            (true-and (leb (length t) 1024) (isCased k t) (le-leb (length t) 1024 hl) (w .0))
+            (ap hasTail (w .1) ∙ tail-is h v s))
+            (ap (isHuman k) e ∙ human-ok k name hn);
+        closed = ap isClosed (w .1) ∙ closed-is h v s;
+        whole = ap (λ x. isWhole (payloadIn x)) (w .1) ∙ ap isWhole (payload-is h v s) ∙ symbols-whole payload;
+      },
       w .1,
     )
 
 pub parse-text : (k : Form) → Plain k → (name payload : List ℕ) → isName name ≡ true → areBytes payload ≡ true → length (textOf k name payload) ≤ 1024 →
     parse k (textOf k name payload) ≡ parsed name payload
+unfolding parse
 parse-text k pl name payload hn hp hl =
     let w = text-is k pl name payload hn hp hl in
     let h = humanPart k name in
     let v = symbols payload in
     let s = symbols-small payload hp in
-    rw (w .0) (ap₂ parsed (ap (λ x. nameIn k (humanIn x)) (w .1) ∙ ap (nameIn k) (human-is h v s) ∙ name-in k name) (ap (λ x. bytes (payloadIn x)) (w .1) ∙ ap bytes (payload-is h v s) ∙ bytes-symbols payload hp))
+    rw (w .0 .formed, w .0 .closed, w .0 .whole) (ap₂ parsed (ap (λ x. nameIn k (humanIn x)) (w .1) ∙ ap (nameIn k) (human-is h v s) ∙ name-in k name) (ap (λ x. bytes (payloadIn x)) (w .1) ∙ ap bytes (payload-is h v s) ∙ bytes-symbols payload hp))
 
 -- ---- what is read would be written so again
 
--- a text in lower case whose checksum holds is the text of its human part and its payload's symbols
-checked-text : (l : List ℕ) → isChecked l ≡ true → l ≡ plainText (humanIn l) (payloadIn l)
-unfolding isChecked
-checked-text l e =
-    let a = and-true (ltb (separator l) (length l) && leb 6 (length (valuesIn l)) && areSymbols (valuesIn l)) (eqb (polymod 1 (expanded (humanIn l) ++ valuesIn l)) 1) e in
-    let b = and-true (ltb (separator l) (length l) && leb 6 (length (valuesIn l))) (areSymbols (valuesIn l)) (a .0) in
+-- a text in lower case with a tail whose checksum holds is the text of its human part and its payload's symbols
+checked-text : (l : List ℕ) → hasTail l ≡ true → isClosed l ≡ true → l ≡ plainText (humanIn l) (payloadIn l)
+unfolding hasTail isClosed
+checked-text l e f =
+    let b = and-true (ltb (separator l) (length l) && leb 6 (length (valuesIn l))) (areSymbols (valuesIn l)) e in
     let c = and-true (ltb (separator l) (length l)) (leb 6 (length (valuesIn l))) (b .0) in
     let s = ltb-true (separator l) (length l) (c .0) in
     let six = leb-true 6 (length (valuesIn l)) (c .1) in
@@ -276,47 +292,79 @@ checked-text l e =
     let cs = drop n vs in
     let split : pay ++ cs ≡ vs = take-append-drop n vs in
     let sym2 = and-true (areSymbols pay) (areSymbols cs) (sym (all-append (λ d. ltb d 32) pay cs) ∙ ap areSymbols split ∙ b .1) in
-    let one : polymod (polymod 1 (expanded h ++ pay)) cs ≡ 1 = sym (polymod-append (expanded h ++ pay) cs 1) ∙ ap (polymod 1) (append-assoc (expanded h) pay cs ∙ ap (λ x. expanded h ++ x) split) ∙ eqb-true (polymod 1 (expanded h ++ vs)) 1 (a .1) in
+    let one : polymod (polymod 1 (expanded h ++ pay)) cs ≡ 1 = sym (polymod-append (expanded h ++ pay) cs 1) ∙ ap (polymod 1) (append-assoc (expanded h) pay cs ∙ ap (λ x. expanded h ++ x) split) ∙ eqb-true (polymod 1 (expanded h ++ vs)) 1 f in
     let u : cs ≡ checksum (polymod 1 (expanded h ++ pay)) = checksum-unique (polymod 1 (expanded h ++ pay)) cs (sym2 .1) (simp length-drop (omega arith)) one in
     separator-split l s ∙ ap (λ x. h ++ 49 ∷ x) (sym (characters-values (drop (separator l + 1) l) (b .1)) ∙ ap (map characterOf) (sym split ∙ ap (λ x. pay ++ x) u))
 
 -- the payload's values are symbols
-pub payload-symbols : (l : List ℕ) → isChecked l ≡ true → areSymbols (payloadIn l) ≡ true
-unfolding isChecked
+pub payload-symbols : (l : List ℕ) → hasTail l ≡ true → areSymbols (payloadIn l) ≡ true
+unfolding hasTail
 payload-symbols l e =
-    let a = and-true (ltb (separator l) (length l) && leb 6 (length (valuesIn l)) && areSymbols (valuesIn l)) (eqb (polymod 1 (expanded (humanIn l) ++ valuesIn l)) 1) e in
-    let b = and-true (ltb (separator l) (length l) && leb 6 (length (valuesIn l))) (areSymbols (valuesIn l)) (a .0) in
+    let b = and-true (ltb (separator l) (length l) && leb 6 (length (valuesIn l))) (areSymbols (valuesIn l)) e in
     let n : ℕ = length (valuesIn l) - 6 in
     and-true (areSymbols (take n (valuesIn l))) (areSymbols (drop n (valuesIn l))) (sym (all-append (λ d. ltb d 32) (take n (valuesIn l)) (drop n (valuesIn l))) ∙ ap areSymbols (take-append-drop n (valuesIn l)) ∙ b .1) .0
 
-read-is : (k : Form) (t : List ℕ) → isText k t ≡ true → Read k t (nameIn k (humanIn (map lower t))) (bytes (payloadIn (map lower t)))
-unfolding isText isHuman
-read-is k t e =
+-- the tests that make the form
+pub record HasForm (k : Form) (t : List ℕ) : Type 0 where
+  pub limit : length t ≤ 1024
+  pub cased : isCased k t ≡ true
+  pub tail : hasTail (map lower t) ≡ true
+  pub human : humanIn (map lower t) ≡ humanPart k (nameIn k (humanIn (map lower t)))
+  pub named : isName (nameIn k (humanIn (map lower t))) ≡ true
+
+pub has-form : (k : Form) (t : List ℕ) → isFormed k t ≡ true → HasForm k t
+unfolding isFormed isHuman
+has-form k t e =
     let l = map lower t in
-    let a = and-true (leb (length t) 1024 && isCased k t && isChecked l && isWhole (payloadIn l)) (isHuman k (humanIn l)) e in
-    let b = and-true (leb (length t) 1024 && isCased k t && isChecked l) (isWhole (payloadIn l)) (a .0) in
-    let c = and-true (leb (length t) 1024 && isCased k t) (isChecked l) (b .0) in
+    let a = and-true (leb (length t) 1024 && isCased k t && hasTail l) (isHuman k (humanIn l)) e in
+    let c = and-true (leb (length t) 1024 && isCased k t) (hasTail l) (a .0) in
     let d = and-true (leb (length t) 1024) (isCased k t) (c .0) in
     let f = and-true (same (humanIn l) (humanPart k (nameIn k (humanIn l)))) (isName (nameIn k (humanIn l))) (a .1) in
-    let h : humanIn l ≡ humanPart k (nameIn k (humanIn l)) = same-eq (humanIn l) (humanPart k (nameIn k (humanIn l))) (f .0) in
-    let v : symbols (bytes (payloadIn l)) ≡ payloadIn l = symbols-bytes (payloadIn l) (payload-symbols l (c .1)) (b .1) in
-    let w : plainText (humanPart k (nameIn k (humanIn l))) (symbols (bytes (payloadIn l))) ≡ l = ap₂ plainText (sym h) v ∙ sym (checked-text l (c .1)) in
     record {
-      isNamed = f .1;
-      areRead = bytes-are (payloadIn l) (payload-symbols l (c .1));
       limit = leb-true (length t) 1024 (d .0);
-      text = ap (λ x. pick (k .capital) (map upper x) x) w ∙ recased k t (d .1);
+      cased = d .1;
+      tail = c .1;
+      human = same-eq (humanIn l) (humanPart k (nameIn k (humanIn l))) (f .0);
+      named = f .1;
     }
 
+read-is : (k : Form) (t : List ℕ) → isFormed k t ≡ true → isClosed (map lower t) ≡ true → isWhole (payloadIn (map lower t)) ≡ true →
+    Read k t (nameIn k (humanIn (map lower t))) (bytes (payloadIn (map lower t)))
+read-is k t e f g =
+    let l = map lower t in
+    let p = has-form k t e in
+    let v : symbols (bytes (payloadIn l)) ≡ payloadIn l = symbols-bytes (payloadIn l) (payload-symbols l (p .tail)) g in
+    let w : plainText (humanPart k (nameIn k (humanIn l))) (symbols (bytes (payloadIn l))) ≡ l = ap₂ plainText (sym (p .human)) v ∙ sym (checked-text l (p .tail) f) in
+    record {
+      isNamed = p .named;
+      areRead = bytes-are (payloadIn l) (payload-symbols l (p .tail));
+      limit = p .limit;
+      text = ap (λ x. pick (k .capital) (map upper x) x) w ∙ recased k t (p .cased);
+    }
+
+-- the four ways in which a text is read
+pub parse-cases : (P : Parsed → Type 0) (k : Form) (t : List ℕ) →
+    (isFormed k t ≡ true → isClosed (map lower t) ≡ true → isWhole (payloadIn (map lower t)) ≡ true →
+    P (parsed (nameIn k (humanIn (map lower t))) (bytes (payloadIn (map lower t))))) →
+    (isFormed k t ≡ true → isClosed (map lower t) ≡ true → isWhole (payloadIn (map lower t)) ≡ false → P (leftover-bits (nameIn k (humanIn (map lower t))))) →
+    (isFormed k t ≡ true → isClosed (map lower t) ≡ false → P (bad-checksum (nameIn k (humanIn (map lower t))))) →
+    (isFormed k t ≡ false → P (malformed (placeIn t))) → P (parse k t)
+unfolding parse
+parse-cases P k t whole bits sum form =
+    cases (isFormed k t)
+    (λ e. cases (isClosed (map lower t))
+    (λ f. cases (isWhole (payloadIn (map lower t))) (λ g. rw (e, f, g) (whole e f g)) (λ g. rw (e, f, g) (bits e f g)))
+    (λ f. rw (e, f) (sum e f)))
+    (λ e. rw e (form e))
+
 pub text-parse : (k : Form) (t name payload : List ℕ) → parse k t ≡ parsed name payload → Read k t name payload
-text-parse k t name payload e =
-    cases (isText k t)
-    (λ i.
-    let q : parsed (nameIn k (humanIn (map lower t))) (bytes (payloadIn (map lower t))) ≡ parsed name payload = rw i at e in
+text-parse k t name payload =
+    parse-cases (λ p. p ≡ parsed name payload → Read k t name payload) k t
+    (λ e f g q.
     let n : nameIn k (humanIn (map lower t)) ≡ name = cc in
     let p : bytes (payloadIn (map lower t)) ≡ payload = cc in
-    subst (λ x. Read k t x payload) n (subst (Read k t (nameIn k (humanIn (map lower t)))) p (read-is k t i)))
-    (λ i. let q : none ≡ parsed name payload = rw i at e in let z : _≡_ {A = ℕ} 0 1 = cc in absurd (omega arith))
+    subst (λ x. Read k t x payload) n (subst (Read k t (nameIn k (humanIn (map lower t)))) p (read-is k t e f g)))
+    (λ e f g q. let z : _≡_ {A = ℕ} 0 1 = cc in absurd (omega arith)) (λ e f q. let z : _≡_ {A = ℕ} 0 1 = cc in absurd (omega arith)) (λ e q. let z : _≡_ {A = ℕ} 0 1 = cc in absurd (omega arith))
 
 -- exactly the texts that a name and a payload write are read as that name and payload
 pub parse-iff : (k : Form) → Plain k → (t name payload : List ℕ) → (parse k t ≡ parsed name payload) ↔ Read k t name payload
@@ -325,11 +373,13 @@ parse-iff k pl t name payload = (
   λ r. ap (parse k) (sym (r .text)) ∙ parse-text k pl name payload (r .isNamed) (r .areRead) (rw (r .text) (r .limit)),
 )
 
--- and every other text as none
-pub none-iff : (k : Form) → Plain k → (t : List ℕ) → (parse k t ≡ none) ↔ ((name payload : List ℕ) → Read k t name payload → ⊥)
-none-iff k pl t = (
-  λ e name payload r. let f : parse k t ≡ parsed name payload = parse-iff k pl t name payload .1 r in let z : _≡_ {A = ℕ} 0 1 = cc in omega arith,
-  λ h. cases (isText k t) (λ i. absurd (h (nameIn k (humanIn (map lower t))) (bytes (payloadIn (map lower t))) (read-is k t i))) (λ i. rw i),
+-- and every other text is refused
+pub number-iff : (k : Form) → Plain k → (t : List ℕ) → (textNumber (parse k t) ≡ 0) ↔ ((name : List ℕ) × (payload : List ℕ) × Read k t name payload)
+number-iff k pl t = (
+  parse-cases (λ p. textNumber p ≡ 0 → (name : List ℕ) × (payload : List ℕ) × Read k t name payload) k t
+      (λ e f g q. (nameIn k (humanIn (map lower t)), bytes (payloadIn (map lower t)), read-is k t e f g))
+      (λ e f g q. absurd (omega arith)) (λ e f q. absurd (omega arith)) (λ e q. absurd (omega arith)),
+  λ r. ap textNumber (parse-iff k pl t (r .0) (r .1) .1 (r .2)),
 )
 
 -- for recipients, and for identities

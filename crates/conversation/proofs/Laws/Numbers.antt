@@ -13,7 +13,7 @@ use Rattle.refusal.specs.Output.{overflows}
 use Rattle.refusal.specs.Pick.{pick}
 use Rattle.refusal.specs.Verdict.{firstOf}
 use Rattle.refusal.specs.declared.Refusal.{Refusal}
-use Rattle.refusal.specs.declared.Refusal.the-variants.{NotStanza, Unfinished, TooLong, BadCommand, BadIndex, NoSuchIndex, FallingIndex, NoSpace, SecondKey, TooManyStanzas, WorkAndError, UnfitResponse, SessionOver, OutOfTurn, ShortOutput, NotBech32, Unwritable, NoSuchMachine, HeldBack}
+use Rattle.refusal.specs.declared.Refusal.the-variants.{NotStanza, Unfinished, TooLong, BadCommand, BadIndex, NoSuchIndex, FallingIndex, NoSpace, SecondKey, TooManyStanzas, WorkAndError, UnfitResponse, SessionOver, OutOfTurn, ShortOutput, Malformed, Unwritable, NoSuchMachine, HeldBack, BadChecksum, LeftoverBits}
 use Rattle.refusal.proofs.Laws.Booleans.{and-true, cases}
 use Rattle.refusal.proofs.Laws.Number.{number-not-zero}
 use Rattle.stanza.specs.Arguments.{words, isLine}
@@ -72,7 +72,7 @@ refusalOf n =
     (pick (eqb n 12) UnfitResponse
     (pick (eqb n 13) SessionOver
     (pick (eqb n 14) OutOfTurn
-    (pick (eqb n 15) ShortOutput (pick (eqb n 16) NotBech32 (pick (eqb n 17) Unwritable (pick (eqb n 18) NoSuchMachine HeldBack)))))))))))))))))
+    (pick (eqb n 15) ShortOutput (pick (eqb n 16) Malformed (pick (eqb n 17) Unwritable (pick (eqb n 18) NoSuchMachine (pick (eqb n 19) HeldBack (pick (eqb n 21) BadChecksum LeftoverBits)))))))))))))))))))
 
 refusal-of : (r : Refusal) → refusalOf (numberOf r) ≡ r
 unfolding refusalOf
@@ -91,10 +91,12 @@ refusal-of UnfitResponse = refl
 refusal-of SessionOver = refl
 refusal-of OutOfTurn = refl
 refusal-of ShortOutput = refl
-refusal-of NotBech32 = refl
+refusal-of Malformed = refl
 refusal-of Unwritable = refl
 refusal-of NoSuchMachine = refl
 refusal-of HeldBack = refl
+refusal-of BadChecksum = refl
+refusal-of LeftoverBits = refl
 
 -- ---- a response that fits
 

@@ -7,10 +7,10 @@ use lib.ListN.{length, take, drop}
 use lib.Pow.{areBytes}
 use lib.Seq.{take-append-seam}
 use Rattle.refusal.specs.Pick.{pick}
-use Rattle.refusal.specs.Run.{all}
+use Rattle.refusal.specs.Run.{all, isGraphic}
 use Rattle.base64.specs.Code.{encoded}
 use Rattle.base64.specs.Lines.{wrapped}
-use Rattle.stanza.specs.Arguments.{isGraphic, isArgument, areArguments, words, before}
+use Rattle.stanza.specs.Arguments.{isArgument, areArguments, words, before}
 use Rattle.stanza.specs.Grammar.{stanzaText}
 use Rattle.stanza.specs.Reading.{stanza, readFirst}
 use Rattle.stanza.specs.Writing.{isWritable}

@@ -8,13 +8,13 @@ use lib.Dec.{ltb, leb}
 use lib.ListN.{length, length-append}
 use native.Mathlib.Omega.{arith}
 use borrow.Author.Tests.{le-leb, leb-false, lt-leb, ltb-true, ne-eqb}
-use Rattle.refusal.specs.Run.{all}
+use Rattle.refusal.specs.Run.{all, isGraphic}
 use Rattle.refusal.proofs.Laws.Below.{below}
 use Rattle.refusal.proofs.Laws.Booleans.{T-true, and-true, true-and, cases}
 use Rattle.refusal.proofs.Laws.Run.{all-append, all-wider}
 use Rattle.base64.specs.Code.{encoded}
 use Rattle.base64.specs.Lines.{wrapped}
-use Rattle.stanza.specs.Arguments.{isGraphic, words, before, isArgument, areArguments, isLine}
+use Rattle.stanza.specs.Arguments.{words, before, isArgument, areArguments, isLine}
 use Rattle.stanza.specs.Grammar.{stanzaText}
 use Rattle.stanza.specs.Writing.{isWritable}
 use Rattle.stanza.proofs.Laws.Arguments.{graphic-no-space}

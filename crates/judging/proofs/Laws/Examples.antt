@@ -6,9 +6,9 @@ use lib.ListN.{replicate}
 use Rattle.base64.specs.Alphabet.{isCharacter, valueOf}
 use Rattle.base64.specs.Code.{decoded, endsWell}
 use Rattle.base64.specs.Lines.{unwrapped}
-use Rattle.refusal.specs.Run.{run}
+use Rattle.refusal.specs.Run.{run, isGraphic}
 use Rattle.refusal.specs.Same.{same}
-use Rattle.stanza.specs.Arguments.{isGraphic, before, words}
+use Rattle.stanza.specs.Arguments.{before, words}
 use Rattle.stanza.specs.Automaton.{next, verdict, scan}
 use Rattle.stanza.specs.Grammar.{firstLine}
 use Rattle.stanza.specs.Reading.{found}

@@ -6,11 +6,11 @@ use Prim.Native.Nat.{ℕ}
 use lib.ListN.{getD}
 use Rattle.refusal.specs.Pick.{pick}
 use Rattle.refusal.specs.Same.{same}
-use Rattle.refusal.specs.Run.{all}
+use Rattle.refusal.specs.Run.{all, isGraphic}
 use Rattle.refusal.proofs.Laws.Same.{same-eq}
 use Rattle.base64.specs.Code.{encoded}
 use Rattle.base64.specs.Lines.{wrapped}
-use Rattle.stanza.specs.Arguments.{isGraphic, isArgument, areArguments, words as words-of, before}
+use Rattle.stanza.specs.Arguments.{isArgument, areArguments, words as words-of, before}
 use Rattle.stanza.specs.Writing.{isWritable}
 use Rattle.responses.specs.declared.Response.{Response}
 use Rattle.responses.specs.declared.Response.the-variants.{Ok, Yes, No, Fail, Unsupported}

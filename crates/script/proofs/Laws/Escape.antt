@@ -11,12 +11,11 @@ use native.Mathlib.Omega.{arith}
 use borrow.Author.Tests.{lt-ltb, le-ltb, le-leb, ne-eqb, leb-true, ltb-true, eqb-true}
 use Rattle.refusal.specs.Output.{bytes, refused, filled}
 use Rattle.refusal.specs.Pick.{pick}
-use Rattle.refusal.specs.Run.{all}
+use Rattle.refusal.specs.Run.{all, isGraphic}
 use Rattle.refusal.proofs.Laws.Below.{below}
 use Rattle.refusal.proofs.Laws.Booleans.{cases, and-true, T-true}
 use Rattle.refusal.proofs.Laws.Lists.{drop-one, store-one}
 use Rattle.refusal.proofs.Laws.Run.{all-append}
-use Rattle.stanza.specs.Arguments.{isGraphic}
 use Rattle.script.specs.Escape.{hexValue, moves, gives, stops, plain, letter, digit, effect, Meaning, word, bad, behind, rest, unescaped, measured, fits, answeredBy, filledBy, hexDigit, letterOf, printed, spelled, escaped, sized}
 
 -- ---- reading, one byte on

@@ -9,9 +9,9 @@ use lib.Seq.{drop-drop, getD-drop}
 use native.Mathlib.Omega.{arith}
 use borrow.Author.Tests.{lt-ltb, le-ltb, eq-eqb, ne-eqb, leb-true, eqb-true, not-true}
 use Rattle.refusal.specs.Pick.{pick}
-use Rattle.refusal.specs.Run.{all, run}
+use Rattle.refusal.specs.Run.{all, run, isGraphic}
 use Rattle.refusal.proofs.Laws.Booleans.{cases, and-true, and-assoc}
-use Rattle.stanza.specs.Arguments.{isGraphic, isWordByte, before, words, isArgument, areArguments, isLine, countOf, argumentOf}
+use Rattle.stanza.specs.Arguments.{isWordByte, before, words, isArgument, areArguments, isLine, countOf, argumentOf}
 
 -- ---- runs
 

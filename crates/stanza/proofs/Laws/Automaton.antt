@@ -10,14 +10,13 @@ use native.Mathlib.Nat.{add-zero}
 use native.Mathlib.Omega.{arith}
 use borrow.Author.Tests.{lt-ltb, ne-eqb, leb-true, ltb-true, eqb-true}
 use Rattle.refusal.specs.Pick.{pick}
-use Rattle.refusal.specs.Run.{all, run}
+use Rattle.refusal.specs.Run.{all, run, isGraphic}
 use Rattle.refusal.proofs.Laws.Booleans.{and-true, cases}
 use Rattle.refusal.proofs.Laws.Lists.{drop-one}
 use Rattle.refusal.proofs.Laws.Run.{run-stop, run-in-class, run-take, run-le, run-more, run-in, all-wider}
 use Rattle.base64.specs.Alphabet.{isCharacter, valueOf}
 use Rattle.base64.specs.Code.{endsWell}
 use Rattle.base64.specs.Lines.{isFull}
-use Rattle.stanza.specs.Arguments.{isGraphic}
 use Rattle.stanza.specs.Automaton.{State, start, hyphen, arrow, gap, word, line, ended, dead, next, bad, short, whole, verdict, scan}
 use Rattle.stanza.specs.Reading.{isNotLf, lineEnd}
 

@@ -12,13 +12,13 @@ use native.Mathlib.Nat.{add-zero}
 use native.Mathlib.Omega.{arith}
 use borrow.Author.Tests.{lt-ltb, eq-eqb, ne-eqb, ltb-true, eqb-true, eqb-false}
 use Rattle.refusal.specs.Pick.{pick}
-use Rattle.refusal.specs.Run.{all}
+use Rattle.refusal.specs.Run.{all, isGraphic}
 use Rattle.refusal.proofs.Laws.Booleans.{and-true, true-and, cases}
 use Rattle.base64.specs.Alphabet.{isCharacter, valueOf}
 use Rattle.base64.specs.Code.{encoded, decoded, endsWell, isBase64, last}
 use Rattle.base64.specs.Lines.{wrapped, linesOf}
 use Rattle.base64.proofs.Laws.RoundTrip.{decoded-bytes, encoded-decoded, encoded-is}
-use Rattle.stanza.specs.Arguments.{isGraphic, isLine}
+use Rattle.stanza.specs.Arguments.{isLine}
 use Rattle.stanza.specs.Automaton.{State, start, hyphen, arrow, gap, word, line, ended, dead, next, after}
 use Rattle.stanza.specs.Grammar.{firstLine, stanzaText, IsStanza}
 use Rattle.stanza.proofs.Laws.Arguments.{goesOn, graphic-no-space, space-not-graphic, line-cons, line-nil, goes-nil, goes-space, goes-cons}

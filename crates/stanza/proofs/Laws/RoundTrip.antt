@@ -9,13 +9,13 @@ use lib.Pow.{areBytes}
 use lib.Seq.{take-take, take-append-seam, drop-at, length-take-le}
 use native.Mathlib.Omega.{arith}
 use borrow.Author.Tests.{le-leb, leb-true, eqb-true}
-use Rattle.refusal.specs.Run.{all, run}
+use Rattle.refusal.specs.Run.{all, run, isGraphic}
 use Rattle.refusal.proofs.Laws.Run.{run-back, run-stop-append}
 use Rattle.refusal.proofs.Laws.Booleans.{and-true, true-and, cases}
 use Rattle.base64.specs.Lines.{linesOf, bodyOf}
 use Rattle.base64.proofs.Laws.RoundTrip.{body-lines}
 use Rattle.base64.proofs.Laws.Lines.{lines-length}
-use Rattle.stanza.specs.Arguments.{isGraphic, isLine}
+use Rattle.stanza.specs.Arguments.{isLine}
 use Rattle.stanza.specs.Automaton.{whole}
 use Rattle.stanza.specs.Exact.{Taken}
 use Rattle.stanza.specs.Grammar.{firstLine, stanzaText}

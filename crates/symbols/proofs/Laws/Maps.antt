@@ -1,9 +1,12 @@
 -- Lists mapped: parts, elements, one map after another.
 use Prim.Native.Nat.{ℕ, zero, suc, _+_, _<_}
 use mathlib.Core.Path.{_≡_, refl, sym, ap, ap₂, _∙_}
+use mathlib.Core.Bool.{Bool}
 use mathlib.Core.List.{List, [], _∷_, map}
 use lib.ListN.{length, take, drop, getD}
 use native.Mathlib.Omega.{arith}
+use Rattle.refusal.specs.Pick.{pick}
+use Rattle.refusal.specs.Run.{run}
 use Rattle.refusal.proofs.Laws.Lists.{drop-one}
 
 pub map-id : (l : List ℕ) → map (λ b. b) l ≡ l
@@ -35,6 +38,12 @@ module _ (f : ℕ → ℕ) where
   pub map-map : (g : ℕ → ℕ) (l : List ℕ) → map f (map g l) ≡ map (λ b. f (g b)) l
   map-map g [] = refl
   map-map g (b ∷ l) = ap (λ t. f (g b) ∷ t) (map-map g l)
+
+  -- a run of a class
+  pub run-map : (class : ℕ → Bool) (l : List ℕ) → run class (map f l) ≡ run (λ b. class (f b)) l
+  unfolding run
+  run-map class [] = refl
+  run-map class (b ∷ l) = ap (λ n. pick (class (f b)) (suc n) 0) (run-map class l)
 
 -- two functions that agree on bytes, of a part of a list of bytes
 module _ (f g : ℕ → ℕ) (agree : (b : ℕ) → b < 256 → f b ≡ g b) where

@@ -1,6 +1,7 @@
 -- Seven bytes from the separator on, and the values behind it close from the state of the human part.
 use Prim.Native.Nat.{_+_, _-_}
 use mathlib.Core.Path.{_≡_, sym, ap, ap₂, _∙_}
+use mathlib.Core.Bool.{_&&_}
 use mathlib.Core.List.{map}
 use lib.ListN.{length, take, drop}
 use native.Mathlib.Omega.{arith}
@@ -10,7 +11,7 @@ use borrow.Author.Tests.{lt-leb, le-leb}
 use Rattle.refusal.proofs.Laws.Lists.{part-rest}
 use Rattle.symbols.specs.Charset.{lower}
 use Rattle.symbols.specs.Checksum.{polymod, expanded}
-use Rattle.bech32.specs.Text.{separator, isChecked}
+use Rattle.bech32.specs.Text.{separator, hasTail, isClosed}
 use Rattle.symbols.specs.Calls.{closes, valueAt}
 use Rattle.symbols.proofs.Laws.Charset.{values-by}
 use Rattle.bech32.proofs.Laws.Parsing.{separator-le, checked-is}
@@ -52,7 +53,7 @@ returns-2 c =
     let t = now (c .before .before .before .before .before .before .args .text) in
     let at = c .before .before .before .before .before .before .args .at in
     let e = c .before .before .before .before .before .before .pre .1 in
-    let q : isChecked (map lower t) ≡ closes (polymod 1 (expanded (map lower (take at t)))) (map valueAt (drop (at + 1) t)) =
+    let q : (hasTail (map lower t) && isClosed (map lower t)) ≡ closes (polymod 1 (expanded (map lower (take at t)))) (map valueAt (drop (at + 1) t)) =
     rw e (checked-is t ∙ rw (le-leb 7 (length t - separator t) (omega (arith, e)))) in
     c .is-closed .ensures ∙ ap₂ closes (c .before .fold-human .ensures) (values-by (now (c .before .before .before .before .before .before .args .table)) (c .before .before .before .before .before .before .pre .0) (length t - (at + 1)) (at + 1) t (λ i. c .before .before .before .before .before .shared-slice-known .given i .fits) ∙ ap (map valueAt) (part-rest (at + 1) t)) ∙ sym q
 

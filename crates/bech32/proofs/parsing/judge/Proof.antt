@@ -1,37 +1,57 @@
--- A text is one where its name is not empty.
+-- Without a name the text has not the form; with one the tail decides.
 use mathlib.Core.Path.{sym, _∙_}
+use native.Mathlib.Omega.{arith}
 use denote.Ref.{now}
 use Rattle.bech32.specs.Calls.{formOf}
-use Rattle.bech32.proofs.Laws.Parsing.{is-text, no-text, number-none, number-is}
+use Rattle.bech32.proofs.Laws.Parsing.{is-head, no-head, head-long, number-none, number-is}
 use borrow.Author.Needs.{needs}
 use Rattle.bech32.proofs.parsing.judge.Statement.{statement}
 use Rattle.bech32.proofs.parsing.judge.Tie as tie
 
-values-requires : tie.Need-values-requires
-values-requires c κs = search needs
-
 find-separator-requires : tie.Need-find-separator-requires
 find-separator-requires c κs = search needs
 
-examine-requires : tie.Need-examine-requires
-examine-requires c κs = (c .before .before .values .ensures, c .find-separator .ensures)
+name-at-requires : tie.Need-name-at-requires
+name-at-requires c κs = search needs
 
 number-requires : tie.Need-number-requires
 number-requires c κs = search needs
 
 returns : tie.Need-returns
 returns c =
-    let t = now (c .before .before .before .before .before .before .before .before .args .text) in
-    let k = formOf (c .before .before .before .before .before .before .before .before .args .kind) in
-    c .number .ensures ∙ number-none k t (no-text k t (sym (c .before .before .before .examine .ensures .1) ∙ c .before .if1 .taken))
+    let t = now (c .before .before .before .before .before .before .args .text) in
+    let k = formOf (c .before .before .before .before .before .before .args .kind) in
+    c .number .ensures ∙ sym (number-none k t (no-head k t (sym (c .before .before .before .name-at .ensures .1) ∙ c .before .if1 .taken)))
+
+values-requires : tie.Need-values-requires
+values-requires c κs = search needs
+
+judge-tail-requires : tie.Need-judge-tail-requires
+judge-tail-requires c κs =
+    let t = now (c .before .before .before .before .before .before .before .args .text) in
+    let k = formOf (c .before .before .before .before .before .before .before .args .kind) in
+    let e = is-head k t (λ z. c .before .before .if1 .left (c .before .before .before .before .name-at .ensures .1 ∙ z)) in
+    (c .before .values .ensures, (c .before .before .before .before .before .find-separator .ensures, omega (arith, c .before .before .before .before .before .find-separator .ensures, head-long k t e)))
+
+number-of-requires : tie.Need-number-of-requires
+number-of-requires c κs = search needs
 
 returns-2 : tie.Need-returns-2
 returns-2 c =
-    let t = now (c .before .before .before .before .before .before .before .args .text) in
-    let k = formOf (c .before .before .before .before .before .before .before .args .kind) in
-    number-is k t (is-text k t (λ z. c .if1 .left (c .before .before .examine .ensures .1 ∙ z)))
+    let t = now (c .before .before .before .before .before .before .before .before .before .args .text) in
+    let k = formOf (c .before .before .before .before .before .before .before .before .before .args .kind) in
+    let e = is-head k t (λ z. c .before .before .before .before .if1 .left (c .before .before .before .before .before .before .name-at .ensures .1 ∙ z)) in
+    c .number-of .ensures ∙ c .before .judge-tail .ensures ∙ sym (number-is k t e)
 
 pub judge-spec : {M : Type 1} → statement M
 judge-spec =
     tie.close
-    (tie.spec values-requires find-separator-requires examine-requires number-requires returns returns-2)
+    (tie.spec
+    find-separator-requires
+    name-at-requires
+    number-requires
+    returns
+    values-requires
+    judge-tail-requires
+    number-of-requires
+    returns-2)

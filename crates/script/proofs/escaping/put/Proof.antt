@@ -2,12 +2,12 @@
 use Prim.Native.Nat.{_/_, _%_}
 use mathlib.Core.Path.{_≡_, refl, ap}
 use mathlib.Core.List.{[], _∷_}
+use Rattle.refusal.specs.Run.{isGraphic}
 use Rattle.script.specs.Escape.{printed, hexDigit}
 use lib.ListN.{length, length-set}
 use native.Mathlib.Omega.{arith}
 use denote.Ref.{now}
 use Rattle.script.proofs.Laws.Escape.{printed-letter, printed-self, printed-hex, two, four}
-use Rattle.stanza.specs.Arguments.{isGraphic}
 use borrow.Author.Needs.{needs}
 use Rattle.script.proofs.escaping.put.Statement.{statement}
 use Rattle.script.proofs.escaping.put.Tie as tie

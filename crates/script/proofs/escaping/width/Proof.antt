@@ -1,7 +1,7 @@
 -- `width` meets its contract.
 use native.Mathlib.Omega.{arith}
+use Rattle.refusal.specs.Run.{isGraphic}
 use Rattle.script.proofs.Laws.Escape.{printed-letter, printed-self, printed-hex}
-use Rattle.stanza.specs.Arguments.{isGraphic}
 use borrow.Author.Needs.{needs}
 use Rattle.script.proofs.escaping.width.Statement.{statement}
 use Rattle.script.proofs.escaping.width.Tie as tie

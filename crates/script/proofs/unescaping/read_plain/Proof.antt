@@ -1,7 +1,7 @@
 -- `read_plain` meets its contract.
 use borrow.Author.Tests.{eq-eqb, ne-eqb}
+use Rattle.refusal.specs.Run.{isGraphic}
 use Rattle.script.specs.Escape.{plain}
-use Rattle.stanza.specs.Arguments.{isGraphic}
 use Rattle.script.proofs.unescaping.read_plain.Statement.{statement}
 use Rattle.script.proofs.unescaping.read_plain.Tie as tie
 

@@ -5,8 +5,7 @@ use lib.ListN.{take, drop}
 use native.Mathlib.Omega.{arith}
 use borrow.Author.Needs.{needs}
 use denote.Ref.{now}
-use Rattle.stanza.specs.Arguments.{isGraphic}
-use Rattle.refusal.specs.Run.{all}
+use Rattle.refusal.specs.Run.{all, isGraphic}
 use Rattle.refusal.proofs.Laws.Run.{all-more}
 use Rattle.stanza.proofs.arguments.eight_graphic.Statement.{statement}
 use Rattle.stanza.proofs.arguments.eight_graphic.Tie as tie

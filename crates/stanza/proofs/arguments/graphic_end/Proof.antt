@@ -6,9 +6,8 @@ use native.Mathlib.Omega.{arith}
 use borrow.Author.Needs.{needs}
 use borrow.Author.Tests.{not-true, not-false}
 use denote.Ref.{now}
-use Rattle.refusal.specs.Run.{run}
+use Rattle.refusal.specs.Run.{run, isGraphic}
 use Rattle.refusal.proofs.Laws.Run.{run-in, run-out, run-more, run-end}
-use Rattle.stanza.specs.Arguments.{isGraphic}
 use Rattle.stanza.proofs.arguments.graphic_end.Statement.{statement}
 use Rattle.stanza.proofs.arguments.graphic_end.Tie as tie
 

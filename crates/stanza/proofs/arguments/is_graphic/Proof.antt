@@ -1,6 +1,6 @@
 -- `is_graphic` meets its contract.
 use mathlib.Core.Path.{refl}
-use Rattle.stanza.specs.Arguments.{isGraphic}
+use Rattle.refusal.specs.Run.{isGraphic}
 use Rattle.stanza.proofs.arguments.is_graphic.Statement.{statement}
 use Rattle.stanza.proofs.arguments.is_graphic.Tie as tie
 

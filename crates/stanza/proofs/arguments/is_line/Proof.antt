@@ -5,8 +5,9 @@ use lib.ListN.{length, drop}
 use native.Mathlib.Omega.{arith}
 use borrow.Author.Needs.{needs}
 use denote.Ref.{now}
+use Rattle.refusal.specs.Run.{isGraphic}
 use Rattle.refusal.proofs.Laws.Run.{end-le}
-use Rattle.stanza.specs.Arguments.{isGraphic, isLine}
+use Rattle.stanza.specs.Arguments.{isLine}
 use Rattle.stanza.proofs.Laws.Arguments.{line-empty, line-last, line-bad, line-next}
 use Rattle.stanza.proofs.arguments.is_line.Statement.{statement}
 use Rattle.stanza.proofs.arguments.is_line.Tie as tie

@@ -4,8 +4,8 @@ use mathlib.Core.Path.{_≡_, refl, _∙_}
 use lib.ListN.{length, drop}
 use native.Mathlib.Omega.{arith}
 use denote.Ref.{now}
+use Rattle.refusal.specs.Run.{isGraphic}
 use Rattle.refusal.proofs.Laws.Run.{run-in, run-out, end-le, run-first, run-stop}
-use Rattle.stanza.specs.Arguments.{isGraphic}
 use Rattle.stanza.specs.Automaton.{scan, gap, word}
 use Rattle.stanza.specs.Reading.{isNotLf, lineEnd}
 use Rattle.stanza.proofs.Laws.Automaton.{scan-end, gap-bad, gap-word, word-run, word-lf, word-space, word-bad, graphic-line-end}

@@ -1,0 +1,12 @@
+-- `is_graphic` meets its contract.
+use mathlib.Core.Path.{refl}
+use Rattle.refusal.specs.Run.{isGraphic}
+use Rattle.bech32.proofs.parsing.is_graphic.Statement.{statement}
+use Rattle.bech32.proofs.parsing.is_graphic.Tie as tie
+
+returns : tie.Need-returns
+unfolding isGraphic
+returns c = refl
+
+pub is-graphic-spec : {M : Type 1} → statement M
+is-graphic-spec = tie.close (tie.spec returns)

@@ -1,0 +1,24 @@
+-- Accepted, or the refusal's.
+use mathlib.Core.Path.{sym, ap, _∙_}
+use Rattle.refusal.specs.Verdict.{verdictSaid}
+use borrow.Author.Needs.{needs}
+use Rattle.refusal.proofs.number_of.Statement.{statement}
+use Rattle.refusal.proofs.number_of.Tie as tie
+
+enum-told : tie.Need-enum-told
+enum-told c = search needs
+
+enum-known-verdict : tie.Need-enum-known-verdict
+enum-known-verdict c = search needs
+
+number-requires : tie.Need-number-requires
+number-requires c κs = search needs
+
+returns : tie.Need-returns
+returns c = search needs
+
+returns-2 : tie.Need-returns-2
+returns-2 c = c .number .ensures ∙ sym (ap verdictSaid (c .before .before .verdict .given .1))
+
+pub number-of-spec : {M : Type 1} → statement M
+number-of-spec = tie.close (tie.spec enum-told enum-known-verdict number-requires returns returns-2)
