@@ -135,9 +135,10 @@ module _ (s : Session) (b : Buffers) (reached : ReachedSession s) (line body : L
 
   pub passes-six : (MissingIn s b (in-two line body) → ⊥) ↔ ((n : ℕ) × Names rows f i n)
   passes-six =
-      let k = stanza-missing s b reached line body f i says in
-      (λ h. elim (decLt i (length (ofFile f rows))) [ yes l ↦ named rows f i l | no l ↦ absurd (h (k .1 (omega arith))) ],
-      λ h m. let l = below rows f (h .0) (h .1 .file) in omega (arith, l, h .1 .before, k .0 m))
+      let k = stanza-missing s b reached line body f i says in (
+        λ h. elim (decLt i (length (ofFile f rows))) [ yes l ↦ named rows f i l | no l ↦ absurd (h (k .1 (omega arith))) ],
+        λ h m. let l = below rows f (h .0) (h .1 .file) in omega (arith, l, h .1 .before, k .0 m),
+      )
 
 -- where no number of an order is given, its front and its first condition do not hold
 unfoldable arePositive : List ℕ → Bool
