@@ -65,8 +65,8 @@ pub record MoreBehindDone (s : Session) (b : Buffers) (text : List ℕ) : Type 0
   pub done : isDone last ≡ true
   pub some : more ≡ [] → ⊥
 
--- a call of the other phase, made in phase one: a command of phase two; a chunk with bytes behind done, those kept before it ahead; a reply, which this end has none
--- of. The end of the input is of either phase
+-- a call of the other phase, made in phase one: a command of phase two; a chunk with bytes behind done, those kept before it ahead; a reply, which
+-- this end has none of. The end of the input is of either phase
 abbrev pub IsOther : Intake → Buffers → AnyCall → Type 0
 IsOther i b (piece (chunk bytes out)) = MoreBehindDone (i .session) b (i .kept ++ bytes)
 IsOther i b (piece (reply r body out)) = Unit

@@ -533,13 +533,16 @@ pub in-file-six : (machine name : List ℕ) (screen : Bool) (cs : List CallWith)
 in-file-six machine name screen cs b line body f i = conditions.stanza-missing (afterEach (opened machine name screen .session) cs) b (made machine name screen cs) line body f i
 
 -- .. it passes 6 exactly if f i names one of the header stanzas: the n-th accepted, whose index is f and before which exactly i have index f
-pub in-file-passes : (machine name : List ℕ) (screen : Bool) (cs : List CallWith) (b : Buffers) (line body : List ℕ) (f i : ℕ) → let s = afterEach (opened machine name screen .session) cs in
-    SaysTwo (s .machine) line body (reports (header f i)) → (MissingIn s b (in-two line body) → ⊥) ↔ ((n : ℕ) × Names (viewOf (first headers) (s .tables) b) f i n)
-in-file-passes machine name screen cs b line body f i = stanza-names.passes-six (afterEach (opened machine name screen .session) cs) b (made machine name screen cs) line body f i
+pub in-file-passes : (machine name : List ℕ) (screen : Bool) (cs : List CallWith) (b : Buffers) (line body : List ℕ) (f i : ℕ) →
+    let s = afterEach (opened machine name screen .session) cs in SaysTwo (s .machine) line body (reports (header f i)) →
+    (MissingIn s b (in-two line body) → ⊥) ↔ ((n : ℕ) × Names (viewOf (first headers) (s .tables) b) f i n)
+in-file-passes machine name screen cs b line body f i =
+    stanza-names.passes-six (afterEach (opened machine name screen .session) cs) b (made machine name screen cs) line body f i
 
 -- .. so an accepted one names one
-pub in-file-names : (machine name : List ℕ) (screen : Bool) (cs : List CallWith) (b : Buffers) (c : Call) (line body : List ℕ) (f i : ℕ) → let s = afterEach (opened machine name screen .session) cs in
-    broughtBy c ≡ in-two line body → SaysTwo (s .machine) line body (reports (header f i)) → outcome s b c .number ≡ 0 → (n : ℕ) × Names (viewOf (first headers) (s .tables) b) f i n
+pub in-file-names : (machine name : List ℕ) (screen : Bool) (cs : List CallWith) (b : Buffers) (c : Call) (line body : List ℕ) (f i : ℕ) →
+    let s = afterEach (opened machine name screen .session) cs in broughtBy c ≡ in-two line body → SaysTwo (s .machine) line body (reports (header f i)) →
+    outcome s b c .number ≡ 0 → (n : ℕ) × Names (viewOf (first headers) (s .tables) b) f i n
 in-file-names machine name screen cs b = stanza-names.accepted-names (afterEach (opened machine name screen .session) cs) b (made machine name screen cs)
 
 -- .. and naming is one to one, in any table: each stanza has one pair f i, and each f i with i less than what file f has is one stanza's
@@ -577,11 +580,12 @@ screen-nothing-waits = screens.nothing-waits
 pub nothing-due : (machine name : List ℕ) (before : List (AnyWith plugin)) → Lasts (emptied (opened machine name false .session) []) before → NothingDue (kept plugin machine name false before)
 nothing-due = phase-one.nothing-due
 
--- 14 in phase one: any call of that end gives it exactly if it is of the other phase, whatever the buffers: a command of phase two, or a chunk with at least one
--- byte behind an accepted done
-pub nothing-due-number : (machine name : List ℕ) (before : List (AnyWith plugin)) (b : Buffers) (x : AnyCall) → Has plugin x → let i = kept plugin machine name false before in
-    i .session .phase ≡ One → (numberAt plugin i b x ≡ 14) ↔ IsOther i b x
-nothing-due-number machine name before b x h = phase-one.fourteen-iff (kept plugin machine name false before) b x h (reaching.reached-bounded plugin machine name false before)
+-- 14 in phase one: any call of that end gives it exactly if it is of the other phase, whatever the buffers: a command of phase two, or a chunk with at least
+-- one byte behind an accepted done (or a reply, which that end has none of)
+pub nothing-due-number : (machine name : List ℕ) (before : List (AnyWith plugin)) (b : Buffers) (x : AnyCall) → Has plugin x →
+    let i = kept plugin machine name false before in i .session .phase ≡ One → (numberAt plugin i b x ≡ 14) ↔ IsOther i b x
+nothing-due-number machine name before b x h =
+    phase-one.fourteen-iff (kept plugin machine name false before) b x h (reaching.reached-bounded plugin machine name false before)
 
 -- .. such a chunk has taken done, and the bytes that are dropped are phase two's
 pub nothing-due-chunk : (machine name : List ℕ) (before : List (AnyWith plugin)) (b : Buffers) (bytes out : List ℕ) → let i = kept plugin machine name false before in

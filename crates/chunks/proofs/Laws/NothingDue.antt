@@ -224,13 +224,15 @@ send-out-of-turn s b word arguments body out h = rw h
 
 -- a command of phase one ahead of others: accepted, or refused
 one-cases : (Q : Taken → Type 0) (s : Session) (b : Buffers) (a t : List ℕ) (ts : List (List ℕ)) (r : Rest) → s .phase ≡ One →
-    (let o = outcome s b (receive t) in o .number ≡ 0 → Q (oneMore (lastIn (o .given)) (writtenBy s b (receive t)) (takenAll plugin (o .session) (o .buffers) [] ts r))) →
+    (let o = outcome s b (receive t) in
+    o .number ≡ 0 → Q (oneMore (lastIn (o .given)) (writtenBy s b (receive t)) (takenAll plugin (o .session) (o .buffers) [] ts r))) →
     (let o = outcome s b (receive t) in (o .number ≡ 0 → ⊥) → Q (noMore (o .number) (emptied (o .session) []) b)) → Q (takenAll plugin s b a (t ∷ ts) r)
 one-cases Q s b a t ts r h accepts refuses =
     let c : receive t ≡ stanzaCall plugin (s .phase) t = sym (ap (λ p. stanzaCall plugin p t) h) in
     let u = ap (turnAt plugin) h in
     stanza-cases Q plugin s b a t ts r
-    (λ q. subst (λ c. (let o = outcome s b c in o .number ≡ 0 → Q (oneMore (lastIn (o .given)) (writtenBy s b c) (takenAll plugin (o .session) (o .buffers) [] ts r)))) c accepts)
+    (λ q. subst (λ c. (let o = outcome s b c in
+    o .number ≡ 0 → Q (oneMore (lastIn (o .given)) (writtenBy s b c) (takenAll plugin (o .session) (o .buffers) [] ts r)))) c accepts)
     (λ q. subst (λ c. (let o = outcome s b c in (o .number ≡ 0 → ⊥) → Q (noMore (o .number) (emptied (o .session) []) b))) c refuses)
     (λ n q. absurd (drops-not-reads n (sym q ∙ u))) (λ q. absurd (keeps-not-reads (sym q ∙ u)))
 
@@ -241,11 +243,12 @@ OutOfTurn x = (x .number ≡ 14) × (x .written ≡ []) × (x .intake .kept ≡ 
 -- bytes in phase two while none is due
 out-dropped : (s : Session) (b : Buffers) (x : List ℕ) → s .phase ≡ Two → (x ≡ [] → ⊥) → OutOfTurn (takenText plugin s b [] x)
 out-dropped s b [] h e = absurd (e refl)
-out-dropped s b (y ∷ x) h e = subst OutOfTurn (sym (texts.text-dropped plugin s b [] 14 (ap (turnAt plugin) h) (y ∷ x) ∙ texts.dropped-some plugin s b [] 14 [] y x)) (refl, refl, refl)
+out-dropped s b (y ∷ x) h e =
+    subst OutOfTurn (sym (texts.text-dropped plugin s b [] 14 (ap (turnAt plugin) h) (y ∷ x) ∙ texts.dropped-some plugin s b [] 14 [] y x)) (refl, refl, refl)
 
 -- an accepted command ahead
-out-ahead : (s : Session) (b : Buffers) (a t x : List ℕ) → Whole t → (let o = outcome s b (receive t) in o .number ≡ 0 → OutOfTurn (takenText plugin (o .session) (o .buffers) [] x)) →
-    outcome s b (receive t) .number ≡ 0 → OutOfTurn (takenText plugin s b a (t ++ x))
+out-ahead : (s : Session) (b : Buffers) (a t x : List ℕ) → Whole t →
+    (let o = outcome s b (receive t) in o .number ≡ 0 → OutOfTurn (takenText plugin (o .session) (o .buffers) [] x)) → outcome s b (receive t) .number ≡ 0 → OutOfTurn (takenText plugin s b a (t ++ x))
 out-ahead s b a t x w k z =
     let c = cut start [] x in
     let y = k z in
@@ -253,8 +256,8 @@ out-ahead s b a t x w k z =
     (one-cases OutOfTurn s b a t (c .texts) (c .rest) (accepted s b (receive t) z .applied .turn) (λ z. (y .0, y .1, y .2)) (λ n. absurd (n z)))
 
 -- bytes behind an accepted done always give 14
-more-text : (ws : List (List ℕ)) (t x : List ℕ) (s : Session) (b : Buffers) (a : List ℕ) → All Whole (ws ++ (t ∷ [])) → one-call.Accepted s b (map receive (ws ++ (t ∷ []))) → isDone t ≡ true → (x ≡ [] → ⊥) →
-    OutOfTurn (takenText plugin s b a (joined (ws ++ (t ∷ [])) x))
+more-text : (ws : List (List ℕ)) (t x : List ℕ) (s : Session) (b : Buffers) (a : List ℕ) → All Whole (ws ++ (t ∷ [])) →
+    one-call.Accepted s b (map receive (ws ++ (t ∷ []))) → isDone t ≡ true → (x ≡ [] → ⊥) → OutOfTurn (takenText plugin s b a (joined (ws ++ (t ∷ [])) x))
 unfolding All joined one-call.numbers one-call.AllZero
 more-text [] t x s b a w c d e = out-ahead s b a t x (w .0) behind (c .0)
   where
@@ -262,17 +265,23 @@ more-text [] t x s b a w c d e = out-ahead s b a t x (w .0) behind (c .0)
     behind z =
         let o = outcome s b (receive t) in
         out-dropped (o .session) (o .buffers) x (behind-done s b t z d) e
-more-text (v ∷ ws) t x s b a w c d e = out-ahead s b a v (joined (ws ++ (t ∷ [])) x) (w .0) (λ z. more-text ws t x (outcome s b (receive v) .session) (outcome s b (receive v) .buffers) [] (w .1) (c .1) d e) (c .0)
+more-text (v ∷ ws) t x s b a w c d e =
+    out-ahead s b a v (joined (ws ++ (t ∷ [])) x) (w .0)
+    (λ z. more-text ws t x (outcome s b (receive v) .session) (outcome s b (receive v) .buffers) [] (w .1) (c .1) d e) (c .0)
 
-chunk-more : (i : Intake) (b : Buffers) (bytes out : List ℕ) → Bounded plugin i → i .session .phase ≡ One → MoreBehindDone (i .session) b (i .kept ++ bytes) → chunked plugin i b bytes out .number ≡ 14
+chunk-more : (i : Intake) (b : Buffers) (bytes out : List ℕ) → Bounded plugin i → i .session .phase ≡ One →
+    MoreBehindDone (i .session) b (i .kept ++ bytes) → chunked plugin i b bytes out .number ≡ 14
 chunk-more i b bytes out k h m =
     let y = subst OutOfTurn
-    (ap (takenText plugin (i .session) b (i .awaited)) (m .place) ∙ ap (λ (c : Cut). takenAll plugin (i .session) b (i .awaited) (c .texts) (c .rest)) (cut-on (i .kept) bytes start (i .reading) [] (i .kept) (k .front refl .read)))
+    (ap (takenText plugin (i .session) b (i .awaited)) (m .place)
+    ∙ ap (λ (c : Cut). takenAll plugin (i .session) b (i .awaited) (c .texts) (c .rest)) (cut-on (i .kept) bytes start (i .reading) [] (i .kept) (k .front refl .read)))
     (more-text (m .ahead) (m .last) (m .more) (i .session) b (i .awaited) (m .whole) (m .accepted) (m .done) (m .some)) in
-    ap (λ (o : Outcome). o .number) (chunk-held plugin i b bytes out (taken plugin i b bytes) (ap (turnOf plugin) h) refl (omega (arith, ap length (y .1))) (omega (arith, ap length (y .2)))) ∙ y .0
+    ap (λ (o : Outcome). o .number) (chunk-held plugin i b bytes out (taken plugin i b bytes) (ap (turnOf plugin) h) refl
+    (omega (arith, ap length (y .1))) (omega (arith, ap length (y .2)))) ∙ y .0
 
 -- no bytes behind done: nothing is dropped
-none-dropped : (ts : List (List ℕ)) (s : Session) (b : Buffers) (r : Rest) → s .phase ≡ Two → All IsWhole ts → joined ts (bytesOf r) ≡ [] → takenAll plugin s b [] ts r .number ≡ 14 → ⊥
+none-dropped : (ts : List (List ℕ)) (s : Session) (b : Buffers) (r : Rest) → s .phase ≡ Two → All IsWhole ts → joined ts (bytesOf r) ≡ [] →
+    takenAll plugin s b [] ts r .number ≡ 14 → ⊥
 unfolding takenAll joined All
 none-dropped [] s b r h w e n =
     let z : takenRest (drops 14) s b [] r .number ≡ 14 = subst (λ p. takenRest (turnAt plugin p) s b [] r .number ≡ 14) h n in
@@ -285,14 +294,16 @@ rest-not-out s b a (unfinished q front) f z = omega arith
 rest-not-out s b a (impossible n text) f z = ⊎-elim (λ e. omega arith) (λ e. omega arith) f
 
 -- a text that gives 14 has bytes behind an accepted done
-text-more : (ts : List (List ℕ)) (s : Session) (b : Buffers) (a : List ℕ) (r : Rest) → s .phase ≡ One → All IsWhole ts → Faulty r → takenAll plugin s b a ts r .number ≡ 14 →
-    MoreBehindDone s b (joined ts (bytesOf r))
+text-more : (ts : List (List ℕ)) (s : Session) (b : Buffers) (a : List ℕ) (r : Rest) → s .phase ≡ One → All IsWhole ts → Faulty r →
+    takenAll plugin s b a ts r .number ≡ 14 → MoreBehindDone s b (joined ts (bytesOf r))
 unfolding All joined one-call.numbers one-call.AllZero
-text-more [] s b a r h w f n = absurd (subst (λ p. takenRest (turnAt plugin p) s b a r .number ≡ 14 → ⊥) (sym h) (rest-not-out s b a r f) (unfold takenAll in n))
+text-more [] s b a r h w f n =
+    absurd (subst (λ p. takenRest (turnAt plugin p) s b a r .number ≡ 14 → ⊥) (sym h) (rest-not-out s b a r f) (unfold takenAll in n))
 text-more (t ∷ ts) s b a r h w f n =
     one-cases (λ x. x .number ≡ 14 → MoreBehindDone s b (joined (t ∷ ts) (bytesOf r))) s b a t ts r h
     (λ z m. accepts (λ p. text-more ts (o .session) (o .buffers) [] r p (w .1) f m) (isDone t) refl z m)
-    (λ z m. absurd (closes-not (o .number) 14 refl (subst (λ p. closes (outcome s b (stanzaCall plugin p t) .number) ≡ true) h (stepped s b t (w .0) plugin (ap (turnAt plugin) h) .number)) m)) n
+    (λ z m. absurd (closes-not (o .number) 14 refl
+    (subst (λ p. closes (outcome s b (stanzaCall plugin p t) .number) ≡ true) h (stepped s b t (w .0) plugin (ap (turnAt plugin) h) .number)) m)) n
   where
     o : one-call.Outcome
     o = outcome s b (receive t)
@@ -323,12 +334,14 @@ text-more (t ∷ ts) s b a r h w f n =
         }
 
 -- a chunk in phase one gives 14 exactly if there are bytes behind an accepted done
-chunk-fourteen : (i : Intake) (b : Buffers) (bytes out : List ℕ) → Bounded plugin i → i .session .phase ≡ One → (chunked plugin i b bytes out .number ≡ 14) ↔ MoreBehindDone (i .session) b (i .kept ++ bytes)
+chunk-fourteen : (i : Intake) (b : Buffers) (bytes out : List ℕ) → Bounded plugin i → i .session .phase ≡ One →
+    (chunked plugin i b bytes out .number ≡ 14) ↔ MoreBehindDone (i .session) b (i .kept ++ bytes)
 chunk-fourteen i b bytes out k h =
     let c = cut (i .reading) (i .kept) bytes in
     let x = cut-parts bytes (i .reading) (i .kept) (k .front refl) in (
       chunk-cases (λ o. o .number ≡ 14 → MoreBehindDone (i .session) b (i .kept ++ bytes)) plugin i b bytes out
-          (λ t f n. subst (MoreBehindDone (i .session) b) (cut-joined bytes (i .reading) (i .kept)) (text-more (c .texts) (i .session) b (i .awaited) (c .rest) h (x .texts) (cut-faulty (i .reading) (i .kept) bytes) n))
+          (λ t f n. subst (MoreBehindDone (i .session) b) (cut-joined bytes (i .reading) (i .kept))
+          (text-more (c .texts) (i .session) b (i .awaited) (c .rest) h (x .texts) (cut-faulty (i .reading) (i .kept) bytes) n))
           (λ t f n. absurd (omega arith)) (λ m t f n. absurd (one-turn m (sym t ∙ ap (turnOf plugin) h) f)),
       chunk-more i b bytes out k h,
     )
@@ -337,7 +350,8 @@ chunk-fourteen i b bytes out k h =
     one-turn m e z = subst (λ m. T (isTurned m)) e z
 
 -- any call in phase one gives 14 exactly if it is of the other phase
-pub fourteen-iff : (i : Intake) (b : Buffers) (x : AnyCall) → Has plugin x → Bounded plugin i → i .session .phase ≡ One → (numberAt plugin i b x ≡ 14) ↔ IsOther i b x
+pub fourteen-iff : (i : Intake) (b : Buffers) (x : AnyCall) → Has plugin x → Bounded plugin i → i .session .phase ≡ One →
+    (numberAt plugin i b x ≡ 14) ↔ IsOther i b x
 fourteen-iff i b (piece (chunk bytes out)) k bounded h = chunk-fourteen i b bytes out bounded h
 fourteen-iff i b (piece (reply r body out)) k bounded h = (λ n. tt, λ u. refl)
 fourteen-iff i b (sends-one word arguments body out) k bounded h = absurd k

@@ -91,7 +91,8 @@ named (x ∷ rs) f i h = go (named rs f) (eqb (x .index) f) refl i h
     behind : (i j : ℕ) → pick (eqb (x .index) f) 1 0 + j ≡ i → (n : ℕ) × Names rs f j n → (n : ℕ) × Names (x ∷ rs) f i n
     behind i j e k = (suc (k .0), subst (λ i. Names (x ∷ rs) f i (suc (k .0))) e (next-named f j (k .0) x rs (k .1)))
 
-    go : ((i : ℕ) → i < length (ofFile f rs) → (n : ℕ) × Names rs f i n) → (g : Bool) → eqb (x .index) f ≡ g → (i : ℕ) → i < length (pick g (x ∷ []) [] ++ ofFile f rs) → (n : ℕ) × Names (x ∷ rs) f i n
+    go : ((i : ℕ) → i < length (ofFile f rs) → (n : ℕ) × Names rs f i n) → (g : Bool) → eqb (x .index) f ≡ g →
+        (i : ℕ) → i < length (pick g (x ∷ []) [] ++ ofFile f rs) → (n : ℕ) × Names (x ∷ rs) f i n
     go k true e zero h = (0, first-named f x rs (eqb-true (x .index) f e))
     go k true e (suc i) h = behind (suc i) i (ap (λ g. pick g 1 0 + i) e ∙ omega arith) (k i (omega arith))
     go k false e i h = behind i i (ap (λ g. pick g 1 0 + i) e ∙ omega arith) (k i h)
@@ -112,7 +113,8 @@ same [] f n h d = absurd h
 same (x ∷ rs) f zero h d = sym (ap (λ g. getD (pick g (x ∷ []) [] ++ ofFile f rs) 0 d) (eq-eqb (x .index) f h))
 same (x ∷ rs) f (suc n) h d = same rs f n h d ∙ go (eqb (x .index) f)
   where
-    go : (g : Bool) → getD (ofFile f rs) (length (ofFile f (take n rs))) d ≡ getD (pick g (x ∷ []) [] ++ ofFile f rs) (length (pick g (x ∷ []) [] ++ ofFile f (take n rs))) d
+    go : (g : Bool) →
+        getD (ofFile f rs) (length (ofFile f (take n rs))) d ≡ getD (pick g (x ∷ []) [] ++ ofFile f rs) (length (pick g (x ∷ []) [] ++ ofFile f (take n rs))) d
     go true = refl
     go false = refl
 
@@ -129,12 +131,12 @@ named-rows rows = record {
 
 -- ---- an error that is not refused with 6, and one that is accepted
 
-module _ (s : Session) (b : Buffers) (reached : ReachedSession s) (line body : List ℕ) (f i : ℕ) (says : SaysTwo (s .machine) line body (reports (header f i))) where
+module _ (s : Session) (b : Buffers) (reached : ReachedSession s) (line body : List ℕ) (f i : ℕ) where
   abbrev rows : List Row
   rows = viewOf (first headers) (s .tables) b
 
-  pub passes-six : (MissingIn s b (in-two line body) → ⊥) ↔ ((n : ℕ) × Names rows f i n)
-  passes-six =
+  pub passes-six : SaysTwo (s .machine) line body (reports (header f i)) → (MissingIn s b (in-two line body) → ⊥) ↔ ((n : ℕ) × Names rows f i n)
+  passes-six says =
       let k = stanza-missing s b reached line body f i says in (
         λ h. elim (decLt i (length (ofFile f rows))) [ yes l ↦ named rows f i l | no l ↦ absurd (h (k .1 (omega arith))) ],
         λ h m. let l = below rows f (h .0) (h .1 .file) in omega (arith, l, h .1 .before, k .0 m),
@@ -166,13 +168,15 @@ module _ (s : Session) (b : Buffers) (reached : ReachedSession s) where
   not-missing (send word arguments body out) z m = m
   not-missing (receive-two text out) z m =
       let c = receive-two text out in
-      not-first (Condition s b c) (13 ∷ 14 ∷ 1 ∷ 2 ∷ 3 ∷ 4 ∷ 5 ∷ []) (7 ∷ 9 ∷ 10 ∷ 11 ∷ 8 ∷ 15 ∷ []) 6 (unfold arePositive in refl) (given-none c z) (NoSuchIndex, refl, m)
+      not-first (Condition s b c) (13 ∷ 14 ∷ 1 ∷ 2 ∷ 3 ∷ 4 ∷ 5 ∷ []) (7 ∷ 9 ∷ 10 ∷ 11 ∷ 8 ∷ 15 ∷ []) 6 (unfold arePositive in refl)
+      (given-none c z) (NoSuchIndex, refl, m)
   not-missing (reply r body out) z m = m
   not-missing (send-two word arguments body out) z m =
       let c = send-two word arguments body out in
-      not-first (Condition s b c) (13 ∷ 14 ∷ 17 ∷ 4 ∷ 5 ∷ []) (7 ∷ 9 ∷ 10 ∷ 11 ∷ 19 ∷ 8 ∷ 15 ∷ []) 6 (unfold arePositive in refl) (given-none c z) (NoSuchIndex, refl, m)
+      not-first (Condition s b c) (13 ∷ 14 ∷ 17 ∷ 4 ∷ 5 ∷ []) (7 ∷ 9 ∷ 10 ∷ 11 ∷ 19 ∷ 8 ∷ 15 ∷ []) 6 (unfold arePositive in refl)
+      (given-none c z) (NoSuchIndex, refl, m)
   not-missing (respond text out) z m = m
 
-  pub accepted-names : (c : Call) (line body : List ℕ) (f i : ℕ) → broughtBy c ≡ in-two line body → SaysTwo (s .machine) line body (reports (header f i)) → outcome s b c .number ≡ 0 →
-      (n : ℕ) × Names (viewOf (first headers) (s .tables) b) f i n
+  pub accepted-names : (c : Call) (line body : List ℕ) (f i : ℕ) → broughtBy c ≡ in-two line body →
+      SaysTwo (s .machine) line body (reports (header f i)) → outcome s b c .number ≡ 0 → (n : ℕ) × Names (viewOf (first headers) (s .tables) b) f i n
   accepted-names c line body f i e says z = passes-six s b reached line body f i says .0 (λ m. not-missing c z (subst (MissingIn s b) (sym e) m))
