@@ -203,6 +203,10 @@ text-behind (t ∷ ts) s b a r h w f =
     go k (drops m) q d e n = absurd (drops-not-reads m q)
     go k keeps-back q d e n = absurd (keeps-not-reads q)
 
+-- a chunk is in turn there
+one-turn : (m : ℕ) → m ≡ 0 → T (isTurned m) → ⊥
+one-turn m e z = subst (λ m. T (isTurned m)) e z
+
 -- a chunk in phase one gives 14 only behind its done
 pub chunk-behind-done : (i : Intake) (b : Buffers) (bytes out : List ℕ) → Bounded plugin i → i .session .phase ≡ One → chunked plugin i b bytes out .number ≡ 14 → BehindDone i b bytes (chunked plugin i b bytes out)
 chunk-behind-done i b bytes out k h =
@@ -211,9 +215,6 @@ chunk-behind-done i b bytes out k h =
     chunk-cases (λ o. o .number ≡ 14 → BehindDone i b bytes o) plugin i b bytes out
     (λ t f n. let z = text-behind (c .texts) (i .session) b (i .awaited) (c .rest) h (x .texts) (cut-faulty (i .reading) (i .kept) bytes) n in record { done = z .0; phase = z .1 })
     (λ t f n. absurd (omega arith)) (λ m t f n. absurd (one-turn m (sym t ∙ ap (turnOf plugin) h) f))
-  where
-    one-turn : (m : ℕ) → m ≡ 0 → T (isTurned m) → ⊥
-    one-turn m e z = subst (λ m. T (isTurned m)) e z
 
 -- a command of phase two gives 14 there
 pub send-out-of-turn : (s : Session) (b : Buffers) (word : WordTwo) (arguments body out : List ℕ) → s .phase ≡ One → outcome s b (send-two word arguments body out) .number ≡ 14
@@ -262,13 +263,12 @@ unfolding All joined one-call.numbers one-call.AllZero
 more-text [] t x s b a w c d e = out-ahead s b a t x (w .0) behind (c .0)
   where
     behind : (let o = outcome s b (receive t) in o .number ≡ 0 → OutOfTurn (takenText plugin (o .session) (o .buffers) [] x))
-    behind z =
-        let o = outcome s b (receive t) in
-        out-dropped (o .session) (o .buffers) x (behind-done s b t z d) e
+    behind z = out-dropped (outcome s b (receive t) .session) (outcome s b (receive t) .buffers) x (behind-done s b t z d) e
 more-text (v ∷ ws) t x s b a w c d e =
     out-ahead s b a v (joined (ws ++ (t ∷ [])) x) (w .0)
     (λ z. more-text ws t x (outcome s b (receive v) .session) (outcome s b (receive v) .buffers) [] (w .1) (c .1) d e) (c .0)
 
+-- .. in a chunk, whatever the output buffer
 chunk-more : (i : Intake) (b : Buffers) (bytes out : List ℕ) → Bounded plugin i → i .session .phase ≡ One →
     MoreBehindDone (i .session) b (i .kept ++ bytes) → chunked plugin i b bytes out .number ≡ 14
 chunk-more i b bytes out k h m =
@@ -289,6 +289,7 @@ none-dropped [] s b r h w e n =
     omega (arith, z, y)
 none-dropped (t ∷ ts) s b r h w e n = whole-some t (joined ts (bytesOf r)) (w .0) e
 
+-- what stands behind the whole stanzas never gives it where it is read
 rest-not-out : (s : Session) (b : Buffers) (a : List ℕ) (r : Rest) → Faulty r → takenRest reads s b a r .number ≡ 14 → ⊥
 rest-not-out s b a (unfinished q front) f z = omega arith
 rest-not-out s b a (impossible n text) f z = ⊎-elim (λ e. omega arith) (λ e. omega arith) f
@@ -345,9 +346,6 @@ chunk-fourteen i b bytes out k h =
           (λ t f n. absurd (omega arith)) (λ m t f n. absurd (one-turn m (sym t ∙ ap (turnOf plugin) h) f)),
       chunk-more i b bytes out k h,
     )
-  where
-    one-turn : (m : ℕ) → m ≡ 0 → T (isTurned m) → ⊥
-    one-turn m e z = subst (λ m. T (isTurned m)) e z
 
 -- any call in phase one gives 14 exactly if it is of the other phase
 pub fourteen-iff : (i : Intake) (b : Buffers) (x : AnyCall) → Has plugin x → Bounded plugin i → i .session .phase ≡ One →
