@@ -17,6 +17,7 @@ pub mod Given
 pub mod WrittenRead
 pub mod Shapes
 pub mod Numbers
+pub mod Names
 pub mod SentOne
 pub mod Tables
 pub mod Agreement

@@ -50,6 +50,7 @@ use Rattle.conversation.specs.Calls.{Call, receive, send, receive-two, reply, s
 use Rattle.conversation.specs.CommandsTwo.{Named, ask, lineSent, commandTwo, wordTwo, textOfWord}
 use Rattle.conversation.specs.Given.{GivenBack}
 use Rattle.conversation.specs.Kinds.{AnyKind, first, Buffers, tableOf, viewOf, ofFile}
+use Rattle.conversation.specs.Names.{Names, NamedOnce}
 use Rattle.conversation.specs.Numbers.{header, reports, SaysTwo, MissingIn, Condition, orderOf, FirstOf, bufferFor}
 use Rattle.conversation.specs.PhaseTwo.{stanzasFor, hasKey, markOf, indexOf, isHeldBack}
 use Rattle.conversation.specs.Phases.{All, Part, one-part, two-part, Phase, blocksOf, IsPhase, Supply, callsOf, LongEnough, Starts, JustDone, JustReceived, SameStart, Rearranged, SameTables, SameOutcome, commandIn, textsOf, CallWith, afterEach, Whole}
@@ -78,9 +79,9 @@ use Rattle.chunks.specs.Calls as chunk-calls
 use Rattle.chunks.specs.Calls.{callsFor, lastFrom, AsCalls}
 use Rattle.chunks.specs.Reached.{AnyCall, sends-one, Has, intakeAfter, AnyWith, intakeAfterAll, Bounded, isIdle}
 use Rattle.chunks.specs.Orders.{uncutCalls, amples, IsCut, endOf, OneByOne, AllTaken, SameCuts}
-use Rattle.chunks.specs.PhaseOne.{Lasts, NothingDue, BehindDone}
+use Rattle.chunks.specs.PhaseOne.{Lasts, NothingDue, BehindDone, IsOther}
 use Rattle.chunks.specs.Screens.{answerTo, AnsweredAtOnce, NothingWaits}
-use Rattle.chunks.specs.AnyCalls.{afterAny, numbersAny, InTurn, callsAll, ComesTo}
+use Rattle.chunks.specs.AnyCalls.{numberAt, afterAny, numbersAny, InTurn, callsAll, ComesTo}
 use Rattle.chunks.specs.Sent.{sentAny, OfBytes, textSent, stanzasSent, textsSent}
 use Rattle.refusal.proofs.Laws.Output as outputs
 use Rattle.base64.proofs.Laws.Lines as lines
@@ -102,6 +103,7 @@ use Rattle.conversation.proofs.Laws.Answers as answering
 use Rattle.conversation.proofs.Laws.CommandsTwo as words-two
 use Rattle.conversation.proofs.Laws.ConditionsTwo as conditions
 use Rattle.conversation.proofs.Laws.Given as giving
+use Rattle.conversation.proofs.Laws.Names as stanza-names
 use Rattle.conversation.proofs.Laws.Numbers as numbering
 use Rattle.conversation.proofs.Laws.Order as ordering
 use Rattle.conversation.proofs.Laws.OrderTwo as two-accepted
@@ -530,6 +532,23 @@ pub in-file-six : (machine name : List ℕ) (screen : Bool) (cs : List CallWith)
     SaysTwo (s .machine) line body (reports (header f i)) → MissingIn s b (in-two line body) ↔ (length (ofFile f (viewOf (first headers) (s .tables) b)) ≤ i)
 in-file-six machine name screen cs b line body f i = conditions.stanza-missing (afterEach (opened machine name screen .session) cs) b (made machine name screen cs) line body f i
 
+-- .. it passes 6 exactly if f i names one of the header stanzas: the n-th accepted, whose index is f and before which exactly i have index f
+pub in-file-passes : (machine name : List ℕ) (screen : Bool) (cs : List CallWith) (b : Buffers) (line body : List ℕ) (f i : ℕ) →
+    let s = afterEach (opened machine name screen .session) cs in SaysTwo (s .machine) line body (reports (header f i)) →
+    (MissingIn s b (in-two line body) → ⊥) ↔ ((n : ℕ) × Names (viewOf (first headers) (s .tables) b) f i n)
+in-file-passes machine name screen cs b line body f i =
+    stanza-names.passes-six (afterEach (opened machine name screen .session) cs) b (made machine name screen cs) line body f i
+
+-- .. so an accepted one names one
+pub in-file-names : (machine name : List ℕ) (screen : Bool) (cs : List CallWith) (b : Buffers) (c : Call) (line body : List ℕ) (f i : ℕ) →
+    let s = afterEach (opened machine name screen .session) cs in broughtBy c ≡ in-two line body → SaysTwo (s .machine) line body (reports (header f i)) →
+    outcome s b c .number ≡ 0 → (n : ℕ) × Names (viewOf (first headers) (s .tables) b) f i n
+in-file-names machine name screen cs b = stanza-names.accepted-names (afterEach (opened machine name screen .session) cs) b (made machine name screen cs)
+
+-- .. and naming is one to one, in any table: each stanza has one pair f i, and each f i with i less than what file f has is one stanza's
+pub in-file-one-to-one : (rows : List Row) → NamedOnce rows
+in-file-one-to-one = stanza-names.named-rows
+
 -- what an error names is kept whole: two errors with equal entries name the same (`demand-2-errors`: a look-up gives it back)
 pub in-file-once : (n m : Named) → markOf n ≡ markOf m → indexOf n ≡ indexOf m → n ≡ m
 in-file-once = reported.named-once
@@ -561,7 +580,14 @@ screen-nothing-waits = screens.nothing-waits
 pub nothing-due : (machine name : List ℕ) (before : List (AnyWith plugin)) → Lasts (emptied (opened machine name false .session) []) before → NothingDue (kept plugin machine name false before)
 nothing-due = phase-one.nothing-due
 
--- 14 in phase one: a chunk gives it only behind its done, for bytes that are phase two's
+-- 14 in phase one: any call of that end gives it exactly if it is of the other phase, whatever the buffers: a command of phase two, or a chunk with at least
+-- one byte behind an accepted done (or a reply, which that end has none of)
+pub nothing-due-number : (machine name : List ℕ) (before : List (AnyWith plugin)) (b : Buffers) (x : AnyCall) → Has plugin x →
+    let i = kept plugin machine name false before in i .session .phase ≡ One → (numberAt plugin i b x ≡ 14) ↔ IsOther i b x
+nothing-due-number machine name before b x h =
+    phase-one.fourteen-iff (kept plugin machine name false before) b x h (reaching.reached-bounded plugin machine name false before)
+
+-- .. such a chunk has taken done, and the bytes that are dropped are phase two's
 pub nothing-due-chunk : (machine name : List ℕ) (before : List (AnyWith plugin)) (b : Buffers) (bytes out : List ℕ) → let i = kept plugin machine name false before in
     i .session .phase ≡ One → chunked plugin i b bytes out .number ≡ 14 → BehindDone i b bytes (chunked plugin i b bytes out)
 nothing-due-chunk machine name before b bytes out = phase-one.chunk-behind-done (kept plugin machine name false before) b bytes out (reaching.reached-bounded plugin machine name false before)

@@ -2,14 +2,15 @@
 use Prim.Native.Nat.{ℕ, suc, _+_}
 use mathlib.Core.Path.{_≡_, refl, sym, ap, subst, _∙_}
 use mathlib.Core.Bool.{Bool, true, false, _||_}
-use mathlib.Core.Logic.{_⊎_, inl, inr, ⊎-elim}
-use mathlib.Core.List.{List, [], _∷_, _++_}
+use mathlib.Core.Logic.{_⊎_, inl, inr, ⊎-elim, _↔_}
+use mathlib.Core.List.{List, [], _∷_, _++_, map}
 use lib.Dec.{T, eqb}
 use lib.ListN.{length, take}
 use native.Mathlib.Omega.{arith}
 use borrow.Author.Tests.{eqb-true, eqb-false}
 use Rattle.refusal.specs.Pick.{pick}
 use Rattle.refusal.proofs.Laws.Booleans.{cases}
+use Rattle.stanza.specs.Automaton.{start}
 use Rattle.session.specs.declared.words.WordTwo.{WordTwo}
 use Rattle.session.specs.declared.phases.Phase.{Phase}
 use Rattle.session.specs.declared.phases.Phase.the-variants.{One, Two, Closed}
@@ -19,25 +20,28 @@ use Rattle.session.proofs.Laws.Opening.{opened-phase}
 use Rattle.conversation.specs.Calls as one-call
 use Rattle.conversation.specs.Calls.{receive, send-two, outcome, writtenBy}
 use Rattle.conversation.specs.Kinds.{Buffers}
-use Rattle.conversation.specs.Phases.{All, isDone}
+use Rattle.conversation.specs.Phases.{All, Whole, isDone}
 use Rattle.conversation.specs.SendingTwo.{sent}
 use Rattle.conversation.proofs.Laws.Accepted.{accepted}
 use Rattle.conversation.proofs.Laws.ConditionsTwo.{true-or}
 use Rattle.conversation.proofs.Laws.Refusals.{either, refusal}
 use Rattle.conversation.proofs.Laws.ShapesOne.{behind-done, behind-other}
 use Rattle.conversation.proofs.Laws.SumsTwo.{or-false}
-use Rattle.chunks.specs.Cutting.{Rest, unfinished, impossible, bytesOf, cut}
-use Rattle.chunks.specs.Taking.{plugin, Turn, reads, drops, keeps-back, turnAt, stanzaCall, awaitedBehind, Intake, Taken, noMore, emptied, oneMore, joined, takenRest, takenBy, takenAll, lastIn}
-use Rattle.chunks.specs.Chunks.{turnOf, chunked}
+use Rattle.chunks.specs.Cutting.{Rest, unfinished, impossible, bytesOf, Cut, cut}
+use Rattle.chunks.specs.Taking.{plugin, Turn, reads, drops, keeps-back, turnAt, stanzaCall, awaitedBehind, Intake, Taken, noMore, emptied, oneMore, joined, takenRest, takenBy, takenAll, takenText, lastIn}
+use Rattle.chunks.specs.Chunks.{Outcome, taken, turnOf, chunked, finished}
 use Rattle.chunks.specs.Uncut.{chunk, reply, Parted, receivedMore, partedBy, parted}
 use Rattle.chunks.specs.Reached.{AnyCall, piece, sends-one, sends-two, finishes, Has, intakeAfter, AnyWith, intakeAfterAll, Bounded}
-use Rattle.chunks.specs.PhaseOne.{anyDone, takenOf, takesDone, Lasts, NothingDue, BehindDone}
+use Rattle.chunks.specs.PhaseOne.{anyDone, takenOf, takesDone, Lasts, NothingDue, BehindDone, MoreBehindDone, IsOther}
+use Rattle.chunks.specs.AnyCalls.{numberAt}
 use Rattle.chunks.proofs.Laws.Cases.{drops-not-reads, keeps-not-reads, stanza-cases, chunk-cases, isTurned}
-use Rattle.chunks.proofs.Laws.Cutting.{IsWhole, cut-parts}
+use Rattle.chunks.proofs.Laws.Cutting.{cutOn, cut-append, cut-on, cut-joined, IsWhole, cut-parts}
 use Rattle.chunks.proofs.Laws.Numbers.{Faulty, cut-faulty}
 use Rattle.chunks.proofs.Laws.Reached.{reached-plugin-awaited}
-use Rattle.chunks.proofs.Laws.Stanzas.{stepped}
-use Rattle.chunks.proofs.Laws.Taking.{closes-not}
+use Rattle.chunks.proofs.Laws.Stanzas.{whole-read, stepped}
+use Rattle.chunks.proofs.Laws.Reading.{cut-whole}
+use Rattle.chunks.proofs.Laws.Taking.{closes-not, chunk-held, whole-some}
+use Rattle.chunks.proofs.Laws.Texts as texts
 
 -- in phase one, or closed by a refusal
 abbrev InOne : Phase → Type 0
@@ -199,6 +203,10 @@ text-behind (t ∷ ts) s b a r h w f =
     go k (drops m) q d e n = absurd (drops-not-reads m q)
     go k keeps-back q d e n = absurd (keeps-not-reads q)
 
+-- a chunk is in turn there
+one-turn : (m : ℕ) → m ≡ 0 → T (isTurned m) → ⊥
+one-turn m e z = subst (λ m. T (isTurned m)) e z
+
 -- a chunk in phase one gives 14 only behind its done
 pub chunk-behind-done : (i : Intake) (b : Buffers) (bytes out : List ℕ) → Bounded plugin i → i .session .phase ≡ One → chunked plugin i b bytes out .number ≡ 14 → BehindDone i b bytes (chunked plugin i b bytes out)
 chunk-behind-done i b bytes out k h =
@@ -207,11 +215,143 @@ chunk-behind-done i b bytes out k h =
     chunk-cases (λ o. o .number ≡ 14 → BehindDone i b bytes o) plugin i b bytes out
     (λ t f n. let z = text-behind (c .texts) (i .session) b (i .awaited) (c .rest) h (x .texts) (cut-faulty (i .reading) (i .kept) bytes) n in record { done = z .0; phase = z .1 })
     (λ t f n. absurd (omega arith)) (λ m t f n. absurd (one-turn m (sym t ∙ ap (turnOf plugin) h) f))
-  where
-    one-turn : (m : ℕ) → m ≡ 0 → T (isTurned m) → ⊥
-    one-turn m e z = subst (λ m. T (isTurned m)) e z
 
 -- a command of phase two gives 14 there
 pub send-out-of-turn : (s : Session) (b : Buffers) (word : WordTwo) (arguments body out : List ℕ) → s .phase ≡ One → outcome s b (send-two word arguments body out) .number ≡ 14
 unfolding sent
 send-out-of-turn s b word arguments body out h = rw h
+
+-- ---- 14 exactly for a call of the other phase
+
+-- a command of phase one ahead of others: accepted, or refused
+one-cases : (Q : Taken → Type 0) (s : Session) (b : Buffers) (a t : List ℕ) (ts : List (List ℕ)) (r : Rest) → s .phase ≡ One →
+    (let o = outcome s b (receive t) in
+    o .number ≡ 0 → Q (oneMore (lastIn (o .given)) (writtenBy s b (receive t)) (takenAll plugin (o .session) (o .buffers) [] ts r))) →
+    (let o = outcome s b (receive t) in (o .number ≡ 0 → ⊥) → Q (noMore (o .number) (emptied (o .session) []) b)) → Q (takenAll plugin s b a (t ∷ ts) r)
+one-cases Q s b a t ts r h accepts refuses =
+    let c : receive t ≡ stanzaCall plugin (s .phase) t = sym (ap (λ p. stanzaCall plugin p t) h) in
+    let u = ap (turnAt plugin) h in
+    stanza-cases Q plugin s b a t ts r
+    (λ q. subst (λ c. (let o = outcome s b c in
+    o .number ≡ 0 → Q (oneMore (lastIn (o .given)) (writtenBy s b c) (takenAll plugin (o .session) (o .buffers) [] ts r)))) c accepts)
+    (λ q. subst (λ c. (let o = outcome s b c in (o .number ≡ 0 → ⊥) → Q (noMore (o .number) (emptied (o .session) []) b))) c refuses)
+    (λ n q. absurd (drops-not-reads n (sym q ∙ u))) (λ q. absurd (keeps-not-reads (sym q ∙ u)))
+
+-- 14 is given, nothing is written and nothing kept
+abbrev OutOfTurn : Taken → Type 0
+OutOfTurn x = (x .number ≡ 14) × (x .written ≡ []) × (x .intake .kept ≡ [])
+
+-- bytes in phase two while none is due
+out-dropped : (s : Session) (b : Buffers) (x : List ℕ) → s .phase ≡ Two → (x ≡ [] → ⊥) → OutOfTurn (takenText plugin s b [] x)
+out-dropped s b [] h e = absurd (e refl)
+out-dropped s b (y ∷ x) h e =
+    subst OutOfTurn (sym (texts.text-dropped plugin s b [] 14 (ap (turnAt plugin) h) (y ∷ x) ∙ texts.dropped-some plugin s b [] 14 [] y x)) (refl, refl, refl)
+
+-- an accepted command ahead
+out-ahead : (s : Session) (b : Buffers) (a t x : List ℕ) → Whole t →
+    (let o = outcome s b (receive t) in o .number ≡ 0 → OutOfTurn (takenText plugin (o .session) (o .buffers) [] x)) → outcome s b (receive t) .number ≡ 0 → OutOfTurn (takenText plugin s b a (t ++ x))
+out-ahead s b a t x w k z =
+    let c = cut start [] x in
+    let y = k z in
+    subst (λ (c : Cut). OutOfTurn (takenAll plugin s b a (c .texts) (c .rest))) (sym (cut-append t x start [] ∙ ap (λ c. cutOn c x) (cut-whole t w)))
+    (one-cases OutOfTurn s b a t (c .texts) (c .rest) (accepted s b (receive t) z .applied .turn) (λ z. (y .0, y .1, y .2)) (λ n. absurd (n z)))
+
+-- bytes behind an accepted done always give 14
+more-text : (ws : List (List ℕ)) (t x : List ℕ) (s : Session) (b : Buffers) (a : List ℕ) → All Whole (ws ++ (t ∷ [])) →
+    one-call.Accepted s b (map receive (ws ++ (t ∷ []))) → isDone t ≡ true → (x ≡ [] → ⊥) → OutOfTurn (takenText plugin s b a (joined (ws ++ (t ∷ [])) x))
+unfolding All joined one-call.numbers one-call.AllZero
+more-text [] t x s b a w c d e = out-ahead s b a t x (w .0) behind (c .0)
+  where
+    behind : (let o = outcome s b (receive t) in o .number ≡ 0 → OutOfTurn (takenText plugin (o .session) (o .buffers) [] x))
+    behind z = out-dropped (outcome s b (receive t) .session) (outcome s b (receive t) .buffers) x (behind-done s b t z d) e
+more-text (v ∷ ws) t x s b a w c d e =
+    out-ahead s b a v (joined (ws ++ (t ∷ [])) x) (w .0)
+    (λ z. more-text ws t x (outcome s b (receive v) .session) (outcome s b (receive v) .buffers) [] (w .1) (c .1) d e) (c .0)
+
+-- .. in a chunk, whatever the output buffer
+chunk-more : (i : Intake) (b : Buffers) (bytes out : List ℕ) → Bounded plugin i → i .session .phase ≡ One →
+    MoreBehindDone (i .session) b (i .kept ++ bytes) → chunked plugin i b bytes out .number ≡ 14
+chunk-more i b bytes out k h m =
+    let y = subst OutOfTurn
+    (ap (takenText plugin (i .session) b (i .awaited)) (m .place)
+    ∙ ap (λ (c : Cut). takenAll plugin (i .session) b (i .awaited) (c .texts) (c .rest)) (cut-on (i .kept) bytes start (i .reading) [] (i .kept) (k .front refl .read)))
+    (more-text (m .ahead) (m .last) (m .more) (i .session) b (i .awaited) (m .whole) (m .accepted) (m .done) (m .some)) in
+    ap (λ (o : Outcome). o .number) (chunk-held plugin i b bytes out (taken plugin i b bytes) (ap (turnOf plugin) h) refl
+    (omega (arith, ap length (y .1))) (omega (arith, ap length (y .2)))) ∙ y .0
+
+-- no bytes behind done: nothing is dropped
+none-dropped : (ts : List (List ℕ)) (s : Session) (b : Buffers) (r : Rest) → s .phase ≡ Two → All IsWhole ts → joined ts (bytesOf r) ≡ [] →
+    takenAll plugin s b [] ts r .number ≡ 14 → ⊥
+unfolding takenAll joined All
+none-dropped [] s b r h w e n =
+    let z : takenRest (drops 14) s b [] r .number ≡ 14 = subst (λ p. takenRest (turnAt plugin p) s b [] r .number ≡ 14) h n in
+    let y : takenRest (drops 14) s b [] r .number ≡ 0 = ap (λ x. pick (eqb (length x) 0) (noMore 0 (emptied s []) b) (noMore 14 (emptied s []) b) .number) e in
+    omega (arith, z, y)
+none-dropped (t ∷ ts) s b r h w e n = whole-some t (joined ts (bytesOf r)) (w .0) e
+
+-- what stands behind the whole stanzas never gives it where it is read
+rest-not-out : (s : Session) (b : Buffers) (a : List ℕ) (r : Rest) → Faulty r → takenRest reads s b a r .number ≡ 14 → ⊥
+rest-not-out s b a (unfinished q front) f z = omega arith
+rest-not-out s b a (impossible n text) f z = ⊎-elim (λ e. omega arith) (λ e. omega arith) f
+
+-- a text that gives 14 has bytes behind an accepted done
+text-more : (ts : List (List ℕ)) (s : Session) (b : Buffers) (a : List ℕ) (r : Rest) → s .phase ≡ One → All IsWhole ts → Faulty r →
+    takenAll plugin s b a ts r .number ≡ 14 → MoreBehindDone s b (joined ts (bytesOf r))
+unfolding All joined one-call.numbers one-call.AllZero
+text-more [] s b a r h w f n =
+    absurd (subst (λ p. takenRest (turnAt plugin p) s b a r .number ≡ 14 → ⊥) (sym h) (rest-not-out s b a r f) (unfold takenAll in n))
+text-more (t ∷ ts) s b a r h w f n =
+    one-cases (λ x. x .number ≡ 14 → MoreBehindDone s b (joined (t ∷ ts) (bytesOf r))) s b a t ts r h
+    (λ z m. accepts (λ p. text-more ts (o .session) (o .buffers) [] r p (w .1) f m) (isDone t) refl z m)
+    (λ z m. absurd (closes-not (o .number) 14 refl
+    (subst (λ p. closes (outcome s b (stanzaCall plugin p t) .number) ≡ true) h (stepped s b t (w .0) plugin (ap (turnAt plugin) h) .number)) m)) n
+  where
+    o : one-call.Outcome
+    o = outcome s b (receive t)
+
+    accepts : (o .session .phase ≡ One → MoreBehindDone (o .session) (o .buffers) (joined ts (bytesOf r))) → (d : Bool) → isDone t ≡ d → o .number ≡ 0 →
+        takenAll plugin (o .session) (o .buffers) [] ts r .number ≡ 14 → MoreBehindDone s b (t ++ joined ts (bytesOf r))
+    accepts k true e z m = record {
+      ahead = [];
+      last = t;
+      more = joined ts (bytesOf r);
+      place = refl;
+      whole = (whole-read t (w .0), tt);
+      accepted = (z, tt);
+      done = e;
+      some = λ y. none-dropped ts (o .session) (o .buffers) r (behind-done s b t z e) (w .1) y m;
+    }
+    accepts k false e z m =
+        let y = k (behind-other s b t z e) in
+        record {
+          ahead = t ∷ y .ahead;
+          last = y .last;
+          more = y .more;
+          place = ap (λ x. t ++ x) (y .place);
+          whole = (whole-read t (w .0), y .whole);
+          accepted = (z, y .accepted);
+          done = y .done;
+          some = y .some;
+        }
+
+-- a chunk in phase one gives 14 exactly if there are bytes behind an accepted done
+chunk-fourteen : (i : Intake) (b : Buffers) (bytes out : List ℕ) → Bounded plugin i → i .session .phase ≡ One →
+    (chunked plugin i b bytes out .number ≡ 14) ↔ MoreBehindDone (i .session) b (i .kept ++ bytes)
+chunk-fourteen i b bytes out k h =
+    let c = cut (i .reading) (i .kept) bytes in
+    let x = cut-parts bytes (i .reading) (i .kept) (k .front refl) in (
+      chunk-cases (λ o. o .number ≡ 14 → MoreBehindDone (i .session) b (i .kept ++ bytes)) plugin i b bytes out
+          (λ t f n. subst (MoreBehindDone (i .session) b) (cut-joined bytes (i .reading) (i .kept))
+          (text-more (c .texts) (i .session) b (i .awaited) (c .rest) h (x .texts) (cut-faulty (i .reading) (i .kept) bytes) n))
+          (λ t f n. absurd (omega arith)) (λ m t f n. absurd (one-turn m (sym t ∙ ap (turnOf plugin) h) f)),
+      chunk-more i b bytes out k h,
+    )
+
+-- any call in phase one gives 14 exactly if it is of the other phase
+pub fourteen-iff : (i : Intake) (b : Buffers) (x : AnyCall) → Has plugin x → Bounded plugin i → i .session .phase ≡ One →
+    (numberAt plugin i b x ≡ 14) ↔ IsOther i b x
+fourteen-iff i b (piece (chunk bytes out)) k bounded h = chunk-fourteen i b bytes out bounded h
+fourteen-iff i b (piece (reply r body out)) k bounded h = (λ n. tt, λ u. refl)
+fourteen-iff i b (sends-one word arguments body out) k bounded h = absurd k
+fourteen-iff i b (sends-two word arguments body out) k bounded h = (λ n. tt, λ u. send-out-of-turn (i .session) b word arguments body out h)
+fourteen-iff i b finishes k bounded h = (λ n. absurd (let z = sym (ap finished h) ∙ n in omega (arith, z)), λ u. absurd u)

@@ -199,7 +199,7 @@ module _ (P : ℕ → Type 0) (low : (n : ℕ) → T (closes n) → P n) where
         go client Ended q h = absurd (drops-not-reads 13 h)
         go client Closed q h = absurd (drops-not-reads 13 h)
         go plugin One q h = receive-number (subst (λ p. P (turnOne p)) (sym q) (low 0 tt))
-        go plugin Two q h = absurd (drops-not-reads 14 h)
+        go plugin Two q h = absurd (drops-not-reads _ h)
         go plugin (Awaiting w) q h = respond-number ample (omega (arith, room-size)) (λ n e. absurd (due-undue w n (sym (ap dueIn q) ∙ e)))
         go plugin Ended q h = absurd (drops-not-reads 13 h)
         go plugin Closed q h = absurd (drops-not-reads 13 h)

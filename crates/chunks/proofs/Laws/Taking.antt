@@ -254,7 +254,7 @@ unfolding cut
 impossible-some n [] h k = let q : unfinished start [] ≡ impossible n [] = ap (λ c. c .rest) h in let z : _≡_ {A = ℕ} 0 1 = cc in omega arith
 impossible-some n (y ∷ x) h k = let z : _≡_ {A = ℕ} 0 1 = cc in omega arith
 
-whole-some : (t x : List ℕ) → IsWhole t → t ++ x ≡ [] → ⊥
+pub whole-some : (t x : List ℕ) → IsWhole t → t ++ x ≡ [] → ⊥
 unfolding cut
 whole-some [] x w k = let q : _≡_ {A = List (List ℕ)} [] ([] ∷ []) = ap (λ c. c .texts) (w .alone) in let z : _≡_ {A = ℕ} 0 1 = cc in omega arith
 whole-some (y ∷ t) x w k = let z : _≡_ {A = ℕ} 0 1 = cc in omega arith

@@ -152,7 +152,7 @@ module _ (e : End) (s : Session) (b : Buffers) (a : List ℕ) where
   abbrev pub dropped : ℕ → List ℕ → Taken
   dropped n x = pick (eqb (length x) 0) (noMore 0 (emptied s a) b) (noMore n (emptied s a) b)
 
-  dropped-some : (n : ℕ) (front : List ℕ) (c : ℕ) (t : List ℕ) → dropped n (front ++ c ∷ t) ≡ noMore n (emptied s a) b
+  pub dropped-some : (n : ℕ) (front : List ℕ) (c : ℕ) (t : List ℕ) → dropped n (front ++ c ∷ t) ≡ noMore n (emptied s a) b
   dropped-some n front c t =
       ap (λ f. pick f (noMore 0 (emptied s a) b) (noMore n (emptied s a) b))
       (ne-eqb (length (front ++ c ∷ t)) 0 (λ z. omega (arith, length-append front (c ∷ t))))
