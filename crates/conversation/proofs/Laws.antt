@@ -14,6 +14,7 @@ pub mod Given
 pub mod LeftTwo
 pub mod Limits
 pub mod Lists
+pub mod Marks
 pub mod Names
 pub mod NumberParts
 pub mod Numbers

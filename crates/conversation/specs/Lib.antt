@@ -18,6 +18,7 @@ pub mod WrittenRead
 pub mod Shapes
 pub mod Numbers
 pub mod Names
+pub mod Marks
 pub mod SentOne
 pub mod Tables
 pub mod Agreement

@@ -24,8 +24,9 @@ use Rattle.stanza.specs.Writing as writing
 use Rattle.stanza.specs.Writing.{isWritable}
 use Rattle.symbols.specs.Checksum.{areSymbols, polymod, checksum}
 use Rattle.bech32.specs.Calls as bech32-calls
-use Rattle.bech32.specs.Calls.{formOf, readAnswer, readBuffer, payloadOf, writeAnswer, writeBuffer}
-use Rattle.bech32.specs.Text.{isName, textOf, parsed, none, parse, Read}
+use Rattle.bech32.specs.Calls.{formOf, textNumber, readAnswer, readBuffer, payloadOf, writeAnswer, writeBuffer}
+use Rattle.bech32.specs.Faults.{Judged, Marked}
+use Rattle.bech32.specs.Text.{isName, textOf, parsed, parse, Read}
 use Rattle.bech32.specs.declared.TextKind.{TextKind}
 use Rattle.bech32.specs.declared.TextKind.the-variants.{Recipient, Identity}
 use Rattle.responses.specs.Responses.{response, responseOf, responseLine}
@@ -38,17 +39,18 @@ use Rattle.phase_one.specs.Commands as one
 use Rattle.phase_one.specs.Commands.{WordOne}
 use Rattle.phase_one.specs.PhaseOne.{BuffersOne}
 use Rattle.phase_one.specs.Views as one-kind
-use Rattle.phase_one.specs.Views.{KindOne, headers}
+use Rattle.phase_one.specs.Views.{KindOne, recipients, identities, headers}
 use Rattle.phase_one.specs.Turns.{turnOne}
 use Rattle.session.specs.declared.opening.Machine.{Machine}
 use Rattle.session.specs.declared.phases.Phase.{Phase as SessionPhase}
 use Rattle.session.specs.declared.phases.Phase.the-variants.{One, Two, Awaiting, Ended, Closed}
 use Rattle.conversation.specs.Agreement.{Alike, Agreed, SameViews}
-use Rattle.conversation.specs.Allowed.{Allowed, AllowedTwo, Exchange, isDoneSent, sendingCalls, AllowedSent, leftOf, capacityOf}
+use Rattle.conversation.specs.Allowed.{Allowed, rowsIn, AllowedTwo, Exchange, isDoneSent, sendingCalls, AllowedSent, leftOf, capacityOf}
 use Rattle.conversation.specs.Answers.{events, Paired}
 use Rattle.conversation.specs.Calls.{Call, receive, send, receive-two, reply, send-two, isClient, outcome, writtenBy, State, stateOf, after, in-two, broughtBy, rowsBrought, acceptedRows, AllZero, Accepted, Refused}
 use Rattle.conversation.specs.CommandsTwo.{Named, ask, lineSent, commandTwo, wordTwo, textOfWord}
 use Rattle.conversation.specs.Given.{GivenBack}
+use Rattle.conversation.specs.Marks.{MarkedRows}
 use Rattle.conversation.specs.Kinds.{AnyKind, first, Buffers, tableOf, viewOf, ofFile}
 use Rattle.conversation.specs.Names.{Names, NamedOnce}
 use Rattle.conversation.specs.Numbers.{header, reports, SaysTwo, MissingIn, Condition, orderOf, FirstOf, bufferFor}
@@ -92,6 +94,7 @@ use Rattle.stanza.proofs.Laws.RoundTrip as stanza-both
 use Rattle.stanza.proofs.Laws.Writing as stanza-writing
 use Rattle.symbols.proofs.Laws.Checksum as checksums
 use Rattle.bech32.proofs.Laws.Calls as bech32-judged
+use Rattle.bech32.proofs.Laws.Faults as bech32-faults
 use Rattle.bech32.proofs.Laws.Text as bech32-both
 use Rattle.session.proofs.Laws.Opening as openings
 use Rattle.responses.proofs.Laws.Responses as response-texts
@@ -103,6 +106,7 @@ use Rattle.conversation.proofs.Laws.Answers as answering
 use Rattle.conversation.proofs.Laws.CommandsTwo as words-two
 use Rattle.conversation.proofs.Laws.ConditionsTwo as conditions
 use Rattle.conversation.proofs.Laws.Given as giving
+use Rattle.conversation.proofs.Laws.Marks as marks
 use Rattle.conversation.proofs.Laws.Names as stanza-names
 use Rattle.conversation.proofs.Laws.Numbers as numbering
 use Rattle.conversation.proofs.Laws.Order as ordering
@@ -236,9 +240,9 @@ demand-1-opening = openings.opened-with
 pub demand-1-stanza : (line body out : List ℕ) → WritingJudged 17 (isWritable line body ≡ false) (stanzaText line body) out (writing.written line body out) (writing.bufferAfter line body out)
 demand-1-stanza = stanza-writing.written-judged
 
--- reading a recipient or an identity: 16 exactly where the text is none, else 15
+-- reading a recipient or an identity: the text's own number, 16, 21 or 22, exactly where it has one, else 15
 pub demand-1-bech32-read : (k : TextKind) (t out : List ℕ) →
-    let p = parse (formOf k) t in WritingJudged 16 (p ≡ none) (payloadOf p) out (readAnswer p out) (readBuffer p out)
+    let p = parse (formOf k) t in WritingJudged (textNumber p) (textNumber p ≡ 0 → ⊥) (payloadOf p) out (readAnswer p out) (readBuffer p out)
 demand-1-bech32-read k t out = bech32-judged.read-judged (parse (formOf k) t) out
 
 -- writing one: 17 exactly where the name is none in lower case or the text has more than 1,024 characters, else 15
@@ -309,9 +313,21 @@ demand-2-index-text = indices.index-iff
 pub demand-2-bech32 : (k : TextKind) (t name payload : List ℕ) → (parse (formOf k) t ≡ parsed name payload) ↔ Read (formOf k) t name payload
 demand-2-bech32 k = bech32-both.parse-iff (formOf k) (bech32-both.form-plain k)
 
--- .. and as none exactly if no name and no payload write it
-pub demand-2-bech32-none : (k : TextKind) (t : List ℕ) → (parse (formOf k) t ≡ none) ↔ ((name payload : List ℕ) → Read (formOf k) t name payload → ⊥)
-demand-2-bech32-none k = bech32-both.none-iff (formOf k) (bech32-both.form-plain k)
+-- .. and it is refused exactly if no name and no payload write it: what is accepted did not change with request 4
+pub demand-2-bech32-accepted : (k : TextKind) (t : List ℕ) → (textNumber (parse (formOf k) t) ≡ 0) ↔ ((name : List ℕ) × (payload : List ℕ) × Read (formOf k) t name payload)
+demand-2-bech32-accepted k = bech32-both.number-iff (formOf k) (bech32-both.form-plain k)
+
+-- .. with 16 and the place, 21 or 22, each exactly if its condition holds
+pub demand-2-bech32-judged : (k : TextKind) (t : List ℕ) → Judged (formOf k) t (parse (formOf k) t)
+demand-2-bech32-judged k = bech32-faults.judged (formOf k) (bech32-both.form-plain k)
+
+-- an entry's mark for the session's name: 16 where the text has not the form with this name, else 21, 22 or 0
+pub demand-2-bech32-marked : (k : TextKind) (t plugin : List ℕ) → Marked (formOf k) t plugin (bech32-calls.markOf (parse (formOf k) t) plugin)
+demand-2-bech32-marked k = bech32-faults.marked (formOf k) (bech32-both.form-plain k)
+
+-- .. in the tables of any commands, at both ends
+pub demand-2-marks : (machine : Machine) (name : List ℕ) (ts : List (List ℕ)) → MarkedRows name (rowsIn machine name recipients ts) (rowsIn machine name identities ts)
+demand-2-marks = marks.marked-rows
 
 -- "What is written reads back"
 pub demand-2-bech32-written : (k : TextKind) (name payload : List ℕ) → isName name ≡ true → areBytes payload ≡ true → length (textOf (formOf k) name payload) ≤ 1024 →

@@ -13,7 +13,7 @@ use Rattle.base64.specs.Alphabet.{isCharacter, valueOf, characterOf}
 use Rattle.base64.specs.Code.{encoded, decoded, endsWell}
 use Rattle.base64.specs.Lines.{wrapped, unwrapped}
 use Rattle.symbols.specs.Charset.{isUpper, isLower, lower}
-use Rattle.bech32.specs.Text.{isName, isNameByte, separator, isChecked, isText}
+use Rattle.bech32.specs.Text.{isName, isNameByte, separator, hasTail, isClosed, isFormed, parse}
 use Rattle.refusal.proofs.Laws.Booleans.{cases}
 use Rattle.refusal.specs.Pick.{pick}
 use Rattle.refusal.specs.Run.{all, run, isGraphic}
@@ -80,7 +80,7 @@ sends =
     []
 
 pub just-done : JustDone (start .session)
-unfolding All afterEach sending.sent sending.sentStanza isName isNameByte isText isChecked separator isUpper isLower lower isCharacter valueOf characterOf encoded decoded endsWell wrapped unwrapped all run isGraphic isWordByte before words isArgument areArguments same
+unfolding All afterEach sending.sent sending.sentStanza isName isNameByte parse isFormed hasTail isClosed separator isUpper isLower lower isCharacter valueOf characterOf encoded decoded endsWell wrapped unwrapped all run isGraphic isWordByte before words isArgument areArguments same
 just-done = record {
   machine = recipientV1;
   name = plugin;

@@ -2,14 +2,15 @@
 -- caller lends what it holds afterwards: the result, or what it held (old) where the call was refused.
 use Prim.Native.Nat.{ℕ, _+_}
 use mathlib.Core.List.{List}
+use lib.Dec.{eqb}
 use lib.ListN.{length, take, drop}
 use Rattle.refusal.specs.Pick.{pick}
 use Rattle.refusal.specs.Output.{Answer, bytes, refused, overflows}
 use Rattle.base64.specs.Lines.{bodyOf}
 use Rattle.stanza.specs.Index as index
 use Rattle.stanza.specs.Reading as reading
-use Rattle.bech32.specs.Text.{Parsed, parsed, none}
-use Rattle.bech32.specs.Calls.{padded}
+use Rattle.bech32.specs.Text.{Parsed}
+use Rattle.bech32.specs.Calls.{textNumber, payloadOf, nameOf, padded}
 
 -- writing to a lent buffer: the number given back, and how many bytes
 abbrev pub numberIn : Answer → ℕ
@@ -62,8 +63,7 @@ bodyAt t line taken = bodyOf (drop (line + 1) (take taken t))
 
 -- reading a recipient or an identity: what is made of its name
 abbrev pub madeOr : {X : Type 0} → (List ℕ → X) → X → Parsed → List ℕ → X
-madeOr made old none buffer = old
-madeOr made old (parsed name payload) buffer = pick (overflows payload buffer) old (made name)
+madeOr made old p buffer = pick (eqb (textNumber p) 0) (pick (overflows (payloadOf p) buffer) old (made (nameOf p))) old
 
 -- .. its name at the front of 32 bytes, with zeros behind it
 abbrev pub nameOr : List ℕ → Parsed → List ℕ → List ℕ

@@ -7,7 +7,7 @@ ghost use Rattle.stanza.specs.Index.{readIndex};
 ghost use Rattle.stanza.specs.Reading.{readFirst};
 ghost use Rattle.stanza.specs.Writing.{written, bufferAfter};
 ghost use Rattle.bech32.specs.Text.{recipient, identity, parse};
-ghost use Rattle.bech32.specs.Calls.{formOf, readAnswer, readBuffer, writeAnswer, writeBuffer};
+ghost use Rattle.bech32.specs.Calls.{formOf, readAnswer, readPlace, readBuffer, writeAnswer, writeBuffer};
 ghost use Rattle.refusal.specs.Output.{said, answered, filled};
 ghost use Rattle.identity_file.specs.Files.{fileAnswer, fileBuffer, keysGiven, faultsGiven, faultsListed};
 ghost use Rattle.exports.specs.Results.{numberIn, lengthOr, countOr, bodyAt};
@@ -122,7 +122,7 @@ pub extern "C" fn flugremio_index(text: &[u8], value: &mut u32) -> u8
 }
 
 // The recipient that a text is: its name in lower case at the front of `name`, zeros behind it, and how many bytes the name has; its payload
-// at the front of `out`, and how many bytes that is. Or 16, then 15.
+// at the front of `out`, and how many bytes that is. Or 16, with the place, 21 or 22, then 15; the place is 0 but with 16.
 #[no_mangle]
 pub extern "C" fn flugremio_read_recipient(
     text: &[u8],
@@ -130,14 +130,16 @@ pub extern "C" fn flugremio_read_recipient(
     named: &mut usize,
     out: &mut [u8],
     length: &mut usize,
+    place: &mut usize,
 ) -> u8
     ensures number { λ r. ⌜ r ≡ numberIn (readAnswer (parse recipient (now (text .entry))) (now (out .entry))) ⌝ }
     ensures name { λ _. ⌜ now (name .exit) ≡ nameOr (now (name .entry)) (parse recipient (now (text .entry))) (now (out .entry)) ⌝ }
     ensures named { λ _. ⌜ now (named .exit) ≡ namedOr (now (named .entry)) (parse recipient (now (text .entry))) (now (out .entry)) ⌝ }
     ensures buffer { λ _. ⌜ now (out .exit) ≡ readBuffer (parse recipient (now (text .entry))) (now (out .entry)) ⌝ }
     ensures length { λ _. ⌜ now (length .exit) ≡ lengthOr (now (length .entry)) (readAnswer (parse recipient (now (text .entry))) (now (out .entry))) ⌝ }
+    ensures place { λ _. ⌜ now (place .exit) ≡ readPlace (parse recipient (now (text .entry))) ⌝ }
 {
-    read_text(TextKind::Recipient, text, name, named, out, length)
+    read_text(TextKind::Recipient, text, name, named, out, length, place)
 }
 
 // The same for an identity; its name is given in lower case too.
@@ -148,14 +150,16 @@ pub extern "C" fn flugremio_read_identity(
     named: &mut usize,
     out: &mut [u8],
     length: &mut usize,
+    place: &mut usize,
 ) -> u8
     ensures number { λ r. ⌜ r ≡ numberIn (readAnswer (parse identity (now (text .entry))) (now (out .entry))) ⌝ }
     ensures name { λ _. ⌜ now (name .exit) ≡ nameOr (now (name .entry)) (parse identity (now (text .entry))) (now (out .entry)) ⌝ }
     ensures named { λ _. ⌜ now (named .exit) ≡ namedOr (now (named .entry)) (parse identity (now (text .entry))) (now (out .entry)) ⌝ }
     ensures buffer { λ _. ⌜ now (out .exit) ≡ readBuffer (parse identity (now (text .entry))) (now (out .entry)) ⌝ }
     ensures length { λ _. ⌜ now (length .exit) ≡ lengthOr (now (length .entry)) (readAnswer (parse identity (now (text .entry))) (now (out .entry))) ⌝ }
+    ensures place { λ _. ⌜ now (place .exit) ≡ readPlace (parse identity (now (text .entry))) ⌝ }
 {
-    read_text(TextKind::Identity, text, name, named, out, length)
+    read_text(TextKind::Identity, text, name, named, out, length, place)
 }
 
 // The same for a text of the kind.
@@ -166,14 +170,17 @@ fn read_text(
     named: &mut usize,
     out: &mut [u8],
     length: &mut usize,
+    place: &mut usize,
 ) -> u8
     ensures number { λ r. ⌜ r ≡ numberIn (readAnswer (parse (formOf kind) (now (text .entry))) (now (out .entry))) ⌝ }
     ensures name { λ _. ⌜ now (name .exit) ≡ nameOr (now (name .entry)) (parse (formOf kind) (now (text .entry))) (now (out .entry)) ⌝ }
     ensures named { λ _. ⌜ now (named .exit) ≡ namedOr (now (named .entry)) (parse (formOf kind) (now (text .entry))) (now (out .entry)) ⌝ }
     ensures buffer { λ _. ⌜ now (out .exit) ≡ readBuffer (parse (formOf kind) (now (text .entry))) (now (out .entry)) ⌝ }
     ensures length { λ _. ⌜ now (length .exit) ≡ lengthOr (now (length .entry)) (readAnswer (parse (formOf kind) (now (text .entry))) (now (out .entry))) ⌝ }
+    ensures place { λ _. ⌜ now (place .exit) ≡ readPlace (parse (formOf kind) (now (text .entry))) ⌝ }
 {
     let reading = bech32::read(kind, text, out);
+    *place = reading.place;
     let answer = reading.answer;
     match answer {
         Written::Bytes(size) => {

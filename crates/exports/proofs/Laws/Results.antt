@@ -3,11 +3,13 @@ use Prim.Native.Nat.{ℕ}
 use mathlib.Core.Path.{_≡_, refl}
 use mathlib.Core.Bool.{Bool, true, false}
 use mathlib.Core.List.{List, []}
+use lib.Dec.{eqb}
 use lib.ListN.{length}
 use Rattle.refusal.specs.Pick.{pick}
-use Rattle.refusal.specs.Output.{bytes, refused, overflows}
-use Rattle.bech32.specs.Text.{Parsed, parsed, none}
-use Rattle.bech32.specs.Calls.{readAnswer, readName}
+use Rattle.refusal.specs.Output.{bytes, refused, overflows, answered}
+use Rattle.refusal.proofs.Laws.Booleans.{cases}
+use Rattle.bech32.specs.Text.{Parsed}
+use Rattle.bech32.specs.Calls.{textNumber, payloadOf, nameOf, readAnswer, readName}
 use Rattle.exports.specs.Results.{madeOr}
 
 module _ {X : Type 0} (made : List ℕ → X) (old : X) where
@@ -21,10 +23,14 @@ module _ {X : Type 0} (made : List ℕ → X) (old : X) where
 
   -- where the text is read, it is made of the name that the reader gives
   pub name-made : (p : Parsed) (buffer : List ℕ) (n : ℕ) → bytes n ≡ readAnswer p buffer → made (readName p buffer) ≡ madeOr made old p buffer
-  name-made none buffer n h = cc
-  name-made (parsed name payload) buffer n h = made-if (overflows payload buffer) n (length payload) name h
+  name-made p buffer n h =
+      cases (eqb (textNumber p) 0)
+      (λ e. let q : bytes n ≡ answered (payloadOf p) buffer = rw e at h in rw e (made-if (overflows (payloadOf p) buffer) n (length (payloadOf p)) (nameOf p) q))
+      (λ e. let q : bytes n ≡ refused (textNumber p) = rw e at h in cc)
 
   -- where it is refused, what was there stays
   pub name-kept : (p : Parsed) (buffer : List ℕ) (k : ℕ) → refused k ≡ readAnswer p buffer → old ≡ madeOr made old p buffer
-  name-kept none buffer k h = refl
-  name-kept (parsed name payload) buffer k h = kept-if (overflows payload buffer) k (length payload) name h
+  name-kept p buffer k h =
+      cases (eqb (textNumber p) 0)
+      (λ e. let q : refused k ≡ answered (payloadOf p) buffer = rw e at h in rw e (kept-if (overflows (payloadOf p) buffer) k (length (payloadOf p)) (nameOf p) q))
+      (λ e. rw e)

@@ -24,10 +24,9 @@ use Rattle.symbols.specs.Regroup.{symbols}
 use Rattle.symbols.proofs.Laws.Charset.{lower-bounds}
 use Rattle.symbols.proofs.Laws.Checksum.{six-lt}
 use Rattle.symbols.proofs.Laws.Regroup.{symbols-small}
-use Rattle.bech32.specs.Calls.{textNumber}
 use Rattle.bech32.specs.Text as bech32
-use Rattle.bech32.specs.Text.{isNameByte, isName, humanPart, plainText, Parsed, parsed, none, parse, Read}
-use Rattle.bech32.proofs.Laws.Text.{text-parse}
+use Rattle.bech32.specs.Text.{isNameByte, isName, humanPart, plainText, Read}
+use Rattle.bech32.proofs.Laws.Text.{identity-plain, number-iff}
 use Rattle.identity_file.specs.Kinds.{valid, kindOf}
 use Rattle.identity_file.specs.Files.{addIdentity, doneWord}
 use Rattle.identity_file.proofs.Laws.Kinds.{judgement}
@@ -101,11 +100,8 @@ pub record Argument (l : List ℕ) : Type 0 where
 pub valid-argument : (l : List ℕ) → kindOf l ≡ valid → Argument l
 valid-argument l e =
     let j = judgement l .valid-iff .0 e in
-    record { short = j .unskipped .short; some = j .unskipped .some; graphic = go (parse bech32.identity l) refl (j .number) }
-  where
-    go : (p : Parsed) → parse bech32.identity l ≡ p → textNumber p ≡ 0 → all isGraphic l ≡ true
-    go (parsed name payload) h n = text-graphic l name payload (text-parse bech32.identity l name payload h)
-    go none h n = absurd (omega (arith, n))
+    let r = number-iff bech32.identity identity-plain l .0 (j .number) in
+    record { short = j .unskipped .short; some = j .unskipped .some; graphic = text-graphic l (r .0) (r .1) (r .2) }
 
 -- ---- its command
 
