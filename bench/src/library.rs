@@ -57,6 +57,7 @@ mod exported {
             out: *mut u8,
             out_len: usize,
             length: *mut usize,
+            place: *mut usize,
         ) -> u8;
 
         pub fn flugremio_read_identity(
@@ -67,6 +68,7 @@ mod exported {
             out: *mut u8,
             out_len: usize,
             length: *mut usize,
+            place: *mut usize,
         ) -> u8;
 
         pub fn flugremio_write_recipient(
@@ -150,6 +152,7 @@ pub fn read_text(kind: Kind, text: &[u8], name: &mut Name, out: &mut [u8], lengt
         Kind::Recipient => exported::flugremio_read_recipient,
         Kind::Identity => exported::flugremio_read_identity,
     };
+    let mut place = 0;
     // SAFETY: as above.
     unsafe {
         read(
@@ -160,6 +163,7 @@ pub fn read_text(kind: Kind, text: &[u8], name: &mut Name, out: &mut [u8], lengt
             out.as_mut_ptr(),
             out.len(),
             length,
+            &mut place,
         )
     }
 }

@@ -85,18 +85,35 @@ pub fn holds(text: &[u8]) -> bool {
 
 /// Reads a text of the kind and writes its payload to the front of `out`.
 ///
-/// 16 if the text is none; then 15. A refusal leaves `out` as it was.
+/// 16 if the text has not the form of one, 21 if its checksum fails, 22 for leftover bits; then 15. A refusal
+/// leaves `out` as it was; with 16 comes `place_of_fault`.
 pub fn read(kind: Kind, text: &[u8], out: &mut [u8]) -> Result<Reading, Refusal> {
-    let (name, payload) = parse(kind, text).ok_or(Refusal::NotAnEntry)?;
+    let parts = Parts::of(kind, text).ok_or(Refusal::NotAnEntry)?;
+    let (name, payload) = (parts.name(kind).to_vec(), parts.payload()?);
     let out = out.get_mut(..payload.len()).ok_or(Refusal::OutputTooShort)?;
     out.copy_from_slice(&payload);
     Ok(Reading { name, payload_len: payload.len() })
 }
 
-/// Whether the text is one of the kind and of the plugin, whose name is compared without case.
+/// Why the text is not one of the kind and of the plugin; none if it is. Another name, which is compared
+/// without case, is 16, whatever else is wrong.
 #[must_use]
-pub fn is_of_plugin(kind: Kind, text: &[u8], plugin: &[u8]) -> bool {
-    parse(kind, text).is_some_and(|(name, _)| name.eq_ignore_ascii_case(plugin))
+pub fn fault(kind: Kind, text: &[u8], plugin: &[u8]) -> Option<Refusal> {
+    match Parts::of(kind, text) {
+        Some(parts) if parts.name(kind).eq_ignore_ascii_case(plugin) => parts.payload().err(),
+        _ => Some(Refusal::NotAnEntry),
+    }
+}
+
+/// The place that comes with 16, whatever made it so: of the first byte that is outside 33 to 126, or stands
+/// behind the last "1" and is not in the alphabet in either case; else the text's length.
+#[must_use]
+pub fn place_of_fault(text: &[u8]) -> usize {
+    let tail = text.iter().rposition(|&byte| byte == SEPARATOR).map_or(text.len(), |at| at + 1);
+    let is_bad = |(at, byte): (usize, &u8)| {
+        !(33..=126).contains(byte) || at >= tail && symbol(byte.to_ascii_lowercase()).is_none()
+    };
+    text.iter().enumerate().position(is_bad).unwrap_or(text.len())
 }
 
 /// Writes the text of a name and a payload to the front of `out` and gives its length.
@@ -114,17 +131,6 @@ pub fn write(kind: Kind, name: &[u8], payload: &[u8], out: &mut [u8]) -> Result<
     let out = out.get_mut(..text.len()).ok_or(Refusal::OutputTooShort)?;
     out.copy_from_slice(&text);
     Ok(text.len())
-}
-
-/// The name and the payload of a text.
-fn parse(kind: Kind, text: &[u8]) -> Option<(Vec<u8>, Vec<u8>)> {
-    if text.len() > LIMIT || !kind.has_case(text) {
-        return None;
-    }
-    let parts = Parts::split(text).filter(|parts| parts.final_value() == FINAL_VALUE)?;
-    let name = kind.name(&parts.human)?.to_vec();
-    let payload = bytes(&parts.symbols[..parts.symbols.len() - CHECKSUM_SYMBOLS])?;
-    Some((name, payload))
 }
 
 /// Whether this is a name as writers and openings take it.
@@ -155,8 +161,29 @@ impl Parts {
         (symbols.len() >= CHECKSUM_SYMBOLS).then(|| Parts { human: text[..at].to_vec(), symbols })
     }
 
+    /// The parts of a text that has the kind's form: its length, its case and its human part.
+    fn of(kind: Kind, text: &[u8]) -> Option<Self> {
+        if text.len() > LIMIT || !kind.has_case(text) {
+            return None;
+        }
+        Self::split(text).filter(|parts| kind.name(&parts.human).is_some())
+    }
+
     fn final_value(&self) -> u32 {
         polymod(&self.human, &self.symbols)
+    }
+
+    /// The name in the human part, which is the kind's.
+    fn name(&self, kind: Kind) -> &[u8] {
+        kind.name(&self.human).unwrap_or_default()
+    }
+
+    /// 21, then 22.
+    fn payload(&self) -> Result<Vec<u8>, Refusal> {
+        if self.final_value() != FINAL_VALUE {
+            return Err(Refusal::BadChecksum);
+        }
+        bytes(&self.symbols[..self.symbols.len() - CHECKSUM_SYMBOLS]).ok_or(Refusal::LeftoverBits)
     }
 }
 
@@ -231,7 +258,7 @@ fn regroup(values: &[u8], from: u32, to: u32) -> (Vec<u8>, Rest) {
 #[cfg(test)]
 mod tests {
     use super::Kind::{Identity, Recipient};
-    use super::Refusal::{NotAnEntry, OutputTooShort, Unwritable};
+    use super::Refusal::{BadChecksum, LeftoverBits, NotAnEntry, OutputTooShort, Unwritable};
     use super::*;
     use crate::generate::vectors;
 
@@ -257,8 +284,8 @@ mod tests {
                 Some((reading.name, out))
             }
             Err(refusal) => {
-                assert_eq!(refusal, NotAnEntry);
-                assert_eq!(read(kind, text, &mut []), Err(NotAnEntry));
+                assert!([NotAnEntry, BadChecksum, LeftoverBits].contains(&refusal));
+                assert_eq!(read(kind, text, &mut []), Err(refusal));
                 None
             }
         }
@@ -469,14 +496,93 @@ mod tests {
         let recipient = b"age1interop1qyqszqg83syvs";
         let identity = b"AGE-PLUGIN-INTEROP-1QYQSZQG5Z25TP";
         for name in [b"interop".as_slice(), b"Interop", b"INTEROP"] {
-            assert!(is_of_plugin(Recipient, recipient, name));
-            assert!(is_of_plugin(Identity, identity, name));
+            assert_eq!(fault(Recipient, recipient, name), None);
+            assert_eq!(fault(Identity, identity, name), None);
         }
         for name in [b"".as_slice(), b"intero", b"interop-", b"interop "] {
-            assert!(!is_of_plugin(Recipient, recipient, name));
-            assert!(!is_of_plugin(Identity, identity, name));
+            assert_eq!(fault(Recipient, recipient, name), Some(NotAnEntry));
+            assert_eq!(fault(Identity, identity, name), Some(NotAnEntry));
         }
-        assert!(!is_of_plugin(Identity, recipient, b"interop"));
-        assert!(!is_of_plugin(Recipient, &recipient[1..], b"interop"));
+        assert_eq!(fault(Identity, recipient, b"interop"), Some(NotAnEntry));
+        assert_eq!(fault(Recipient, &recipient[1..], b"interop"), Some(NotAnEntry));
+    }
+
+    /// Another plugin's name is 16, whatever the reader says of the text.
+    #[test]
+    fn faults_of_a_plugins_texts() {
+        for kind in [Recipient, Identity] {
+            let wrong_sum = signed(kind, b"se", &symbols(b"payload"), BECH32M);
+            let leftover = signed(kind, b"se", &[0; 3], FINAL_VALUE);
+            let both = signed(kind, b"se", &[0; 3], BECH32M);
+            for (text, refusal) in [(wrong_sum, BadChecksum), (leftover, LeftoverBits), (both, BadChecksum)] {
+                assert_eq!(read(kind, &text, &mut []), Err(refusal));
+                assert_eq!(fault(kind, &text, b"SE"), Some(refusal));
+                assert_eq!(fault(kind, &text, b"tpm"), Some(NotAnEntry));
+            }
+        }
+    }
+
+    /// The form before the checksum, the checksum before the leftover bits, all of them before the buffer.
+    #[test]
+    fn faults_in_order() {
+        for kind in [Recipient, Identity] {
+            let text = |name: &[u8], symbols: &[u8], value| signed(kind, name, symbols, value);
+            let refused = |text: &[u8]| read(kind, text, &mut []).unwrap_err();
+            assert_eq!(refused(&text(b"a", &[0; 2], FINAL_VALUE)), OutputTooShort);
+            assert_eq!(refused(&text(b"a", &[0; 3], FINAL_VALUE)), LeftoverBits);
+            assert_eq!(refused(&text(b"a", &[1; 2], FINAL_VALUE)), LeftoverBits);
+            assert_eq!(refused(&text(b"a", &[1; 2], 0)), BadChecksum);
+            assert_eq!(refused(&text(b"a", &[0; 2], 0)), BadChecksum);
+            for (symbols, value) in [(&[0; 2], 0), (&[1; 2], 0), (&[1; 2], FINAL_VALUE)] {
+                assert_eq!(refused(&text(b"", symbols, value)), NotAnEntry);
+                assert_eq!(refused(&text(b"a$", symbols, value)), NotAnEntry);
+                let other_case =
+                    text(b"a", symbols, value).iter().map(|byte| byte ^ 0x20).collect::<Vec<_>>();
+                assert_eq!(refused(&other_case), NotAnEntry);
+            }
+        }
+        // A text in front makes another good name, or none.
+        let recipient = b"age1interop1qyqszqg83syvs".as_slice();
+        assert_eq!(read(Recipient, &[b"age1", recipient].concat(), &mut [0; 9]), Err(BadChecksum));
+        assert_eq!(read(Recipient, b"age2interop1qyqszqg83syvq", &mut [0; 9]), Err(NotAnEntry));
+    }
+
+    #[test]
+    fn places_of_faults() {
+        for (text, place) in [
+            ("", 0),
+            ("a", 1),
+            ("1", 1),
+            ("b", 1),
+            ("1b", 1),
+            ("1B", 1),
+            ("1bb1b", 4),
+            ("1qQ$", 3),
+            ("a$1q", 4),
+            ("a 1b", 1),
+            ("a1b ", 2),
+            ("b\x7f", 1),
+            ("age1x1QQQQQQ", 12),
+            ("age1x1qqqqqQ", 12),
+            ("age1x1qqqqq", 11),
+            ("age1x1qqqqqqi", 12),
+            ("AGE-PLUGIN-A-1qqqqqqO", 20),
+            ("\n1qqqqqq", 0),
+        ] {
+            assert_eq!(place_of_fault(text.as_bytes()), place, "{text:?}");
+        }
+        for len in [1_024, 1_025, 3_000] {
+            let good = [b"age1".as_slice(), &vec![b'q'; len - 4]].concat();
+            assert_eq!(place_of_fault(&good), len);
+            for bad in [5, 1_023, len - 1] {
+                let mut text = good.clone();
+                text[bad] = b'b';
+                assert_eq!(place_of_fault(&text), bad);
+            }
+            let mut text = good.clone();
+            text[20] = b'b';
+            text[len - 1] = b'1';
+            assert_eq!(place_of_fault(&text), len);
+        }
     }
 }

@@ -19,6 +19,7 @@ mod recordings;
 mod refusals;
 mod session;
 mod text;
+mod text_faults;
 pub mod vectors;
 
 use crate::bech32::Kind;
@@ -42,6 +43,7 @@ pub fn script() -> Vec<u8> {
     identity_file::sections(&mut script);
     no_screen::sections(&mut script);
     file_numbers::sections(&mut script);
+    text_faults::sections(&mut script);
     class::sections(&mut script);
     script.heading("The last line lacks its LF");
     script.index(b"7");
@@ -167,8 +169,8 @@ mod tests {
             ("write", "bad, ok, refused 15, refused 17"),
             ("index", "bad, ok, refused 5"),
             ("checksum", "bad, ok fails, ok holds"),
-            ("recipient", "bad, ok, refused 15, refused 16"),
-            ("identity", "bad, ok, refused 15, refused 16"),
+            ("recipient", "bad, ok, refused 15, refused 16, refused 21, refused 22"),
+            ("identity", "bad, ok, refused 15, refused 16, refused 21, refused 22"),
             ("write-recipient", "bad, ok, refused 15, refused 17"),
             ("write-identity", "bad, ok, refused 15, refused 17"),
             ("profile", "bad, ok conforming, ok nonconforming, ok unknown"),
@@ -280,7 +282,7 @@ mod tests {
             }
         }
         let all: BTreeSet<u8> = refusals.values().flat_map(|counts| counts.keys().copied()).collect();
-        assert_eq!(all.into_iter().collect::<Vec<_>>(), (1..=19).collect::<Vec<_>>());
+        assert_eq!(all.into_iter().collect::<Vec<_>>(), (1..=19).chain([21, 22]).collect::<Vec<_>>());
     }
 
     /// So it is with calls that have taken something before the fault: all numbers but those that are for the
@@ -324,8 +326,9 @@ mod tests {
         let found: BTreeSet<String> = shown.filter(|line| !line.starts_with("file-key ")).map(ends).collect();
         let expected = [
             "awaits -", "end end", "header conforming", "header nonconforming", "header unknown",
-            "identity invalid", "identity valid", "none none", "phase closed", "phase one", "phase two",
-            "recipient invalid", "recipient valid",
+            "identity invalid-16", "identity invalid-21", "identity invalid-22", "identity valid",
+            "none none", "phase closed", "phase one", "phase two", "recipient invalid-16",
+            "recipient invalid-21", "recipient invalid-22", "recipient valid",
         ];
         assert_eq!(found.into_iter().collect::<Vec<_>>(), expected);
     }

@@ -130,14 +130,11 @@ mod tests {
     const ONE: &str = "AGE-PLUGIN-INTEROP-1QYQSZQG5Z25TP";
     const OTHER: &str = "AGE-PLUGIN-FIDO2-HMAC-1QYQXV6TYDUEZ66RDV93SQUSDAT";
 
-    /// Secret keys, faulty lines, the lines listed, and what is written; every number is 16 so far.
+    /// Secret keys, faulty lines, the lines listed, and what is written.
     fn found(text: &str) -> (usize, usize, Vec<usize>, String) {
         let mut out = vec![0; 70_000];
         let reading = read(text.as_bytes(), &mut out).unwrap();
-        let listed = reading.listed.iter().map(|fault| {
-            assert_eq!(fault.refusal, Refusal::NotAnEntry);
-            fault.line
-        });
+        let listed = reading.listed.iter().map(|fault| fault.line);
         let written = String::from_utf8(out[..reading.written].to_vec()).unwrap();
         (reading.secret_keys, reading.faulty, listed.collect(), written)
     }
@@ -219,6 +216,19 @@ mod tests {
             let listed = (1..=faulty.min(MOST_LISTED)).collect();
             assert_eq!(found(&text), (0, faulty, listed, written(&[ONE])));
         }
+    }
+
+    /// The line's number is the reader's; a line that is too long is 16.
+    #[test]
+    fn numbers_of_faulty_lines() {
+        let wrong_sum = "AGE-PLUGIN-INTEROP-1QYQSZQG5Z25PT";
+        let leftover = bech32::encode(b"age-plugin-a-", &[0; 3], bech32::FINAL_VALUE).to_ascii_uppercase();
+        let leftover = String::from_utf8(leftover).unwrap();
+        let text = format!("x\n{wrong_sum}\n{ONE}\n{leftover}\n{wrong_sum}{}\n{ONE} ", "Q".repeat(1_000));
+        let reading = read(text.as_bytes(), &mut [0; 200]).unwrap();
+        let faults: Vec<_> =
+            reading.listed.iter().map(|fault| (fault.refusal.number(), fault.line)).collect();
+        assert_eq!(faults, [(16, 0), (21, 1), (22, 3), (16, 4), (16, 5)]);
     }
 
     #[test]

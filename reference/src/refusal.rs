@@ -1,4 +1,4 @@
-//! Document 01, "Numbers given back": one variant for each of the 19 faults.
+//! Document 01, "Numbers given back", and what document 02 adds: one variant for each fault.
 
 /// Why a call was refused. The discriminant is the paper's number; no refusal is 0.
 #[derive(Clone, Copy, Debug, PartialEq, Eq)]
@@ -34,7 +34,7 @@ pub enum Refusal {
     OutOfTurn = 14,
     /// Output longer than the lent buffer, or more than 8,192 bytes to be kept back.
     OutputTooShort = 15,
-    /// Text isn't a recipient (or identity).
+    /// Text isn't a recipient (or identity): a bad character, case or length, no separator, another human part.
     NotAnEntry = 16,
     /// Argument, name or length that can't be written.
     Unwritable = 17,
@@ -42,6 +42,10 @@ pub enum Refusal {
     UnknownMachine = 18,
     /// Plugin end: held back by an invalid entry or nonconforming stanza, or error for an unknown stanza.
     HeldBack = 19,
+    /// Text isn't a recipient (or identity): its checksum fails.
+    BadChecksum = 21,
+    /// Text isn't a recipient (or identity): bits are left over.
+    LeftoverBits = 22,
 }
 
 impl Refusal {
@@ -57,7 +61,7 @@ mod tests {
     use super::Refusal::{self, *};
 
     #[test]
-    fn numbers_run_from_1_to_19() {
+    fn numbers_run_from_1_to_19_and_on() {
         let in_order: [Refusal; 19] = [
             NotAStanza, NotEnded, TooLong, WrongForm, BadIndex, NamesNothing, IndexFalls, NoSpace, SecondKey,
             TooManyStanzas, WorkAndError, UnfitResponse, SessionOver, OutOfTurn, OutputTooShort, NotAnEntry,
@@ -66,5 +70,6 @@ mod tests {
         for (before, refusal) in in_order.into_iter().enumerate() {
             assert_eq!(usize::from(refusal.number()), before + 1);
         }
+        assert_eq!([BadChecksum, LeftoverBits].map(Refusal::number), [21, 22]);
     }
 }

@@ -118,7 +118,7 @@ impl<'a> Call<'a> {
             Call::Checksum { text } => {
                 Ok(Answer::words(if bech32::holds(text) { "ok holds" } else { "ok fails" }))
             }
-            Call::Read { kind, text, out } => read_bech32(kind, text, out),
+            Call::Read { kind, text, out } => Ok(read_bech32(kind, text, out)),
             Call::WriteText { kind, name, payload, out } => write_bech32(kind, name, payload, out),
             Call::Profile { name, line, body } => {
                 Ok(Answer::words("ok").word(finding_word(profile::check(name, line, body))))
@@ -149,11 +149,16 @@ fn write_stanza(arguments: &[u8], body: &[u8], out: usize) -> Result<Answer, Ref
     Ok(Answer::words("ok").bytes(&out[..len]))
 }
 
-/// `ok NAME PAYLOAD`.
-fn read_bech32(kind: Kind, text: &[u8], out: usize) -> Result<Answer, Refusal> {
+/// `ok NAME PAYLOAD`; `refused 16 PLACE`.
+fn read_bech32(kind: Kind, text: &[u8], out: usize) -> Answer {
     let mut out = vec![0; out];
-    let reading = bech32::read(kind, text, &mut out)?;
-    Ok(Answer::words("ok").bytes(&reading.name).bytes(&out[..reading.payload_len]))
+    match bech32::read(kind, text, &mut out) {
+        Ok(reading) => Answer::words("ok").bytes(&reading.name).bytes(&out[..reading.payload_len]),
+        Err(refusal @ Refusal::NotAnEntry) => {
+            Answer::refused(refusal).number(bech32::place_of_fault(text) as u64)
+        }
+        Err(refusal) => Answer::refused(refusal),
+    }
 }
 
 /// `ok TEXT`.
@@ -286,7 +291,10 @@ mod tests {
         let identity = "AGE-PLUGIN-FIDO2-HMAC-1QYQXV6TYDUEZ66RDV93SQUSDAT";
         assert_eq!(answers(&format!("identity {identity} 12")), "ok fido2-hmac \\x01\\x00fido2-hmac\n");
         assert_eq!(answers(&format!("identity {identity} 11")), "refused 15\n");
-        assert_eq!(answers(&format!("recipient {identity} 12")), "refused 16\n");
+        assert_eq!(answers(&format!("recipient {identity} 12")), "refused 16 49\n");
+        assert_eq!(answers("recipient age1a1lelu8b 0"), "refused 16 11\n");
+        assert_eq!(answers("recipient age1a1lelu8m 0"), "refused 21\n");
+        assert_eq!(answers("recipient \\e 0"), "refused 16 0\n");
         let written = format!("ok {identity}\n");
         assert_eq!(answers("write-identity fido2-hmac \\x01\\x00fido2-hmac 49"), written);
         assert_eq!(answers("write-identity fido2-hmac \\x01\\x00fido2-hmac 48"), "refused 15\n");

@@ -302,7 +302,7 @@ pub fn judge(kind: TextKind, text: &[u8]) -> u8
         return refusal::number(Refusal::Malformed);
     }
     let table = values();
-    refusal::number_of(judge_tail(&table, text, at))
+    refusal::verdict_number(judge_tail(&table, text, at))
 }
 
 // The mark of a text of the kind for a plugin's name, in either case: 16 where it has no human part of that name; else the reader's number.
@@ -320,5 +320,5 @@ pub fn mark(kind: TextKind, text: &[u8], plugin: &[u8]) -> u8
         return refusal::number(Refusal::Malformed);
     }
     let table = values();
-    refusal::number_of(judge_tail(&table, text, at))
+    refusal::verdict_number(judge_tail(&table, text, at))
 }

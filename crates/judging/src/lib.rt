@@ -52,16 +52,6 @@ fn count(tables: Tables, answer: u8) -> Judged
     }
 }
 
-// The number of a verdict, 0 where nothing is refused.
-fn number(verdict: Verdict) -> u8
-    ensures { λ n. ⌜ n ≡ verdictSaid verdict ⌝ }
-{
-    match verdict {
-        Verdict::Accepted => 0,
-        Verdict::Refused(r) => refusal::number(r),
-    }
-}
-
 // Where judging stands behind a chunk, by the session and the verdict.
 fn behind_chunk(session: Session, verdict: Verdict) -> Progress
     ensures { λ r. ⌜ ((xs hs : List (List ℕ)) (input : List ℕ) →
@@ -73,7 +63,7 @@ fn behind_chunk(session: Session, verdict: Verdict) -> Progress
         Phase::Two => Progress::Stopped(count(session.tables, 0)),
         Phase::Awaiting(_) => Progress::Stopped(count(session.tables, 0)),
         Phase::Ended => Progress::Stopped(count(session.tables, 0)),
-        Phase::Closed => Progress::Stopped(count(session.tables, number(verdict))),
+        Phase::Closed => Progress::Stopped(count(session.tables, refusal::verdict_number(verdict))),
     }
 }
 
@@ -145,7 +135,10 @@ impl Judging {
         let session = self.session;
         match progress {
             Progress::Stopped(x) => x,
-            Progress::GoesOn => count(session.tables, number(intake::finish(session))),
+            Progress::GoesOn => count(
+                session.tables,
+                refusal::verdict_number(intake::finish(session)),
+            ),
         }
     }
 }

@@ -91,7 +91,7 @@ pub fn number(r: Refusal) -> u8
 }
 
 // The number of a verdict, 0 where nothing is refused.
-pub fn number_of(verdict: Verdict) -> u8
+pub fn verdict_number(verdict: Verdict) -> u8
     ensures { λ n. ⌜ n ≡ verdictSaid verdict ⌝ }
 {
     match verdict {

@@ -94,20 +94,12 @@ fn number_last(last: Last) -> usize {
     }
 }
 
-// The number of a refusal, 0 where there is none.
-fn number_verdict(verdict: Verdict) -> u8 {
-    match verdict {
-        Verdict::Accepted => 0,
-        Verdict::Refused(r) => refusal::number(r),
-    }
-}
-
 // The answer of a call that received.
 pub fn answer_received(received: Received) -> Answer {
     let verdict = received.verdict;
     let last = received.last;
     Answer::Received(
-        number_verdict(verdict),
+        refusal::verdict_number(verdict),
         received.count,
         number_last(last),
         received.written,

@@ -13,6 +13,7 @@ use crate::returned::print_keys;
 use crate::returned::print_stanzas;
 use bech32::TextKind;
 use look_up::Awaited;
+use refusal::Refusal;
 use replay_lines::Lengths;
 use replay_lines::Look;
 use replay_lines::front;
@@ -38,10 +39,13 @@ const PHASES: [u8; 20] = *b"one two ended closed";
 
 const KINDS: [u8; 34] = *b"recipient identity file-key header";
 
-const MARKS: [u8; 46] = *b"valid invalid conforming nonconforming unknown";
+const MARKS: [u8; 71] = *b"valid invalid-16 invalid-21 invalid-22 conforming nonconforming unknown";
+
+// Where the marks of header stanzas begin.
+const HEADER_MARKS: usize = 4;
 
 // No mark has this number.
-const NO_MARK: usize = 5;
+const NO_MARK: usize = 7;
 
 // The kinds that are told by their numbers: a file key has no mark, and a header stanza has an index.
 const FILE_KEY: usize = 2;
@@ -225,13 +229,26 @@ fn print_slot(
     print_row(head, n, &text[..k], payload, mark, out, at)
 }
 
-// The number of a mark's word: a recipient or an identity is valid where its mark is 0; a header stanza's mark is 0, 1 or 2; a file key's is no word.
+// The number of a mark's word: a recipient's or an identity's mark is 0 or the reader's number; a header stanza's is 0, 1 or 2; a file key's is no word.
 fn mark_number(kind: usize, mark: usize) -> usize {
     if kind == FILE_KEY {
         return NO_MARK;
     }
     if kind == HEADER {
-        return 2 + least(2, mark);
+        return HEADER_MARKS + least(2, mark);
     }
-    least(1, mark)
+    if mark == wide_number(Refusal::Malformed) {
+        return 1;
+    }
+    if mark == wide_number(Refusal::BadChecksum) {
+        return 2;
+    }
+    if mark == wide_number(Refusal::LeftoverBits) {
+        return 3;
+    }
+    0
+}
+
+fn wide_number(r: Refusal) -> usize {
+    refusal::number(r) as usize
 }

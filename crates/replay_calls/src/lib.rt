@@ -6,6 +6,7 @@ use bech32::TextKind;
 use identity_files::call_identity_file;
 use judging::Judged;
 use profile::Conformity;
+use refusal::Refusal;
 use refusal::Written;
 use replay_answers::Answer;
 use replay_answers::Output;
@@ -227,8 +228,18 @@ fn print_reading(reading: ReadText, buffer: &[u8], out: &mut Output, at: usize) 
             let a = print_bytes(front(&bytes, name.length), out, next);
             Answer::Printed(print_word(b"", front(buffer, n), out, a))
         }
-        Written::Refused(r) => Answer::Refused(r),
+        Written::Refused(r) => print_refusal(r, reading.place, out, at),
     }
+}
+
+// A reader's refusal: 16 comes with the place.
+fn print_refusal(r: Refusal, place: usize, out: &mut Output, at: usize) -> Answer {
+    let number = refusal::number(r);
+    if number != refusal::number(Refusal::Malformed) {
+        return Answer::Refused(r);
+    }
+    let numbers = [number as usize, place];
+    Answer::Printed(print_numbers(b"refused", &numbers, out, at))
 }
 
 // write-recipient NAME PAYLOAD OUT, write-identity NAME PAYLOAD OUT

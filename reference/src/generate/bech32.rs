@@ -57,7 +57,7 @@ pub(super) fn other_case(text: &[u8]) -> Vec<u8> {
     text.iter().map(|&byte| other_case_of(byte)).collect()
 }
 
-fn other_case_of(byte: u8) -> u8 {
+pub(super) fn other_case_of(byte: u8) -> u8 {
     if byte.is_ascii_alphabetic() {
         byte ^ 0x20
     } else {

@@ -38,7 +38,7 @@ impl Script {
     }
 
     /// Reads a file with an output buffer of exactly the length, and with one that is a byte too short.
-    fn identity_file_near(&mut self, text: &[u8]) {
+    pub(super) fn identity_file_near(&mut self, text: &[u8]) {
         let len = output_length(text);
         self.identity_file(text, len);
         self.identity_file(text, len - 1);
@@ -69,7 +69,7 @@ fn secret_key() -> Vec<u8> {
 }
 
 /// Lines, each with its LF but the last.
-fn joined(lines: &[Vec<u8>]) -> Vec<u8> {
+pub(super) fn joined(lines: &[Vec<u8>]) -> Vec<u8> {
     lines.join(&b'\n')
 }
 

@@ -1,11 +1,12 @@
 //! Lines for sessions: openings, phase one at both ends, buffers, marks, look-ups, and the recordings.
 
-use super::bech32::{other_case, text_of};
+use super::bech32::{other_case, signed, text_of};
 use super::commands::{headers, Command, End, ENDS, IDENTITY, MACHINES, PLUGIN, RECIPIENT, ROOMY};
 use super::judge::example;
 use super::phase_one;
 use super::recordings::{Recording, RECORDINGS};
 use super::refusals;
+use super::text::replaced;
 use super::Script;
 use crate::bech32::Kind;
 use crate::session::KINDS;
@@ -206,7 +207,7 @@ fn marks(script: &mut Script) {
 }
 
 /// The first two and the one of 600 bytes are valid, and of the two short ones that of the kind.
-fn texts_to_mark(kind: Kind) -> [Vec<u8>; 15] {
+fn texts_to_mark(kind: Kind) -> [Vec<u8>; 17] {
     let good = text_of(kind, PLUGIN, b"payload");
     [
         good.clone(),
@@ -224,6 +225,8 @@ fn texts_to_mark(kind: Kind) -> [Vec<u8>; 15] {
         b"x".to_vec(),
         text_of(kind, PLUGIN, &[7; 600]),
         text_of(kind, PLUGIN, &[7; 640]),
+        signed(kind, PLUGIN, &[7; 3]),
+        replaced(&good, good.len() - 9, good[good.len() - 10]),
     ]
 }
 
@@ -355,12 +358,12 @@ fn from_client_to_plugin(script: &mut Script) {
 #[cfg(test)]
 mod tests {
     use super::*;
-    use crate::bech32::is_of_plugin;
+    use crate::bech32::fault;
 
     #[test]
     fn four_of_the_texts_to_mark_are_valid() {
         for kind in [Kind::Recipient, Kind::Identity] {
-            let valid = |text: &&Vec<u8>| is_of_plugin(kind, text, PLUGIN);
+            let valid = |text: &&Vec<u8>| fault(kind, text, PLUGIN).is_none();
             assert_eq!(texts_to_mark(kind).iter().filter(valid).count(), 4);
         }
     }

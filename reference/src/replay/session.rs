@@ -348,7 +348,7 @@ mod tests {
             "ok", "ok 1 add-recipient \\e", "ok 2 other \\e", "ok 0 - \\e", "ok 1 wrap-file-key \\e",
             "refused 2", "refused 14 1 done \\e", "ok 0 - \\e", "refused 14 0 - \\e",
             "ok age1interop1qyqszqg83syvs", "ok \\e", "phase two", "awaits -",
-            "recipient 0 age1interop1qyqszqg83syvs valid", "identity 0 x\\\\y invalid",
+            "recipient 0 age1interop1qyqszqg83syvs valid", "identity 0 x\\\\y invalid-16",
             "file-key 0 0123456789abcdef", "end",
         ];
         assert_eq!(answers, expected);
@@ -394,8 +394,8 @@ mod tests {
         ]);
         let expected = [
             "ok", "ok 1 add-recipient \\e", "ok 1 add-recipient \\e", "ok", "ok abc", "ok \\e", "ok",
-            "ok d\\x00", "refused 8 0 - \\e", "phase closed", "awaits -", "recipient 0 abc invalid",
-            "recipient 1 d\\x00 invalid", "end",
+            "ok d\\x00", "refused 8 0 - \\e", "phase closed", "awaits -", "recipient 0 abc invalid-16",
+            "recipient 1 d\\x00 invalid-16", "end",
         ];
         assert_eq!(answers, expected);
     }
@@ -446,12 +446,13 @@ mod tests {
         let expected = [
             "ok", "ok ->\\sadd-identity\\sa\\n\\n", "ok ->\\srecipient-stanza\\s7\\stag\\n\\n",
             "refused 14 0 - \\e", "ok ->\\sdone\\n\\n", "ok 2 confirm ->\\sunsupported\\n\\n",
-            "ok ->\\sconfirm\\seWVz\\n\\n", "phase two", "awaits confirm", "identity 0 a invalid",
+            "ok ->\\sconfirm\\seWVz\\n\\n", "phase two", "awaits confirm", "identity 0 a invalid-16",
             "header 0 7 tag\\n unknown", "end", "refused 14 0 - \\e", "refused 12 0 - \\e",
             "refused 15 0 - \\e", "ok 0 - ->\\sok\\sno\\n\\n", "ok \\e", "ok 1 error ->\\sok\\n\\n",
             "refused 15 0 - \\e", "ok 1 file-key ->\\sok\\n\\n", "ok 1 other ->\\sunsupported\\n\\n",
-            "ok 1 done \\e", "phase ended", "awaits -", "identity 0 a invalid", "header 0 7 tag\\n unknown",
-            "error 0 identity\\s0 a", "key 7 0123456789abcdef", "end", "refused 13 0 - \\e", "ok",
+            "ok 1 done \\e", "phase ended", "awaits -", "identity 0 a invalid-16",
+            "header 0 7 tag\\n unknown", "error 0 identity\\s0 a", "key 7 0123456789abcdef", "end",
+            "refused 13 0 - \\e", "ok",
         ];
         assert_eq!(answers, expected);
     }

@@ -2,6 +2,7 @@
 
 use super::Answer;
 use crate::profile::Finding;
+use crate::refusal::Refusal;
 use crate::session::{phase_one, phase_two};
 use crate::session::{Buffers, Cause, Detail, Kind, Phase, Response, Session, Tables, What};
 
@@ -100,12 +101,20 @@ fn show_in_order(mut answer: Answer, tables: &Tables, buffers: &Buffers) -> Answ
 /// What stands behind an entry's number.
 fn show_entry(answer: Answer, detail: Detail, payload: &[u8]) -> Answer {
     match detail {
-        Detail::Text { valid } => answer.bytes(payload).word(if valid { "valid" } else { "invalid" }),
+        Detail::Text { fault } => answer.bytes(payload).word(&mark_word(fault)),
         Detail::Header { file, finding } => {
             answer.number(file.into()).bytes(payload).word(finding_word(finding))
         }
         Detail::Error { cause } => answer.word(&cause_word(cause)).bytes(payload),
         Detail::FileKey | Detail::Stanza { .. } | Detail::Key { .. } => answer.bytes(payload),
+    }
+}
+
+/// Whether a recipient or an identity is valid, and if not, why.
+fn mark_word(fault: Option<Refusal>) -> String {
+    match fault {
+        None => "valid".to_string(),
+        Some(refusal) => format!("invalid-{}", refusal.number()),
     }
 }
 

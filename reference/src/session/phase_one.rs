@@ -74,7 +74,7 @@ fn addition(
     }
 }
 
-/// One argument and an empty body. Bad Bech32, or another plugin's, is kept as not valid.
+/// One argument and an empty body. Bad Bech32, or another plugin's, is kept with its fault.
 fn text(
     session: &Session,
     kind: bech32::Kind,
@@ -83,8 +83,8 @@ fn text(
 ) -> Result<Addition, Refusal> {
     match arguments.map(split_word) {
         Some((text, None)) if body.is_empty() => {
-            let valid = bech32::is_of_plugin(kind, text, &session.plugin);
-            Ok(Addition { kind: kind.into(), payload: text.to_vec(), detail: Detail::Text { valid } })
+            let fault = bech32::fault(kind, text, &session.plugin);
+            Ok(Addition { kind: kind.into(), payload: text.to_vec(), detail: Detail::Text { fault } })
         }
         _ => Err(Refusal::WrongForm),
     }

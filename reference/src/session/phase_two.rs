@@ -280,7 +280,7 @@ fn has_invalid(tables: &Tables) -> bool {
 }
 
 fn is_invalid(detail: Detail) -> bool {
-    detail == Detail::Text { valid: false }
+    matches!(detail, Detail::Text { fault: Some(_) })
 }
 
 /// Whether any header stanza of the file is nonconforming.

@@ -2,6 +2,7 @@
 
 use crate::bech32;
 use crate::profile::Finding;
+use crate::refusal::Refusal;
 
 /// How many kinds of entries there are.
 pub const KINDS: usize = 7;
@@ -79,9 +80,9 @@ pub struct Entry {
 /// What is kept beside the payload; it was made when the command was accepted.
 #[derive(Clone, Copy, Debug, PartialEq, Eq)]
 pub enum Detail {
-    /// Of a recipient or an identity: whether it is one of the session's plugin. The paper's "unsound" is
-    /// not valid.
-    Text { valid: bool },
+    /// Of a recipient or an identity: why it is not one of the session's plugin; the paper's "unsound" is an
+    /// entry that has a fault, "sound" (here: valid) one that has none.
+    Text { fault: Option<Refusal> },
     /// Of a file key.
     FileKey,
     /// Of a header stanza: its file's index, and what the stanza check found.

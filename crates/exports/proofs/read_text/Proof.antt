@@ -1,4 +1,3 @@
--- By the answer: bytes come with a name, which is given out; a refusal gives its number and leaves name and lengths as they were.
 use mathlib.Core.Path.{_≡_, sym, ap, _∙_}
 use lib.ListN.{length}
 use denote.Ref.{now}
@@ -11,7 +10,12 @@ use Rattle.exports.proofs.Laws.Results.{name-made, name-kept}
 use borrow.Author.Needs.{needs}
 use Rattle.exports.proofs.read_text.Statement.{statement}
 use Rattle.exports.proofs.read_text.Tie as tie
+use Rattle.exports.proofs.read_text.Reads as reads
+use Rattle.exports.proofs.read_text.Lts as lts
+use Rattle.bech32.proofs.read.Reads as read-reads
+use Rattle.refusal.proofs.number.Reads as number-reads
 
+-- By the answer: bytes come with a name, which is given out; a refusal gives its number and leaves name and lengths as they were.
 read-requires : tie.Need-read-requires
 read-requires c κs = search needs
 
@@ -33,7 +37,7 @@ returns c =
     let p = parse (formOf (c .before .before .before .before .before .before .before .before .before .before .before .args .kind)) (now (c .before .before .before .before .before .before .before .before .before .before .before .args .text)) in
     let b = now (c .before .before .before .before .before .before .before .before .before .before .before .args .out) in
     let told : bytes (c .before .before .before .answer .given .0 .0) ≡ readAnswer p b = sym (ap said (c .before .before .before .answer .given .1)) ∙ read .0 in
-    (ap numberIn told, (read .1 .0 ∙ name-made padded _ p b _ told, (read .1 .1 .0 ∙ name-made length _ p b _ told, (read .1 .1 .1, ap (lengthOr _) told))))
+    (ap numberIn told, (read .1 .1 .0 ∙ name-made padded _ p b _ told, (read .1 .1 .1 .0 ∙ name-made length _ p b _ told, (read .1 .1 .1 .1, (ap (lengthOr _) told, read .1 .0)))))
 
 same-length-2 : tie.Need-same-length-2
 same-length-2 c = search needs
@@ -44,7 +48,7 @@ returns-2 c =
     let p = parse (formOf (c .before .before .before .before .before .before .before .before .before .before .args .kind)) (now (c .before .before .before .before .before .before .before .before .before .before .args .text)) in
     let b = now (c .before .before .before .before .before .before .before .before .before .before .args .out) in
     let told : refused (numberOf (c .before .before .answer2 .given .0 .0)) ≡ readAnswer p b = sym (ap said (c .before .before .answer2 .given .1)) ∙ read .0 in
-    (c .number .ensures ∙ ap numberIn told, (name-kept padded _ p b _ told, (name-kept length _ p b _ told, (read .1 .1 .1, ap (lengthOr _) told))))
+    (c .number .ensures ∙ ap numberIn told, (name-kept padded _ p b _ told, (name-kept length _ p b _ told, (read .1 .1 .1 .1, (ap (lengthOr _) told, read .1 .0)))))
 
 pub read-text-spec : {M : Type 1} → statement M
 read-text-spec =

@@ -30,8 +30,8 @@ count-requires-3 c κs = search needs
 enum-told-5 : tie.Need-enum-told-5
 enum-told-5 c = search needs
 
-number-requires : tie.Need-number-requires
-number-requires c κs = search needs
+verdict-number-requires : tie.Need-verdict-number-requires
+verdict-number-requires c κs = search needs
 
 count-requires-4 : tie.Need-count-requires-4
 count-requires-4 c κs = search needs
@@ -49,7 +49,7 @@ returns-4 : tie.Need-returns-4
 returns-4 c = λ xs hs input. rw (c .before .enum-told4 .given .1) (ap stopped (c .count3 .ensures xs hs))
 
 returns-5 : tie.Need-returns-5
-returns-5 c = λ xs hs input. rw (c .before .before .enum-told5 .given .1) (ap stopped (c .count4 .ensures xs hs ∙ ap (counted (tablesIn (c .before .before .before .before .args .session .tables) xs hs)) (c .before .number .ensures)))
+returns-5 c = λ xs hs input. rw (c .before .before .enum-told5 .given .1) (ap stopped (c .count4 .ensures xs hs ∙ ap (counted (tablesIn (c .before .before .before .before .args .session .tables) xs hs)) (c .before .verdict-number .ensures)))
 
 pub behind-chunk-spec : {M : Type 1} → statement M
 behind-chunk-spec =
@@ -63,7 +63,7 @@ behind-chunk-spec =
     enum-told-4
     count-requires-3
     enum-told-5
-    number-requires
+    verdict-number-requires
     count-requires-4
     returns
     returns-2

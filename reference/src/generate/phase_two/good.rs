@@ -76,7 +76,7 @@ impl Facts {
     fn of(start: &Start) -> Self {
         let tables = phase_one_tables(start);
         let valid =
-            |kind| tables.details(kind).map(|detail| detail == Detail::Text { valid: true }).collect();
+            |kind| tables.details(kind).map(|detail| detail == Detail::Text { fault: None }).collect();
         let header = |detail| match detail {
             Detail::Header { file, finding } => Some((file, finding)),
             _ => None,

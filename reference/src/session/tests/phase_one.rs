@@ -166,7 +166,7 @@ fn payloads_and_marks() {
     let stanza = text("recipient-stanza 5 tag a b", b"body");
     assert!(receive(&mut plugin, &mut buffers, &stanza).is_ok());
     let tables = plugin.session().tables();
-    let valid = |number: usize| tables.of(Kind::Identity)[number].detail == Detail::Text { valid: true };
+    let valid = |number: usize| tables.of(Kind::Identity)[number].detail == Detail::Text { fault: None };
     assert_eq!([valid(0), valid(1), valid(2)], [true, false, false]);
     assert_eq!(plugin.session().entry(bech32::Kind::Identity, 1, &buffers), other.as_bytes());
     assert_eq!(plugin.session().entry(bech32::Kind::Identity, 3, &buffers), b"");

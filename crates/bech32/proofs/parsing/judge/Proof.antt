@@ -33,15 +33,15 @@ judge-tail-requires c κs =
     let e = is-head k t (λ z. c .before .before .if1 .left (c .before .before .before .before .name-at .ensures .1 ∙ z)) in
     (c .before .values .ensures, (c .before .before .before .before .before .find-separator .ensures, omega (arith, c .before .before .before .before .before .find-separator .ensures, head-long k t e)))
 
-number-of-requires : tie.Need-number-of-requires
-number-of-requires c κs = search needs
+verdict-number-requires : tie.Need-verdict-number-requires
+verdict-number-requires c κs = search needs
 
 returns-2 : tie.Need-returns-2
 returns-2 c =
     let t = now (c .before .before .before .before .before .before .before .before .before .args .text) in
     let k = formOf (c .before .before .before .before .before .before .before .before .before .args .kind) in
     let e = is-head k t (λ z. c .before .before .before .before .if1 .left (c .before .before .before .before .before .before .name-at .ensures .1 ∙ z)) in
-    c .number-of .ensures ∙ c .before .judge-tail .ensures ∙ sym (number-is k t e)
+    c .verdict-number .ensures ∙ c .before .judge-tail .ensures ∙ sym (number-is k t e)
 
 pub judge-spec : {M : Type 1} → statement M
 judge-spec =
@@ -53,5 +53,5 @@ judge-spec =
     returns
     values-requires
     judge-tail-requires
-    number-of-requires
+    verdict-number-requires
     returns-2)

@@ -70,8 +70,8 @@ judge-tail-requires c κs =
     let e = is-head k t (λ z. c .before .before .before .before .before .if1 .left (c .before .before .before .before .before .before .before .name-at .ensures .1 ∙ z)) in
     (c .before .values .ensures, (c .before .before .before .before .before .before .before .before .find-separator .ensures, omega (arith, c .before .before .before .before .before .before .before .before .find-separator .ensures, head-long k t e)))
 
-number-of-requires : tie.Need-number-of-requires
-number-of-requires c κs = search needs
+verdict-number-requires : tie.Need-verdict-number-requires
+verdict-number-requires c κs = search needs
 
 returns-3 : tie.Need-returns-3
 returns-3 c =
@@ -82,7 +82,7 @@ returns-3 c =
     let r = c .before .before .before .before .before .before .before .before .before .name-at .result in
     let n : take (r .length) (r .bytes) ≡ nameAt k t = ap₂ take (c .before .before .before .before .before .before .before .before .before .name-at .ensures .1) (c .before .before .before .before .before .before .before .before .before .name-at .ensures .0) ∙ take-append-seam (nameAt k t) (replicate (32 - length (nameAt k t)) 0) in
     let m : same (map lower g) (nameAt k t) ≡ c .before .before .before .before .before .is-lowered .result = ap (same (map lower g)) (sym n) ∙ sym (c .before .before .before .before .before .is-lowered .ensures) in
-    c .number-of .ensures ∙ c .before .judge-tail .ensures ∙ sym (mark-is k t e g ∙ ap (λ b. pick b (tailNumber (map lower t)) 16) (m ∙ not-false (c .before .before .before .before .before .is-lowered .result) (c .before .before .before .before .if2 .left)))
+    c .verdict-number .ensures ∙ c .before .judge-tail .ensures ∙ sym (mark-is k t e g ∙ ap (λ b. pick b (tailNumber (map lower t)) 16) (m ∙ not-false (c .before .before .before .before .before .is-lowered .result) (c .before .before .before .before .if2 .left)))
 
 pub mark-spec : {M : Type 1} → statement M
 mark-spec =
@@ -99,5 +99,5 @@ mark-spec =
     returns-2
     values-requires
     judge-tail-requires
-    number-of-requires
+    verdict-number-requires
     returns-3)

@@ -15,8 +15,8 @@ enum-told c = search needs
 finish-requires : tie.Need-finish-requires
 finish-requires c κs = search needs
 
-number-requires : tie.Need-number-requires
-number-requires c κs = search needs
+verdict-number-requires : tie.Need-verdict-number-requires
+verdict-number-requires c κs = search needs
 
 count-requires : tie.Need-count-requires
 count-requires c κs = search needs
@@ -25,7 +25,7 @@ returns : tie.Need-returns
 returns c = λ xs hs input. rw (c .before .progress .given .1)
 
 returns-2 : tie.Need-returns-2
-returns-2 c = λ xs hs input. rw (c .before .before .before .enum-told .given .1) (c .count .ensures xs hs ∙ ap (counted (tablesIn (c .before .before .before .before .before .before .args .self .session .tables) xs hs)) (c .before .number .ensures ∙ c .before .before .finish .ensures))
+returns-2 c = λ xs hs input. rw (c .before .before .before .enum-told .given .1) (c .count .ensures xs hs ∙ ap (counted (tablesIn (c .before .before .before .before .before .before .args .self .session .tables) xs hs)) (c .before .verdict-number .ensures ∙ c .before .before .finish .ensures))
 
 pub numbers-spec : {M : Type 1} → statement M
 numbers-spec =
@@ -34,7 +34,7 @@ numbers-spec =
     enum-known-progress
     enum-told
     finish-requires
-    number-requires
+    verdict-number-requires
     count-requires
     returns
     returns-2)

@@ -2,8 +2,8 @@
 use mathlib.Core.Path.{sym, ap, _∙_}
 use Rattle.refusal.specs.Verdict.{verdictSaid}
 use borrow.Author.Needs.{needs}
-use Rattle.refusal.proofs.number_of.Statement.{statement}
-use Rattle.refusal.proofs.number_of.Tie as tie
+use Rattle.refusal.proofs.verdict_number.Statement.{statement}
+use Rattle.refusal.proofs.verdict_number.Tie as tie
 
 enum-told : tie.Need-enum-told
 enum-told c = search needs
@@ -20,5 +20,5 @@ returns c = search needs
 returns-2 : tie.Need-returns-2
 returns-2 c = c .number .ensures ∙ sym (ap verdictSaid (c .before .before .verdict .given .1))
 
-pub number-of-spec : {M : Type 1} → statement M
-number-of-spec = tie.close (tie.spec enum-told enum-known-verdict number-requires returns returns-2)
+pub verdict-number-spec : {M : Type 1} → statement M
+verdict-number-spec = tie.close (tie.spec enum-told enum-known-verdict number-requires returns returns-2)
