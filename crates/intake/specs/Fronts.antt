@@ -50,7 +50,7 @@ inputBehind (whole k) n x o = o
 inputBehind (unfinished q) n x o = take n o ++ filled x (drop n o)
 inputBehind (refused m) n x o = o
 
--- what is said of a byte b within an argument or a body line: the stanza goes on with it
+-- what is said of a byte b within the arguments or a body line: the stanza goes on with it
 abbrev pub WithinSays : Place → ℕ → CodeOneByte → Type 0
 WithinSays p b (the-byte.GoesOn q) = (n : ℕ) → n < 8191 → frontOf p n (b ∷ []) ≡ unfinished (placeSaid q)
 WithinSays p b the-byte.Else = Unit {0}

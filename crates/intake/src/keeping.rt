@@ -69,14 +69,23 @@ pub enum OneByte {
     Else,
 }
 
-// A byte within an argument or a body line, where most stand.
+// A byte within the arguments or a body line, where most stand.
 fn read_within(reading: Place, b: u8) -> OneByte
     ensures { λ r. ⌜ WithinSays reading b r ⌝ }
 {
     match reading {
+        Place::Gap => {
+            if stanza::is_graphic(b) {
+                return OneByte::GoesOn(Place::Word);
+            }
+            OneByte::Else
+        }
         Place::Word => {
             if stanza::is_graphic(b) {
                 return OneByte::GoesOn(Place::Word);
+            }
+            if b == b' ' {
+                return OneByte::GoesOn(Place::Gap);
             }
             OneByte::Else
         }
@@ -89,13 +98,12 @@ fn read_within(reading: Place, b: u8) -> OneByte
         Place::Start => OneByte::Else,
         Place::Hyphen => OneByte::Else,
         Place::Arrow => OneByte::Else,
-        Place::Gap => OneByte::Else,
         Place::Ended => OneByte::Else,
         Place::Dead => OneByte::Else,
     }
 }
 
-// A chunk of one byte, read on without a loop: within an argument or a body line the byte is kept behind the stanza's front. Else nothing is done.
+// A chunk of one byte, read on without a loop: within the arguments or a body line the byte is kept behind the stanza's front. Else nothing is done.
 pub fn read_one(turn: Turn, reading: Place, kept: usize, chunk: &[u8], input: &mut [u8]) -> OneByte
     ensures { λ r. ⌜ OneByteSays (turnSaid turn) reading (min kept 8191) (now (chunk .entry)) (now (input .entry)) (now (input .exit)) r ⌝ }
 {

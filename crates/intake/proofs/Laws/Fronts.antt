@@ -12,7 +12,7 @@ use Rattle.refusal.specs.Pick.{pick}
 use Rattle.refusal.proofs.Laws.Booleans.{cases}
 use Rattle.base64.specs.Alphabet.{isCharacter, valueOf}
 use Rattle.stanza.specs.Arguments.{isGraphic}
-use Rattle.stanza.specs.Automaton.{State, start, word, line, next}
+use Rattle.stanza.specs.Automaton.{State, start, gap, word, line, next}
 use Rattle.stanza.specs.Resuming.{Continued, whole, continued, placeSaid, led, behind}
 use Rattle.stanza.specs.Resuming as resuming
 use Rattle.stanza.specs.declared.places.Place.{Place}
@@ -142,6 +142,16 @@ front-within p n x (suc k) h l =
 pub within-word : (b : ℕ) → isGraphic b ≡ true → (n : ℕ) → n < 8191 → frontOf place.Word n (b ∷ []) ≡ resuming.unfinished word
 unfolding next led behind
 within-word b g n h = one-byte word b n h ∙ rw g
+
+-- the first byte of an argument behind a space
+pub within-gap : (b : ℕ) → isGraphic b ≡ true → (n : ℕ) → n < 8191 → frontOf place.Gap n (b ∷ []) ≡ resuming.unfinished word
+unfolding next led behind
+within-gap b g n h = one-byte gap b n h ∙ rw g
+
+-- a space behind an argument
+pub within-space : (n : ℕ) → n < 8191 → frontOf place.Word n (32 ∷ []) ≡ resuming.unfinished gap
+unfolding next led behind isGraphic
+within-space n h = one-byte word 32 n h
 
 -- a character of a body line
 pub within-line : (k last b : ℕ) → k < 64 → isCharacter b ≡ true → (n : ℕ) → n < 8191 →
