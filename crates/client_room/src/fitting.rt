@@ -242,6 +242,11 @@ pub fn has_room(
         r ≡ hasRoom (taken client (intakeOf client session (now (slots .entry)) (now («header_slots» .entry)) (now (input .entry))) b (now (chunk .entry)))
         room) ⌝ }
 {
+    let kept = intake::kept_of(session.kept);
+    let n = chunk.len();
+    if n <= MOST_KEPT_BACK && is_ample(kept + n, room) {
+        return true;
+    }
     if k == 0 {
         return text_has_room(
             session,
@@ -253,11 +258,6 @@ pub fn has_room(
             stanzas,
             returned,
         );
-    }
-    let kept = intake::kept_of(session.kept);
-    let n = chunk.len();
-    if n <= MOST_KEPT_BACK && is_ample(kept + n, room) {
-        return true;
     }
     joined_fits(
         session,

@@ -1,8 +1,8 @@
 -- A chunk's front: what it does to a stanza that is unfinished, and the answer where it does not end it.
-use Prim.Native.Nat.{ℕ}
+use Prim.Native.Nat.{ℕ, _<_}
 use mathlib.Core.Path.{_≡_}
 use mathlib.Core.Bool.{Bool, true, false}
-use mathlib.Core.List.{List, _++_}
+use mathlib.Core.List.{List, [], _∷_, _++_}
 use lib.Dec.{eqb}
 use lib.ListN.{take, drop}
 use Rattle.refusal.specs.Output.{filled}
@@ -49,6 +49,11 @@ abbrev pub inputBehind : Continued → ℕ → List ℕ → List ℕ → List �
 inputBehind (whole k) n x o = o
 inputBehind (unfinished q) n x o = take n o ++ filled x (drop n o)
 inputBehind (refused m) n x o = o
+
+-- what is said of a byte b within the arguments or a body line: the stanza goes on with it
+abbrev pub WithinSays : Place → ℕ → CodeOneByte → Type 0
+WithinSays p b (the-byte.GoesOn q) = (n : ℕ) → n < 8191 → frontOf p n (b ∷ []) ≡ unfinished (placeSaid q)
+WithinSays p b the-byte.Else = Unit {0}
 
 -- what is said of a chunk of one byte: the stanza goes on with it and it is kept; or nothing is done
 abbrev pub OneByteSays : Turn → Place → ℕ → List ℕ → List ℕ → List ℕ → CodeOneByte → Type 0

@@ -12,7 +12,7 @@ ghost use Rattle.chunks.specs.Taking.{End, reads, drops, keeps-back, turnAt, ta
 ghost use Rattle.intake.specs.Intake.{lastSaid};
 ghost use Rattle.intake.specs.Turns.{turnSaid};
 ghost use Rattle.intake.specs.Settling.{MaySettle, Says};
-ghost use Rattle.intake.specs.Fronts.{isBetween, isReading, frontOf, frontIn, inputBehind, OneByteSays, Answered};
+ghost use Rattle.intake.specs.Fronts.{isBetween, isReading, frontOf, frontIn, inputBehind, WithinSays, OneByteSays, Answered};
 use crate::answers::Last;
 use crate::answers::Received;
 use crate::turns::Turn;
@@ -69,7 +69,41 @@ pub enum OneByte {
     Else,
 }
 
-// A chunk of one byte, read on without a loop: where a stanza is unfinished and goes on, the byte is kept behind its front. Else nothing is done.
+// A byte within the arguments or a body line, where most stand.
+fn read_within(reading: Place, b: u8) -> OneByte
+    ensures { λ r. ⌜ WithinSays reading b r ⌝ }
+{
+    match reading {
+        Place::Gap => {
+            if stanza::is_graphic(b) {
+                return OneByte::GoesOn(Place::Word);
+            }
+            OneByte::Else
+        }
+        Place::Word => {
+            if stanza::is_graphic(b) {
+                return OneByte::GoesOn(Place::Word);
+            }
+            if b == b' ' {
+                return OneByte::GoesOn(Place::Gap);
+            }
+            OneByte::Else
+        }
+        Place::Line(k, _) => {
+            if k < base64::LINE_CHARACTERS && base64::is_character(b) {
+                return OneByte::GoesOn(Place::Line(k + 1, b));
+            }
+            OneByte::Else
+        }
+        Place::Start => OneByte::Else,
+        Place::Hyphen => OneByte::Else,
+        Place::Arrow => OneByte::Else,
+        Place::Ended => OneByte::Else,
+        Place::Dead => OneByte::Else,
+    }
+}
+
+// A chunk of one byte, read on without a loop: within the arguments or a body line the byte is kept behind the stanza's front. Else nothing is done.
 pub fn read_one(turn: Turn, reading: Place, kept: usize, chunk: &[u8], input: &mut [u8]) -> OneByte
     ensures { λ r. ⌜ OneByteSays (turnSaid turn) reading (min kept 8191) (now (chunk .entry)) (now (input .entry)) (now (input .exit)) r ⌝ }
 {
@@ -85,12 +119,9 @@ pub fn read_one(turn: Turn, reading: Place, kept: usize, chunk: &[u8], input: &m
     if input.len() <= kept {
         return OneByte::Else;
     }
-    if is_between(reading, kept) {
-        return OneByte::Else;
-    }
     let b = chunk[0];
-    let continued = stanza::read_byte(reading, b);
-    let Continued::Unfinished(place) = continued else {
+    let within = read_within(reading, b);
+    let OneByte::GoesOn(place) = within else {
         return OneByte::Else;
     };
     input[kept] = b;
@@ -195,9 +226,14 @@ fn settle_read(so_far: Received, rest: &[u8], input: &mut [u8]) -> Received
     ensures rest { λ r. ⌜ (r .written ≡ «so_far» .written) × (r .session .name ≡ «so_far» .session .name) ⌝ }
 {
     let session = so_far.session;
+    if rest.len() == 0 {
+        return so_far.settled(Verdict::Accepted, session.keeping(Place::Start, 0, 0));
+    }
     let continued = read_more(Place::Start, 0, rest, input);
     match continued {
-        Continued::Whole(_) => so_far,
+        Continued::Whole(_) => {
+            so_far.settled(Verdict::Accepted, session.keeping(Place::Start, 0, 0))
+        }
         Continued::Unfinished(place) => {
             so_far.settled(Verdict::Accepted, session.keeping(place, rest.len(), 0))
         }

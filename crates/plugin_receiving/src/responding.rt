@@ -4,6 +4,7 @@ ghost use mathlib.Core.List.{List};
 ghost use Prim.Native.Nat.{ℕ, _≤_, min};
 ghost use lib.Dec.{eqb};
 ghost use lib.ListN.{length};
+ghost use Rattle.refusal.specs.Output.{said, answered, filled};
 ghost use Rattle.refusal.specs.Pick.{pick};
 ghost use Rattle.refusal.specs.Verdict.{verdictSaid};
 ghost use Rattle.stanza.specs.Resuming.{whole};
@@ -59,6 +60,18 @@ fn unfit(session: Session) -> Responded
     }
 }
 
+// The decoded body at the front of `out`: how many bytes, or 15 and nothing written. An empty one is not looked for.
+fn write_body(text: &[u8], s: Stanza, out: &mut [u8]) -> Written
+    requires { ⌜ readFirst (now text) ≡ stanza (s .line) (s .body) (s .taken) ⌝ }
+    ensures answer { λ r. ⌜ said r ≡ answered (bodyIn (now (text .entry)) s) (now (out .entry)) ⌝ }
+    ensures buffer { λ r. ⌜ now (out .exit) ≡ filled (bodyIn (now (text .entry)) s) (now (out .entry)) ⌝ }
+{
+    if s.body == 0 {
+        return Written::Bytes(0);
+    }
+    stanza::body_of(text, s, out)
+}
+
 // A response to the command that awaits it.
 fn receive_fitting(
     session: Session,
@@ -76,7 +89,7 @@ fn receive_fitting(
     if !responses::fits_whole(word, found, s.body) {
         return unfit(session);
     }
-    let written = stanza::body_of(text, s, out);
+    let written = write_body(text, s, out);
     match written {
         Written::Bytes(n) => Responded {
             answer: Answering::Response(found, s.taken, n),

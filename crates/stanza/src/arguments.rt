@@ -9,7 +9,7 @@ ghost use Rattle.stanza.specs.Arguments.{isWordByte, isLine, countOf, ar
 use crate::parts::least;
 
 // A byte from 33, "!", to 126, "~".
-pub(crate) fn is_graphic(b: u8) -> bool
+pub fn is_graphic(b: u8) -> bool
     ensures { λ r. ⌜ r ≡ isGraphic b ⌝ }
 {
     (b'!' <= b) & (b <= b'~')

@@ -8,6 +8,7 @@ mod writing;
 
 pub use arguments::argument;
 pub use arguments::count;
+pub use arguments::is_graphic;
 pub use arguments::is_same;
 pub use indices::Index;
 pub use indices::read_index;
@@ -16,7 +17,6 @@ pub use parts::body_of;
 pub use parts::lines_of;
 pub use places::Continued;
 pub use places::Place;
-pub use places::read_byte;
 pub use places::read_on;
 pub use reading::First;
 pub use reading::Stanza;

@@ -1,7 +1,5 @@
 // Reading a stanza that comes in pieces: where the reading stands between two of them, and reading on from there, so that no byte is read twice.
 ghost use mathlib.Core.Path.{_≡_};
-ghost use mathlib.Core.List.{[], _∷_};
-ghost use Prim.Native.Nat.{ℕ, _<_};
 ghost use Rattle.refusal.specs.Pick.{pick};
 ghost use Rattle.base64.specs.Alphabet.{valueOf};
 ghost use Rattle.stanza.specs.Automaton.{word, line, dead, next};
@@ -56,18 +54,6 @@ pub fn read_on(place: Place, kept: usize, bytes: &[u8]) -> Continued
         return Continued::Refused(Refusal::TooLong);
     }
     Continued::Unfinished(at)
-}
-
-// Reads one byte on, where it is not the stanza's byte 8,192: what `read_on` gives of that byte alone.
-pub fn read_byte(place: Place, b: u8) -> Continued
-    ensures { λ r. ⌜ ((n : ℕ) → n < 8191 → continuedSaid r ≡ continued (placeSaid place) n (b ∷ [])) ⌝ }
-{
-    let at = next_place(place, b);
-    match at {
-        Place::Dead => Continued::Refused(Refusal::NotStanza),
-        Place::Ended => Continued::Whole(1),
-        _ => Continued::Unfinished(at),
-    }
 }
 
 // One byte on.

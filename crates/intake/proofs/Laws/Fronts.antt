@@ -6,16 +6,18 @@ use mathlib.Core.List.{List, [], _∷_, _++_}
 use lib.ListN.{length, take, drop, set, getD, length-take}
 use lib.Seq.{length-take-le}
 use native.Mathlib.Omega.{arith}
-use borrow.Author.Tests.{eqb-true}
+use borrow.Author.Tests.{eqb-true, lt-ltb}
 use Rattle.refusal.specs.Output.{filled}
 use Rattle.refusal.specs.Pick.{pick}
 use Rattle.refusal.proofs.Laws.Booleans.{cases}
-use Rattle.stanza.specs.Automaton.{State, start}
-use Rattle.stanza.specs.Resuming.{Continued, whole, continued, placeSaid}
+use Rattle.base64.specs.Alphabet.{isCharacter, valueOf}
+use Rattle.stanza.specs.Arguments.{isGraphic}
+use Rattle.stanza.specs.Automaton.{State, start, gap, word, line, next}
+use Rattle.stanza.specs.Resuming.{Continued, whole, continued, placeSaid, led, behind}
 use Rattle.stanza.specs.Resuming as resuming
 use Rattle.stanza.specs.declared.places.Place.{Place}
 use Rattle.stanza.specs.declared.places.Place.the-variants as place
-use Rattle.stanza.proofs.Laws.Resuming.{unfinished-is, whole-within}
+use Rattle.stanza.proofs.Laws.Resuming.{unfinished-is, whole-within, one-byte}
 use Rattle.session.specs.Session.{Session, sessionOf, closed}
 use Rattle.session.specs.declared.sessions.Session.{Session as CodeSession}
 use Rattle.conversation.specs.Calls.{outcome}
@@ -136,18 +138,36 @@ front-within p n x (suc k) h l =
     let w = whole-within x (placeSaid p) n (suc k) (going-on p n x (whole (suc k)) h (not-some p n x (suc k) (λ z. omega arith))) in
     (w .1, w .2)
 
+-- a byte within an argument
+pub within-word : (b : ℕ) → isGraphic b ≡ true → (n : ℕ) → n < 8191 → frontOf place.Word n (b ∷ []) ≡ resuming.unfinished word
+unfolding next led behind
+within-word b g n h = one-byte word b n h ∙ rw g
+
+-- the first byte of an argument behind a space
+pub within-gap : (b : ℕ) → isGraphic b ≡ true → (n : ℕ) → n < 8191 → frontOf place.Gap n (b ∷ []) ≡ resuming.unfinished word
+unfolding next led behind
+within-gap b g n h = one-byte gap b n h ∙ rw g
+
+-- a space behind an argument
+pub within-space : (n : ℕ) → n < 8191 → frontOf place.Word n (32 ∷ []) ≡ resuming.unfinished gap
+unfolding next led behind isGraphic
+within-space n h = one-byte word 32 n h
+
+-- a character of a body line
+pub within-line : (k last b : ℕ) → k < 64 → isCharacter b ≡ true → (n : ℕ) → n < 8191 →
+    frontOf (place.Line k last) n (b ∷ []) ≡ resuming.unfinished (line (k + 1) (valueOf b))
+unfolding next led behind
+within-line k last b l g n h = one-byte (line k (valueOf last)) b n h ∙ rw (g, lt-ltb k 64 l)
+
 -- a byte with which the unfinished stanza goes on, kept behind its front
-pub byte-goes-on : (t : Turn) (p q : Place) (kept : ℕ) (x o : List ℕ) → isReading t ≡ true → length x ≡ 1 → kept < 8191 → kept < length o → isBetween p kept ≡ false →
-    ((n : ℕ) → n < 8191 → resuming.unfinished (placeSaid q) ≡ continued (placeSaid p) n (getD x 0 0 ∷ [])) →
+pub byte-goes-on : (t : Turn) (p q : Place) (kept : ℕ) (x o : List ℕ) → isReading t ≡ true → length x ≡ 1 → kept < 8191 → kept < length o →
+    ((n : ℕ) → n < 8191 → frontOf p n (getD x 0 0 ∷ []) ≡ resuming.unfinished (placeSaid q)) →
     (t ≡ reads) × (frontOf p (min kept 8191) x ≡ resuming.unfinished (placeSaid q)) ×
     (set o kept (getD x 0 0) ≡ inputBehind (resuming.unfinished (placeSaid q)) (min kept 8191) x o)
-byte-goes-on t p q kept x o read one l i between h =
+byte-goes-on t p q kept x o read one l i h =
     let m : min kept 8191 ≡ kept = omega arith in (
       is-reads t read,
-      ap (λ n. frontOf p n x) m
-          ∙ ap (λ f. pick f (whole 0) (continued (placeSaid p) kept x)) between
-          ∙ ap (continued (placeSaid p) kept) (one-of x one)
-          ∙ sym (h kept l),
+      ap (λ n. frontOf p n x) m ∙ ap (frontOf p kept) (one-of x one) ∙ h kept l,
       byte-behind o kept (getD x 0 0) i
           ∙ ap (λ y. take kept o ++ filled y (drop kept o)) (sym (one-of x one))
           ∙ ap (λ n. take n o ++ filled x (drop n o)) (sym m),

@@ -12,6 +12,7 @@ use Rattle.stanza.specs.Resuming as resuming
 use Rattle.session.specs.Session.{Session, closed}
 use Rattle.session.specs.declared.phases.Phase.{Phase}
 use Rattle.conversation.specs.Kinds.{Buffers}
+use Rattle.conversation.proofs.Laws.RowsTwo.{no-bytes}
 use Rattle.chunks.specs.Cutting.{unfinished}
 use Rattle.chunks.specs.Taking.{End, Turn, reads, drops, keeps-back, turnAt, Intake, Last, Taken, noMore, emptied, keeping, takenAll, takenText, behind}
 use Rattle.chunks.specs.Uncut.{isWaiting}
@@ -51,6 +52,11 @@ module _ (e : End) (s : Session) (b : Buffers) (rest : List ℕ) (turn : turnAt 
   pub rest-kept : (v : State) → continued start 0 rest ≡ resuming.unfinished v → takenText e s b [] rest ≡ noMore 0 (keeping s v rest []) b
   unfolding takenAll
   rest-kept v h = ap (takenCut e s b []) (front-unfinished start v [] rest h) ∙ rw turn
+
+  -- nothing is left
+  pub rest-over : length rest ≡ 0 → takenText e s b [] rest ≡ noMore 0 (emptied s []) b
+  unfolding continued
+  rest-over l = rest-kept start (ap (continued start 0) (no-bytes rest l)) ∙ ap (λ x. noMore 0 (keeping s start x []) b) (no-bytes rest l)
 
   -- bytes that no stanza begins with
   pub rest-closes : (m : ℕ) → continued start 0 rest ≡ resuming.refused m → takenText e s b [] rest ≡ noMore m (emptied (closed s) []) b

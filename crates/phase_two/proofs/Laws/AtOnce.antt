@@ -1,35 +1,33 @@
--- What is written at once, by the responses' own calls.
+-- What is written at once.
 use Prim.Native.Nat.{ℕ}
-use mathlib.Core.Path.{_≡_, refl, ap, _∙_}
-use mathlib.Core.List.{List, []}
+use mathlib.Core.Path.{_≡_, refl}
+use mathlib.Core.List.{List, [], _∷_}
 use lib.ListN.{length}
 use native.Mathlib.Omega.{arith}
 use borrow.Author.Tests.{le-ltb}
-use Rattle.refusal.specs.Output.{bytes, refused, answered, filled}
-use Rattle.refusal.specs.Pick.{pick}
-use Rattle.stanza.specs.Grammar.{stanzaText}
-use Rattle.stanza.specs.Writing.{sized, written, bufferAfter}
-use Rattle.responses.specs.Responses.{responseLine}
+use Rattle.refusal.specs.Output.{filled}
+use Rattle.base64.specs.Code.{encoded}
+use Rattle.base64.specs.Lines.{wrapped}
 use Rattle.responses.specs.declared.Response.{Response}
-use Rattle.responses.proofs.Laws.Responses.{bodiless}
+use Rattle.responses.specs.declared.Response.the-variants.{Ok, Yes, No, Fail, Unsupported}
+use Rattle.conversation.specs.ReceivingTwo.{textOf, writes}
 
-module _ (r : Response) where
-  sized-is : sized (responseLine r) [] ≡ bytes (length (stanzaText (responseLine r) []))
-  sized-is = ap (λ f. pick f (bytes (length (stanzaText (responseLine r) []))) (refused 17)) (bodiless r)
+-- the responses with no body, byte by byte
+abbrev pub bareText : Response → List ℕ
+bareText Ok = 45 ∷ 62 ∷ 32 ∷ 111 ∷ 107 ∷ 10 ∷ 10 ∷ []
+bareText Yes = 45 ∷ 62 ∷ 32 ∷ 111 ∷ 107 ∷ 32 ∷ 121 ∷ 101 ∷ 115 ∷ 10 ∷ 10 ∷ []
+bareText No = 45 ∷ 62 ∷ 32 ∷ 111 ∷ 107 ∷ 32 ∷ 110 ∷ 111 ∷ 10 ∷ 10 ∷ []
+bareText Fail = 45 ∷ 62 ∷ 32 ∷ 102 ∷ 97 ∷ 105 ∷ 108 ∷ 10 ∷ 10 ∷ []
+bareText Unsupported = 45 ∷ 62 ∷ 32 ∷ 117 ∷ 110 ∷ 115 ∷ 117 ∷ 112 ∷ 112 ∷ 111 ∷ 114 ∷ 116 ∷ 101 ∷ 100 ∷ 10 ∷ 10 ∷ []
 
-  pub size-is : (n : ℕ) → bytes n ≡ sized (responseLine r) [] → n ≡ length (stanzaText (responseLine r) [])
-  size-is n e = let q = e ∙ sized-is in cc
-
-  pub never-refused : (n : ℕ) → refused n ≡ sized (responseLine r) [] → ⊥
-  never-refused n e = let q = e ∙ sized-is in let z : _≡_ {A = ℕ} 0 1 = cc in omega arith
-
-  module _ (out : List ℕ) where
-    pub written-is : written (responseLine r) [] out ≡ answered (stanzaText (responseLine r) []) out
-    written-is = ap (λ f. pick f (answered (stanzaText (responseLine r) []) out) (refused 17)) (bodiless r)
-
-    pub after-is : bufferAfter (responseLine r) [] out ≡ filled (stanzaText (responseLine r) []) out
-    after-is = ap (λ f. pick f (filled (stanzaText (responseLine r) []) out) out) (bodiless r)
+pub bare-text : (r : Response) → bareText r ≡ textOf (writes r)
+unfolding wrapped encoded
+bare-text Ok = refl
+bare-text Yes = refl
+bare-text No = refl
+bare-text Fail = refl
+bare-text Unsupported = refl
 
 -- nothing written
-pub silent-is : (out : List ℕ) → (bytes 0 ≡ answered [] out) × (out ≡ filled [] out)
-silent-is out = rw (le-ltb (length out) 0 (omega arith)) (refl, refl)
+pub silent-is : (out : List ℕ) → out ≡ filled [] out
+silent-is out = rw (le-ltb (length out) 0 (omega arith)) refl

@@ -17,7 +17,7 @@ same-length : tie.Need-same-length
 same-length c = search needs
 
 returns : tie.Need-returns
-returns c = rw (c .before .before .before .before .enum-told .given .1) (c .before .before .write-at-once .ensures .1)
+returns c = rw (c .before .before .before .before .enum-told .given .1) (c .before .before .write-at-once .ensures)
 
 returns-2 : tie.Need-returns-2
 returns-2 c = rw (c .enum-told2 .given .1, number-not-zero (c .enum-told2 .given .0 .0))

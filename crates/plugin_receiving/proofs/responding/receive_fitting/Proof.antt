@@ -33,8 +33,8 @@ returns c = (
   c .unfit .ensures .1,
 )
 
-body-of-requires : tie.Need-body-of-requires
-body-of-requires c κs = search needs
+write-body-requires : tie.Need-write-body-requires
+write-body-requires c κs = c .before .before .before .before .before .pre
 
 enum-known-written : tie.Need-enum-known-written
 enum-known-written c = search needs
@@ -54,7 +54,7 @@ returns-2 c = (
       let a = c .before .before .before .before .before .before .before .before .before .before .before .before .args in
       let y = bodyIn (now (a .text)) (a .s) in
       let e : fitsWhole (a .word) (a .found) y ≡ true = ap (λ n. fitting (a .word) (a .found) && (eqb n 0 || mayHaveBody (a .word) (a .found))) (written-read (now (a .text)) (a .s .line) (a .s .body) (a .s .taken) (c .before .before .before .before .before .before .before .before .before .before .before .before .pre) .body) ∙ sym (c .before .before .before .before .before .before .before .before .before .fits-whole .ensures) ∙ not-false (c .before .before .before .before .before .before .before .before .before .fits-whole .result) (c .before .before .before .before .before .before .before .before .if1 .left) in
-      rw (c .moved .ensures) (responded-whole (a .session .machine) (nameOf (a .session .name)) (a .session .screen) (a .session .phase) (tablesIn (a .session .tables) xs hs) (a .word) (a .found) y (a .s .taken) (now (a .out)) (c .before .before .written .given .0 .0) _ e (sym (ap said (c .before .before .written .given .1)) ∙ c .before .before .before .before .before .before .body-of .ensures .0) (c .before .before .before .before .before .before .body-of .ensures .1)),
+      rw (c .moved .ensures) (responded-whole (a .session .machine) (nameOf (a .session .name)) (a .session .screen) (a .session .phase) (tablesIn (a .session .tables) xs hs) (a .word) (a .found) y (a .s .taken) (now (a .out)) (c .before .before .written .given .0 .0) _ e (sym (ap said (c .before .before .written .given .1)) ∙ c .before .before .before .before .before .before .write-body .ensures .0) (c .before .before .before .before .before .before .write-body .ensures .1)),
   ap carriedBy (c .moved .ensures),
 )
 
@@ -67,7 +67,7 @@ returns-3 c = (
       let a = c .before .before .before .before .before .before .before .before .before .before .before .args in
       let y = bodyIn (now (a .text)) (a .s) in
       let e : fitsWhole (a .word) (a .found) y ≡ true = ap (λ n. fitting (a .word) (a .found) && (eqb n 0 || mayHaveBody (a .word) (a .found))) (written-read (now (a .text)) (a .s .line) (a .s .body) (a .s .taken) (c .before .before .before .before .before .before .before .before .before .before .before .pre) .body) ∙ sym (c .before .before .before .before .before .before .before .before .fits-whole .ensures) ∙ not-false (c .before .before .before .before .before .before .before .before .fits-whole .result) (c .before .before .before .before .before .before .before .if1 .left) in
-      responded-short (a .session .machine) (nameOf (a .session .name)) (a .session .screen) (a .session .phase) (tablesIn (a .session .tables) xs hs) (a .word) (a .found) y (a .s .taken) (now (a .out)) (numberOf (c .before .written2 .given .0 .0)) _ e (sym (ap said (c .before .written2 .given .1)) ∙ c .before .before .before .before .before .body-of .ensures .0) (c .before .before .before .before .before .body-of .ensures .1),
+      responded-short (a .session .machine) (nameOf (a .session .name)) (a .session .screen) (a .session .phase) (tablesIn (a .session .tables) xs hs) (a .word) (a .found) y (a .s .taken) (now (a .out)) (numberOf (c .before .written2 .given .0 .0)) _ e (sym (ap said (c .before .written2 .given .1)) ∙ c .before .before .before .before .before .write-body .ensures .0) (c .before .before .before .before .before .write-body .ensures .1),
   refl,
 )
 
@@ -78,7 +78,7 @@ receive-fitting-spec =
     fits-whole-requires
     unfit-requires
     returns
-    body-of-requires
+    write-body-requires
     enum-known-written
     moved-requires
     enum-known-written-2
