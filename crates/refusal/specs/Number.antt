@@ -1,7 +1,7 @@
--- Document 01, "Numbers given back": the number of each fault.
+-- Document 01, "Numbers given back": the number of each fault; document 02's follow.
 use Prim.Native.Nat.{ℕ}
 use Rattle.refusal.specs.declared.Refusal.{Refusal}
-use Rattle.refusal.specs.declared.Refusal.the-variants.{NotStanza, Unfinished, TooLong, BadCommand, BadIndex, NoSuchIndex, FallingIndex, NoSpace, SecondKey, TooManyStanzas, WorkAndError, UnfitResponse, SessionOver, OutOfTurn, ShortOutput, NotBech32, Unwritable, NoSuchMachine, HeldBack}
+use Rattle.refusal.specs.declared.Refusal.the-variants.{NotStanza, Unfinished, TooLong, BadCommand, BadIndex, NoSuchIndex, FallingIndex, NoSpace, SecondKey, TooManyStanzas, WorkAndError, UnfitResponse, SessionOver, OutOfTurn, ShortOutput, NotBech32, Unwritable, NoSuchMachine, HeldBack, Repeated}
 
 -- the first column of the paper's table
 abbrev pub numberOf : Refusal → ℕ
@@ -24,3 +24,4 @@ numberOf NotBech32 = 16
 numberOf Unwritable = 17
 numberOf NoSuchMachine = 18
 numberOf HeldBack = 19
+numberOf Repeated = 20

@@ -1,5 +1,5 @@
-// The nineteen faults of document 01, "Numbers given back", each under a name of its own, and the number that the paper gives it.
-// No crate of the library knows a refusal by anything but this enum; 0, no refusal, is no variant of it.
+// The nineteen faults of document 01, "Numbers given back", and document 02's, each under a name of its own, and the number that the paper gives it. No crate
+// of the library knows a refusal by anything but this enum; 0, no refusal, is no variant of it.
 ghost use mathlib.Core.Path.{_≡_};
 ghost use Rattle.refusal.specs.Number.{numberOf};
 
@@ -42,6 +42,8 @@ pub enum Refusal {
     NoSuchMachine,
     // 19: the plugin end holds the command back
     HeldBack,
+    // 20: a recipient whose text is an earlier one's
+    Repeated,
 }
 
 // What a call that writes to a lent buffer answers: how many bytes it wrote at its front, or the refusal, nothing written.
@@ -80,5 +82,6 @@ pub fn number(r: Refusal) -> u8
         Refusal::Unwritable => 17,
         Refusal::NoSuchMachine => 18,
         Refusal::HeldBack => 19,
+        Refusal::Repeated => 20,
     }
 }

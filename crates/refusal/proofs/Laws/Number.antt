@@ -26,3 +26,4 @@ number-not-zero the.NotBech32 = refl
 number-not-zero the.Unwritable = refl
 number-not-zero the.NoSuchMachine = refl
 number-not-zero the.HeldBack = refl
+number-not-zero the.Repeated = refl
