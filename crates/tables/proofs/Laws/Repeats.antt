@@ -1,25 +1,27 @@
 -- A text among those that entries show: one byte on, one entry on; and what it says of a table that an opening and calls can reach.
-use Prim.Native.Nat.{ℕ, _+_, _-_, _<_, _≤_}
-use mathlib.Core.Path.{_≡_, refl, sym, ap, ap₂, _∙_}
-use mathlib.Core.Bool.{Bool, true, false, _&&_, _||_}
-use mathlib.Core.Logic.{_⊎_, inl, inr}
+use Prim.Native.Nat.{ℕ, zero, suc, _+_, _<_, _≤_}
+use mathlib.Core.Path.{_≡_, refl, sym, ap, ap₂, _∙_, subst}
+use mathlib.Core.Bool.{true, false, _&&_, _||_, false≢true}
+use mathlib.Core.Logic.{_⊎_, inl, inr, _↔_}
 use mathlib.Core.List.{List, [], _∷_, map}
 use lib.Dec.{eqb, leb}
 use lib.ListN.{length, take, drop, getD, length-take, length-drop, length-map, drop-of-length-le, List·getD-map}
-use lib.Seq.{getD-take, getD-drop, take-all, take-length}
+use lib.Seq.{getD-take, getD-drop, take-all, take-length, length-take-le}
 use native.Mathlib.Decide.{decLt}
 use native.Mathlib.Omega.{arith}
 use borrow.Author.Tests.{le-leb, lt-leb, leb-true}
 use Rattle.refusal.specs.Same.{same}
-use Rattle.refusal.proofs.Laws.Booleans.{cases}
+use Rattle.refusal.proofs.Laws.Booleans.{and-true, true-and, cases}
 use Rattle.refusal.proofs.Laws.Lists.{drop-one}
-use Rattle.refusal.proofs.Laws.Same.{same-length, same-one}
+use Rattle.refusal.proofs.Laws.Same.{same-refl, same-eq, same-length, same-one}
 use Rattle.tables.specs.Slots.{entryOf, slotsOf}
-use Rattle.tables.specs.Tables.{empty}
-use Rattle.tables.specs.Repeats.{shows, anyShows}
+use Rattle.tables.specs.Tables.{Table, empty, found, shown, endOf}
+use Rattle.tables.specs.Repeats.{shows, anyShows, repeats}
 use Rattle.tables.specs.declared.slots.Entry.{Entry}
 use Rattle.tables.specs.declared.slots.Span.{Span}
+use Rattle.tables.proofs.Laws.LookUp.{slotOf, there}
 use Rattle.tables.proofs.Laws.Slots.{slots-length}
+use Rattle.tables.proofs.Laws.Tables.{Kept}
 
 -- ---- one entry, byte by byte
 
@@ -104,3 +106,43 @@ among-all h count slots =
       | yes q ↦ let m : length (take n l) ≡ n = simp length-take (omega arith) in ap (λ k. take k l) m
       | no q ↦ let m : length (take n l) ≡ length l = simp length-take (omega arith) in ap (λ k. take k l) m ∙ take-length l ∙ sym (take-all n l (omega arith))
     ]
+
+-- ---- of a table that an opening and calls can reach
+
+any-some : (es : List Entry) (buffer text : List ℕ) → anyShows es buffer text ≡ true → (n : ℕ) × (n < length es) × (shows (getD es n empty) buffer text ≡ true)
+unfolding anyShows
+any-some [] buffer text e = absurd (false≢true e)
+any-some (x ∷ es) buffer text e =
+    cases (shows x buffer text) (λ f. (0, omega arith, f))
+    (λ f. let r = any-some es buffer text (sym (ap (λ b. b || anyShows es buffer text) f) ∙ e) in (suc (r .0), omega (arith, r .1), r .2))
+
+some-any : (es : List Entry) (buffer text : List ℕ) (n : ℕ) → n < length es → shows (getD es n empty) buffer text ≡ true → anyShows es buffer text ≡ true
+unfolding anyShows
+some-any [] buffer text n h e = absurd (omega arith)
+some-any (x ∷ es) buffer text zero h e = ap (λ b. b || anyShows es buffer text) e
+some-any (x ∷ es) buffer text (suc n) h e =
+    cases (shows x buffer text) (λ f. ap (λ b. b || anyShows es buffer text) f) (λ f. ap (λ b. b || anyShows es buffer text) f ∙ some-any es buffer text n (omega arith) e)
+
+-- a text is repeated exactly if a look-up of some number shows it, and the buffer is long enough for that entry
+module _ (t : Table) (buffer text : List ℕ) (k : Kept t) where
+  abbrev entries : List Entry
+  entries = take (t .count) (t .slots)
+
+  entries-length : length entries ≡ t .count
+  entries-length = length-take-le (t .count) (t .slots) (omega (arith, k .counted, k .wide))
+
+  entry-is : (n : ℕ) → n < t .count → getD entries n empty ≡ slotOf t n
+  entry-is n h = getD-take (t .count) (t .slots) n empty h
+
+  pub repeats-iff : (repeats t buffer text ≡ true) ↔ ((n : ℕ) × (n < t .count) × (endOf t n ≤ length buffer) × (shown (found t n) buffer ≡ text))
+  repeats-iff = (
+    λ e. let r = any-some entries buffer text e in
+        let h : r .0 < t .count = omega (arith, r .1, entries-length) in
+        let a = and-true _ _ (subst (λ x. shows x buffer text ≡ true) (entry-is (r .0) h) (r .2)) in
+        (r .0, h, leb-true (endOf t (r .0)) (length buffer) (a .0), ap (λ x. shown x buffer) (there t (r .0) k h) ∙ rw (a .0) (same-eq _ text (a .1))),
+    λ x. let n = x .0 in
+        let u = le-leb (endOf t n) (length buffer) (x .2) in
+        let q : take (slotOf t n .length) (drop (slotOf t n .start) buffer) ≡ text = sym (ap (λ y. shown y buffer) (there t n k (x .1)) ∙ rw u) ∙ x .3 in
+        some-any entries buffer text n (omega (arith, x .1, entries-length))
+        (subst (λ y. shows y buffer text ≡ true) (sym (entry-is n (x .1))) (true-and _ _ u (subst (λ p. same p text ≡ true) (sym q) (same-refl text)))),
+  )
