@@ -141,7 +141,7 @@ module _ (machine : Machine) (name : List ℕ) where
 
 -- ---- from an opening
 
-opened-going : (b : BuffersOne) → Going openedTables b
+pub opened-going : (b : BuffersOne) → Going openedTables b
 unfolding Reached Rising Distinct
 opened-going b recipients = record { reached = opened-reached recipients; wide = refl; room = omega arith; ordered = tt }
 opened-going b identities = record { reached = opened-reached identities; wide = refl; room = omega arith; ordered = tt }

@@ -180,7 +180,7 @@ found-number m w short n e = by (ltb m 8192) e
     by false e = inr (inr (cc))
 found-number m w (whole k) n e = let z : _≡_ {A = ℕ} 0 1 = cc in absurd (omega arith)
 
-reading-number : (text : List ℕ) (n : ℕ) → readFirst text ≡ refused n → (n ≡ 1) ⊎ (n ≡ 2) ⊎ (n ≡ 3)
+pub reading-number : (text : List ℕ) (n : ℕ) → readFirst text ≡ refused n → (n ≡ 1) ⊎ (n ≡ 2) ⊎ (n ≡ 3)
 reading-number text n e = found-number (length text) (take 8192 text) (scan start 0 (take 8192 text)) n e
 
 -- then what follows
@@ -290,7 +290,7 @@ module _ (s : Session) (b : Buffers) (c : Call) where
   H r = Holds s b c r
 
   -- a number's condition is that of its fault
-  holds-of : (r : Refusal) → P (numberOf r) → H r
+  pub holds-of : (r : Refusal) → P (numberOf r) → H r
   holds-of r (q, e, h) = subst H (sym (refusal-of q) ∙ ap refusalOf e ∙ refusal-of r) h
 
   here : (r : Refusal) {ks : List ℕ} → H r → FirstOf P (numberOf r ∷ ks) (numberOf r)
