@@ -484,6 +484,12 @@ Holds s b c NoSuchMachine = ⊥
 Holds s b c HeldBack = HeldIn s b c
 Holds s b c Repeated = TwiceIn s b (broughtBy c)
 
+-- a call whose command is judged: it is in turn, its text is a stanza, and what it sends can be written
+pub record Judged (s : Session) (c : Call) : Type 0 where
+  pub turn : InTurn c (s .phase)
+  pub read : (n : ℕ) → ReadsAs c n → ⊥
+  pub written : UnwrittenIn c → ⊥
+
 -- a number's condition: that of its fault
 abbrev pub Condition : Session → Buffers → Call → ℕ → Type 0
 Condition s b c n = (r : Refusal) × (numberOf r ≡ n) × Holds s b c r

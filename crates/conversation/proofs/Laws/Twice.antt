@@ -19,19 +19,20 @@ use Rattle.stanza.specs.Writing.{isWritable}
 use Rattle.tables.specs.Repeats.{repeats}
 use Rattle.tables.specs.Tables.{Table}
 use Rattle.session.specs.Tables.{Tables}
-use Rattle.session.specs.Session.{Session, opened}
+use Rattle.session.specs.Session.{Session, closed, opened}
 use Rattle.session.specs.declared.phases.Phase.{Phase}
 use Rattle.session.specs.declared.phases.Phase.the-variants.{One, Two, Awaiting, Ended, Closed}
 use Rattle.phase_one.specs.Commands as one-command
+use Rattle.phase_one.specs.Commands.{WordOne}
 use Rattle.phase_one.specs.PhaseOne as one
 use Rattle.phase_one.specs.PhaseOne.{commandIn, payloadIn}
 use Rattle.phase_one.specs.Turns.{turnOne}
 use Rattle.phase_one.specs.Views.{KindOne, recipients}
 use Rattle.phase_one.proofs.Laws.Views.{Reached, applied-reached, applied-view, payload-stored}
 use Rattle.conversation.specs.Allowed.{Distinct}
-use Rattle.conversation.specs.Calls.{Call, receive, send, receive-two, reply, send-two, respond, Outcome, outcome, after, broughtBy, lineRead, bodyRead}
+use Rattle.conversation.specs.Calls.{Call, receive, send, receive-two, reply, send-two, respond, Outcome, outcome, sessionAfter, after, broughtBy}
 use Rattle.conversation.specs.Kinds.{first, Buffers, viewOf}
-use Rattle.conversation.specs.Numbers.{FirstOf, no-number, this-number, later-number, Condition, Holds, InTurn, ReadsAs, UnwrittenIn, Unwritten, TwiceIn, Twice, SaysOne, orderOf}
+use Rattle.conversation.specs.Numbers.{FirstOf, no-number, this-number, later-number, Condition, Judged, Unwritten, TwiceIn, Twice, SaysOne, orderOf}
 use Rattle.conversation.specs.Phases.{lineIn, bodyIn}
 use Rattle.conversation.specs.PhaseTwo as two
 use Rattle.conversation.specs.Sending.{shortness}
@@ -76,12 +77,6 @@ writable line body h =
     (λ g. absurd (h (inr (leb-false (length (stanzaText line body)) 8192 g)))))
     (λ f. absurd (h (inl f)))
 
--- a call that comes to the decision: it is in turn, its text is a stanza, what it sends can be written
-pub record Comes (s : Session) (c : Call) : Type 0 where
-  pub turn : InTurn c (s .phase)
-  pub read : (n : ℕ) → ReadsAs c n → ⊥
-  pub written : UnwrittenIn c → ⊥
-
 module _ (s : Session) (b : Buffers) (r : ReachedSession s) where
   -- a decision that finds a repeated text, wherever it is asked
   decided-twice : (line body : List ℕ) → Twice (SaysOne (s .machine) line body) (s .tables) (b .first .recipients) → decidedOne s b line body ≡ 20
@@ -93,7 +88,7 @@ module _ (s : Session) (b : Buffers) (r : ReachedSession s) where
       sym (ap (λ c. isRepeated (s .tables) (b .first) c (one-command.payloadOf c line body)) (e .0)) ∙ f in
       ap (λ c. one.decided (s .tables) (b .first) c (one-command.payloadOf c line body)) (e .0) ∙ rw g
 
-  twice-given : (c : Call) → Comes s c → TwiceIn s b (broughtBy c) → outcome s b c .number ≡ 20
+  twice-given : (c : Call) → Judged s c → TwiceIn s b (broughtBy c) → outcome s b c .number ≡ 20
   twice-given (receive text) w x =
       given-receive s b text ∙ ap (λ p. firstOf (turnOne p) (asRead (readFirst text) (firstOf (decidedOne s b (lineIn text) (bodyIn text)) 0))) (w .turn)
       ∙ ap (λ n. asRead (readFirst text) (firstOf n 0)) (decided-twice (lineIn text) (bodyIn text) x) ∙ go (readFirst text) refl
@@ -112,8 +107,8 @@ module _ (s : Session) (b : Buffers) (r : ReachedSession s) where
   twice-given (send-two word arguments body out) w x = absurd x
   twice-given (respond text out) w x = absurd x
 
-  given-comes : (c : Call) → TwiceIn s b (broughtBy c) → FirstOf (Condition s b c) (orderOf c) 20 → Comes s c
-  given-comes (receive text) x f =
+  given-judged : (c : Call) → TwiceIn s b (broughtBy c) → FirstOf (Condition s b c) (orderOf c) 20 → Judged s c
+  given-judged (receive text) x f =
       let c = receive text in
       let f14 = not-before (not-before f (λ e. omega arith) .1) (λ e. omega arith) in
       let f1 = not-before (f14 .1) (λ e. omega arith) in
@@ -124,23 +119,35 @@ module _ (s : Session) (b : Buffers) (r : ReachedSession s) where
         read = λ n h. ⊎-elim (λ e. f1 .0 (NotStanza, refl, h ∙ ap refused e)) (⊎-elim (λ e. f2 .0 (Unfinished, refl, h ∙ ap refused e)) (λ e. f3 .0 (TooLong, refl, h ∙ ap refused e))) (reading-number text n h);
         written = λ h. h;
       }
-  given-comes (send word arguments body out) x f =
+  given-judged (send word arguments body out) x f =
       let f14 = not-before (not-before f (λ e. omega arith) .1) (λ e. omega arith) in
       let f17 = not-before (f14 .1) (λ e. omega arith) in
       record { turn = is-one (s .phase) (λ h. f14 .0 (OutOfTurn, refl, h)); read = λ n h. h; written = λ h. f17 .0 (Unwritable, refl, h) }
-  given-comes (receive-two text out) x f = absurd x
-  given-comes (reply q body out) x f = absurd x
-  given-comes (send-two word arguments body out) x f = absurd x
-  given-comes (respond text out) x f = absurd x
+  given-judged (receive-two text out) x f = absurd x
+  given-judged (reply q body out) x f = absurd x
+  given-judged (send-two word arguments body out) x f = absurd x
+  given-judged (respond text out) x f = absurd x
 
-  -- a call gives 20 exactly if it comes to the decision and adds a recipient whose text an earlier entry shows
-  pub twenty-iff : (c : Call) → (outcome s b c .number ≡ 20) ↔ (Comes s c × TwiceIn s b (broughtBy c))
+  -- a call gives 20 exactly if its command is judged and adds a recipient whose text an earlier entry shows
+  pub twenty-iff : (c : Call) → (outcome s b c .number ≡ 20) ↔ (Judged s c × TwiceIn s b (broughtBy c))
   twenty-iff c = (
     λ e. let f = subst (FirstOf (Condition s b c) (orderOf c)) e (number-given s b r c) in
         let x = holds-of s b c Repeated (first-holds f (λ z. omega arith)) in
-        (given-comes c x f, x),
+        (given-judged c x f, x),
     λ h. twice-given c (h .0) (h .1),
   )
+
+-- received it closes the session; sent it leaves all as before, and writes nothing
+pub twice-closes : (s : Session) (b : Buffers) (text : List ℕ) → let o = outcome s b (receive text) in o .number ≡ 20 → (o .session ≡ closed s) × (o .buffers ≡ b)
+twice-closes s b text e =
+    let w = refusal s b (receive text) (λ z. omega arith) in
+    (w .session ∙ ap (λ n. sessionAfter (receive text) n s) e, w .buffers)
+
+pub twice-stays : (s : Session) (b : Buffers) (word : WordOne) (arguments body out : List ℕ) → let o = outcome s b (send word arguments body out) in
+    o .number ≡ 20 → (o .session ≡ s) × (o .buffers ≡ b) × (o .output ≡ out) × (o .size ≡ 0)
+twice-stays s b word arguments body out e =
+    let w = refusal s b (send word arguments body out) (λ z. omega arith) in
+    (w .session, w .buffers, w .output, w .size)
 
 -- ---- recipients that differ
 
