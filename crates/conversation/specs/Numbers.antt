@@ -1,5 +1,5 @@
--- Which number a call gives (document 01, "Numbers given back", with "Rules between commands" and both tables of commands; document 02, No. 7): each number's condition, said of the text
--- or the arguments, of the phase and of what the tables show; and the paper's orders. No decision is asked.
+-- Which number a call gives (document 01, "Numbers given back", with "Rules between commands" and both tables of commands; document 02, No. 7): each number's
+-- condition, said of the text or the arguments, of the phase and of what the tables show; and the paper's orders. No decision is asked.
 use Prim.Native.Nat.{ℕ, _+_, _<_, _≤_}
 use mathlib.Core.Path.{_≡_}
 use mathlib.Core.Bool.{Bool, true, false}
@@ -218,7 +218,8 @@ pub record Falling (Says : SayingOne ℕ → Type 0) (rows : AnyKind → List Ro
   pub shown : rows (first headers) ≡ before ++ (last ∷ [])
   pub falls : index < last .index
 
--- No. 20, "a second recipient whose text equals an earlier one", as a look-up shows that one; "an entry that the buffer is too short for is empty and equals nothing"
+-- No. 20, "a second recipient whose text equals an earlier one", as a look-up shows that one; an entry that the buffer is too short for is empty and equals
+-- nothing
 pub record Twice (Says : SayingOne ℕ → Type 0) (t : Tables) (buffer : List ℕ) : Type 0 where
   pub text : List ℕ
   pub said : Says (adds-recipient text)

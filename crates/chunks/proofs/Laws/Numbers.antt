@@ -1,4 +1,4 @@
--- The numbers that the stanzas of a chunk give: what holds of 0, 1 and 3 to 12 holds of each, since the output of `ample` is long enough for any.
+-- The numbers that the stanzas of a chunk give: what holds of 0, 1, 3 to 12 and 20 holds of each, since the output of `ample` is long enough for any.
 use Prim.Native.Nat.{ℕ, _≤_}
 use mathlib.Core.Path.{_≡_, refl, sym, ap, subst, _∙_}
 use mathlib.Core.Bool.{Bool, true, false}
