@@ -1,5 +1,5 @@
 -- The same recipient twice: when a call gives 20, and that recipients differ wherever buffers are handed on.
-use Prim.Native.Nat.{ℕ, _≤_}
+use Prim.Native.Nat.{ℕ}
 use mathlib.Core.Path.{_≡_, refl, sym, ap, _∙_, subst}
 use mathlib.Core.Bool.{Bool, true, false}
 use mathlib.Core.Logic.{_⊎_, inl, inr, ⊎-elim, _↔_}
@@ -27,14 +27,13 @@ use Rattle.phase_one.specs.Commands.{WordOne}
 use Rattle.phase_one.specs.PhaseOne as one
 use Rattle.phase_one.specs.PhaseOne.{commandIn, payloadIn}
 use Rattle.phase_one.specs.Turns.{turnOne}
-use Rattle.phase_one.specs.Views.{KindOne, recipients}
+use Rattle.phase_one.specs.Views.{recipients}
 use Rattle.phase_one.proofs.Laws.Views.{Reached, applied-reached, applied-view, payload-stored}
 use Rattle.conversation.specs.Allowed.{Distinct}
 use Rattle.conversation.specs.Calls.{Call, receive, send, receive-two, reply, send-two, respond, Outcome, outcome, sessionAfter, after, broughtBy}
 use Rattle.conversation.specs.Kinds.{first, Buffers, viewOf}
 use Rattle.conversation.specs.Numbers.{FirstOf, no-number, this-number, later-number, Condition, Judged, Unwritten, TwiceIn, Twice, SaysOne, orderOf}
 use Rattle.conversation.specs.Phases.{lineIn, bodyIn}
-use Rattle.conversation.specs.PhaseTwo as two
 use Rattle.conversation.specs.Sending.{shortness}
 use Rattle.conversation.proofs.Laws.Accepted.{Applied, AppliedTwo, commandAt, payloadAt, AcceptedBy, accepted}
 use Rattle.conversation.proofs.Laws.AllowedOne.{opened-going}
