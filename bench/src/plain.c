@@ -303,13 +303,22 @@ static int note_stanza(struct table *t, const uint8_t *from, const struct stanza
     return may_have(t, index) && note(t, index, at + 1, end - at, s->body, s->body_len);
 }
 
+// Whether no entry has this text.
+static int is_new(const struct table *t, const uint8_t *text, size_t len)
+{
+    for (size_t i = 0; i < t->count; i++)
+        if (t->entries[i].len == len && !memcmp(t->payloads + t->entries[i].start, text, len)) return 0;
+    return 1;
+}
+
 // A command of phase one; recipient-stanza is identity-v1's. A text that is not the plugin's is refused: none such is measured.
 static int take_one(const struct stanza *s)
 {
     const uint8_t *end = s->line + s->line_len, *space = memchr(s->line, ' ', s->line_len), *at = space ? space + 1 : end;
     size_t word = (space ? space : end) - s->line, rest = end - at;
     if (is(s->line, word, "add-recipient"))
-        return !s->body_len && is_bech32(at, rest, "age1", "", 0) && note(&session.recipients, 0, at, rest, s->body, 0);
+        return !s->body_len && is_new(&session.recipients, at, rest) && is_bech32(at, rest, "age1", "", 0) &&
+            note(&session.recipients, 0, at, rest, s->body, 0);
     if (is(s->line, word, "add-identity"))
         return !s->body_len && is_bech32(at, rest, "AGE-PLUGIN-", "-", 1) && note(&session.identities, 0, at, rest, s->body, 0);
     if (is(s->line, word, "wrap-file-key")) return !rest && s->body_len == 16 && note(&session.keys, 0, at, 0, s->body, 16);

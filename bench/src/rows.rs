@@ -63,13 +63,14 @@ pub fn rows() -> Vec<Row> {
 }
 
 fn client_rows() -> Vec<Row> {
-    let [recipient, identity, key, header, unknown, done] =
+    let [identity, key, header, unknown, done] =
         phase_one().map(|(arguments, body)| Call::Send(arguments, body));
+    let recipients: Vec<Call> = recipients().map(|arguments| Call::Send(arguments, Vec::new())).collect();
     let one = [open(End::Client, RECIPIENT, NAME)];
     let one_identity = [open(End::Client, IDENTITY, NAME)];
     let many = |call: &Call| vec![call.clone(); TIMES];
     // Phase two, as many recipients and identities as there may be, and a file key.
-    let two = [&one[..], &many(&recipient), &many(&identity), &[key.clone(), done.clone()]].concat();
+    let two = [&one[..], &recipients, &many(&identity), &[key.clone(), done.clone()]].concat();
     // Phase two, a header stanza for each of many files.
     let headers: Vec<Call> = (0..TIMES).map(|file| Call::Send(stanza_of(file), bytes(32))).collect();
     let two_identity = [&one_identity[..], &headers, from_ref(&done)].concat();
@@ -80,7 +81,7 @@ fn client_rows() -> Vec<Row> {
     let confirm_awaits = [&two[..], from_ref(&confirm)].concat();
     let mut rows = vec![
         Row::new("open", &[], &one),
-        Row::new("send add-recipient, 60 characters", &one, &many(&recipient)).beside_plain_c(),
+        Row::new("send add-recipient, 60 characters", &one, &recipients).beside_plain_c(),
         Row::new("send add-identity, 68 characters", &one, &many(&identity)).beside_plain_c(),
         Row::new("send wrap-file-key", &one, &many(&key)).beside_plain_c(),
         Row::new("send recipient-stanza, a body of 32 bytes", &one_identity, &many(&header)).beside_plain_c(),
@@ -107,18 +108,20 @@ fn client_rows() -> Vec<Row> {
 }
 
 fn plugin_rows() -> Vec<Row> {
-    let [recipient, identity, key, header, unknown, done] =
+    let [identity, key, header, unknown, done] =
         phase_one().map(|(arguments, body)| received(&arguments, &body));
+    let recipients: Vec<Call> = recipients().map(|arguments| received(&arguments, b"")).collect();
     let one = [open(End::Plugin, RECIPIENT, NAME)];
     let one_identity = [open(End::Plugin, IDENTITY, NAME)];
     let one_fido = [open(End::Plugin, IDENTITY, "fido2-hmac")];
     let fido = format!("recipient-stanza 0 fido2-hmac {} {}", "A".repeat(43), "A".repeat(16));
     let many = |call: &Call| vec![call.clone(); TIMES];
-    let two = [&one[..], &many(&recipient), &many(&identity), &[key.clone(), done.clone()]].concat();
+    let two = [&one[..], &recipients, &many(&identity), &[key.clone(), done.clone()]].concat();
     let two_identity = [&one_identity[..], &[header.clone(), done.clone()]].concat();
-    let whole = [many(&recipient), many(&key), vec![done.clone()]].concat();
+    let whole = [recipients.clone(), many(&key), vec![done.clone()]].concat();
     let long = long_recipients();
-    let longest = recipient_of(LONG_NAME.as_bytes(), 628, 1_024);
+    let longest: Vec<Call> = (0..TIMES).map(|number| received(&longest_recipient(number), b"")).collect();
+    let last_bytes = other_last_bytes();
     let one_long = [open(End::Plugin, RECIPIENT, LONG_NAME)];
     let [msg, confirm] = asking().map(|(arguments, body)| Call::Send(arguments, body));
     let send = |arguments: &str, body: &[u8]| [Call::Send(arguments.to_owned(), body.to_vec())];
@@ -127,7 +130,7 @@ fn plugin_rows() -> Vec<Row> {
     let pairs = vec![[msg.clone(), response.clone()]; TIMES].concat();
     let mut rows = vec![
         Row::new("open", &[], &one),
-        Row::new("receive add-recipient, 60 characters", &one, &many(&recipient))
+        Row::new("receive add-recipient, 60 characters", &one, &recipients)
             .beside_plain_c()
             .at_most(4_100.0),
         Row::new("receive add-identity, 68 characters", &one, &many(&identity)).beside_plain_c(),
@@ -150,7 +153,11 @@ fn plugin_rows() -> Vec<Row> {
         Row {
             times: 1,
             aim: Some(Aim::TimesPlainC(2.0)),
-            ..Row::new("receive 64 recipients of 1,024 characters", &one_long, &many(&longest)).beside_plain_c()
+            ..Row::new("receive 64 recipients of 1,024 characters", &one_long, &longest).beside_plain_c()
+        },
+        Row {
+            times: 1,
+            ..Row::new("receive 64 of 1,024 characters, the last of them other", &one_long, &last_bytes)
         },
         Row { times: 1, ..Row::new("receive 64,000 bytes of long recipients in one chunk", &one, &[long.clone()]) },
         Row {
@@ -181,17 +188,21 @@ fn open(end: End, machine: &'static str, name: &'static str) -> Call {
     Call::Open { end, machine, name }
 }
 
-/// Arguments and body of each command of phase one, and of an unknown one.
-fn phase_one() -> [(String, Vec<u8>); 6] {
-    let with = |command: &str, kind| (format!("{command} {}", bech32_text(kind)), Vec::new());
+/// Arguments and body of each command of phase one but add-recipient, and of an unknown one.
+fn phase_one() -> [(String, Vec<u8>); 5] {
+    let identity = bech32_text(Kind::Identity, NAME.as_bytes(), &bytes(26), 68);
     [
-        with("add-recipient", Kind::Recipient),
-        with("add-identity", Kind::Identity),
+        (format!("add-identity {identity}"), Vec::new()),
         ("wrap-file-key".to_owned(), bytes(16)),
         (stanza_of(0), bytes(32)),
         (UNKNOWN.to_owned(), Vec::new()),
         ("done".to_owned(), Vec::new()),
     ]
+}
+
+/// Arguments of as many recipients of 60 characters as there may be, all different.
+fn recipients() -> impl Iterator<Item = String> {
+    (0..TIMES).map(|number| add_recipient(NAME.as_bytes(), 26, 60, number))
 }
 
 /// Those of the commands that ask a client's host.
@@ -210,18 +221,31 @@ fn received(arguments: &str, body: &[u8]) -> Call {
 
 /// 62 recipients of 1,010 characters, one behind the other.
 fn long_recipients() -> Call {
-    match recipient_of(NAME.as_bytes(), 620, 1_010) {
-        Call::Chunk(text) => Call::Chunk(text.repeat(62)),
-        _ => panic!("a chunk"),
-    }
+    Call::Chunk((0..62).flat_map(|number| text(&add_recipient(NAME.as_bytes(), 620, 1_010, number), b"")).collect())
 }
 
-/// A recipient of a name, with a payload of so many bytes and so many characters.
-fn recipient_of(name: &[u8], payload_len: usize, text_len: usize) -> Call {
-    let recipient = written(|out| bech32::write(Kind::Recipient, name, &bytes(payload_len), out).ok());
-    let recipient = String::from_utf8(recipient).expect("Bech32 is ASCII");
-    assert_eq!(recipient.len(), text_len);
-    received(&format!("add-recipient {recipient}"), b"")
+/// A recipient of 1,024 characters.
+fn longest_recipient(number: usize) -> String {
+    add_recipient(LONG_NAME.as_bytes(), 628, 1_024, number)
+}
+
+/// Recipients of 1,024 characters that differ in the last one: each is compared to its end with each before it.
+fn other_last_bytes() -> Vec<Call> {
+    let mut arguments = longest_recipient(0).into_bytes();
+    (b'!'..)
+        .take(TIMES)
+        .map(|byte| {
+            *arguments.last_mut().expect("a recipient") = byte;
+            received(std::str::from_utf8(&arguments).expect("ASCII"), b"")
+        })
+        .collect()
+}
+
+/// Arguments of a recipient of a name, with so many characters and a payload of so many bytes, the first of them its number.
+fn add_recipient(name: &[u8], payload_len: usize, text_len: usize, number: usize) -> String {
+    let mut payload = bytes(payload_len);
+    payload[0] = number as u8;
+    format!("add-recipient {}", bech32_text(Kind::Recipient, name, &payload, text_len))
 }
 
 /// A chunk for each byte of a chunk.
@@ -237,9 +261,9 @@ fn text(arguments: &str, body: &[u8]) -> Vec<u8> {
     written(|out| stanza::write(arguments.as_bytes(), body, out).ok())
 }
 
-/// A recipient of 60 characters or an identity of 68.
-fn bech32_text(kind: Kind) -> String {
-    let text = written(|out| bech32::write(kind, NAME.as_bytes(), &bytes(26), out).ok());
-    assert_eq!(text.len(), if kind == Kind::Recipient { 60 } else { 68 });
+/// A recipient or an identity of so many characters.
+fn bech32_text(kind: Kind, name: &[u8], payload: &[u8], text_len: usize) -> String {
+    let text = written(|out| bech32::write(kind, name, payload, out).ok());
+    assert_eq!(text.len(), text_len);
     String::from_utf8(text).expect("Bech32 is ASCII")
 }

@@ -149,7 +149,7 @@ fn send_due(
 }
 
 // A command of phase one, its arguments' text (empty for none; any other word stands first in it) and its body, written to the front of `out`: how many bytes,
-// and the session. 13, 14, 17, 4, 5, 7, 8 or 15 where it is refused: then nothing changes.
+// and the session. 13, 14, 17, 4, 5, 7, 20, 8 or 15 where it is refused: then nothing changes.
 pub fn send(
     session: Session,
     word: WordOne,

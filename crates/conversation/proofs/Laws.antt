@@ -43,5 +43,6 @@ pub mod Steps
 pub mod StepsTwo
 pub mod SumsTwo
 pub mod Tables
+pub mod Twice
 pub mod ViewsTwo
 pub mod WrittenRead

@@ -63,12 +63,18 @@ Rising [] = Unit
 Rising (r ∷ []) = Unit
 Rising (r ∷ q ∷ rs) = (r .index ≤ q .index) × Rising (q ∷ rs)
 
--- each command is right, and each kind has its slots, its bytes and, for header stanzas, its order
+-- "a second recipient whose text equals an earlier one is refused" (document 02, No. 7): no two rows have the same payload
+unfoldable pub Distinct : List Row → Type 0
+Distinct [] = Unit
+Distinct (r ∷ rs) = All (λ q. r .payload ≡ q .payload → ⊥) rs × Distinct rs
+
+-- each command is right, and each kind has its slots, its bytes and, for header stanzas, its order; no recipient's text is another's
 pub record Allowed (machine : Machine) (name : List ℕ) (b : one.BuffersOne) (ts : List (List ℕ)) : Type 0 where
   pub right : All (λ t. isRight (commandOf machine name t) ≡ true) ts
   pub slots : (k : one-kind.KindOne) → length (rowsIn machine name k ts) ≤ slotsOf k
   pub bytes : (k : one-kind.KindOne) → bytesOf (rowsIn machine name k ts) ≤ length (one-kind.bufferOf k b)
   pub rising : Rising (rowsIn machine name headers ts)
+  pub distinct : Distinct (rowsIn machine name recipients ts)
 
 -- ---- phase two, commands: what phase one left is given as its rows, kind by kind
 

@@ -1,5 +1,5 @@
--- Which number a call gives (document 01, "Numbers given back", with "Rules between commands" and both tables of commands): each number's condition, said of the text
--- or the arguments, of the phase and of what the tables show; and the paper's orders. No decision is asked.
+-- Which number a call gives (document 01, "Numbers given back", with "Rules between commands" and both tables of commands; document 02, No. 7): each number's
+-- condition, said of the text or the arguments, of the phase and of what the tables show; and the paper's orders. No decision is asked.
 use Prim.Native.Nat.{ℕ, _+_, _<_, _≤_}
 use mathlib.Core.Path.{_≡_}
 use mathlib.Core.Bool.{Bool, true, false}
@@ -8,14 +8,14 @@ use mathlib.Core.List.{List, [], _∷_, _++_}
 use lib.ListN.{length, take}
 use Rattle.refusal.specs.Number.{numberOf}
 use Rattle.refusal.specs.declared.Refusal.{Refusal}
-use Rattle.refusal.specs.declared.Refusal.the-variants.{NotStanza, Unfinished, TooLong, BadCommand, BadIndex, NoSuchIndex, FallingIndex, NoSpace, SecondKey, TooManyStanzas, WorkAndError, UnfitResponse, SessionOver, OutOfTurn, ShortOutput, Malformed, Unwritable, NoSuchMachine, HeldBack, BadChecksum, LeftoverBits}
+use Rattle.refusal.specs.declared.Refusal.the-variants.{NotStanza, Unfinished, TooLong, BadCommand, BadIndex, NoSuchIndex, FallingIndex, NoSpace, SecondKey, TooManyStanzas, WorkAndError, UnfitResponse, SessionOver, OutOfTurn, ShortOutput, Malformed, Unwritable, NoSuchMachine, HeldBack, Repeated, BadChecksum, LeftoverBits}
 use Rattle.base64.specs.Code.{isBase64}
 use Rattle.stanza.specs.Arguments.{words, isLine, argumentOf}
 use Rattle.stanza.specs.Grammar.{stanzaText}
 use Rattle.stanza.specs.Index.{decimal}
 use Rattle.stanza.specs.Reading.{refused, readFirst}
 use Rattle.tables.specs.declared.slots.Entry.{Entry}
-use Rattle.tables.specs.Tables.{Row}
+use Rattle.tables.specs.Tables.{Row, found, shown, endOf}
 use Rattle.responses.specs.Responses.{responseLine}
 use Rattle.responses.specs.declared.Response.{Response}
 use Rattle.responses.specs.declared.Response.the-variants.{Ok, Yes, No, Fail, Unsupported}
@@ -218,6 +218,16 @@ pub record Falling (Says : SayingOne ℕ → Type 0) (rows : AnyKind → List Ro
   pub shown : rows (first headers) ≡ before ++ (last ∷ [])
   pub falls : index < last .index
 
+-- No. 20, "a second recipient whose text equals an earlier one", as a look-up shows that one; an entry that the buffer is too short for is empty and equals
+-- nothing
+pub record Twice (Says : SayingOne ℕ → Type 0) (t : Tables) (buffer : List ℕ) : Type 0 where
+  pub text : List ℕ
+  pub said : Says (adds-recipient text)
+  pub earlier : ℕ
+  pub there : earlier < t .recipients .count
+  pub held : endOf (t .recipients) earlier ≤ length buffer
+  pub equal : shown (found (t .recipients) earlier) buffer ≡ text
+
 -- No. 9, "second key for a file"
 pub record Second (Says : SayingTwo ℕ → Type 0) (rows : AnyKind → List Row) : Type 0 where
   pub file : ℕ
@@ -359,6 +369,12 @@ module _ (s : Session) (b : Buffers) where
   FallingIn (in-two line body) = ⊥
   FallingIn no-command = ⊥
 
+  -- No. 20
+  abbrev pub TwiceIn : Brought → Type 0
+  TwiceIn (in-one line body) = Twice (SaysOne (s .machine) line body) (s .tables) (b .first .recipients)
+  TwiceIn (in-two line body) = ⊥
+  TwiceIn no-command = ⊥
+
   -- No. 8
   abbrev pub SpacelessIn : Brought → Type 0
   SpacelessIn (in-one line body) = SpacelessOne (SaysOne (s .machine) line body) (s .tables) b line body
@@ -467,8 +483,15 @@ Holds s b c Malformed = ⊥
 Holds s b c Unwritable = UnwrittenIn c
 Holds s b c NoSuchMachine = ⊥
 Holds s b c HeldBack = HeldIn s b c
+Holds s b c Repeated = TwiceIn s b (broughtBy c)
 Holds s b c BadChecksum = ⊥
 Holds s b c LeftoverBits = ⊥
+
+-- a call whose command is judged: it is in turn, its text is a stanza, and what it sends can be written
+pub record Judged (s : Session) (c : Call) : Type 0 where
+  pub turn : InTurn c (s .phase)
+  pub read : (n : ℕ) → ReadsAs c n → ⊥
+  pub written : UnwrittenIn c → ⊥
 
 -- a number's condition: that of its fault
 abbrev pub Condition : Session → Buffers → Call → ℕ → Type 0
@@ -477,13 +500,13 @@ Condition s b c n = (r : Refusal) × (numberOf r ≡ n) × Holds s b c r
 -- ---- the orders
 
 -- "Several at once: 13, 14, 1 to 3 as above, then 12, 15 for a response, else 4, 5, 6, 7, 9, 10, 11, 8, 15"; at sending "13, 14, 17, 4, 5, 6, 7, 9, 10, 11, 19, 8,
--- 15"; "For a host answer: 13, 14, 12, 17, 15"
+-- 15"; "For a host answer: 13, 14, 12, 17, 15"; 20 "stands after 7 and before 9" (document 02, No. 7)
 abbrev pub orderOf : Call → List ℕ
-orderOf (receive text) = 13 ∷ 14 ∷ 1 ∷ 2 ∷ 3 ∷ 4 ∷ 5 ∷ 6 ∷ 7 ∷ 9 ∷ 10 ∷ 11 ∷ 8 ∷ 15 ∷ []
-orderOf (send word arguments body out) = 13 ∷ 14 ∷ 17 ∷ 4 ∷ 5 ∷ 6 ∷ 7 ∷ 9 ∷ 10 ∷ 11 ∷ 19 ∷ 8 ∷ 15 ∷ []
-orderOf (receive-two text out) = 13 ∷ 14 ∷ 1 ∷ 2 ∷ 3 ∷ 4 ∷ 5 ∷ 6 ∷ 7 ∷ 9 ∷ 10 ∷ 11 ∷ 8 ∷ 15 ∷ []
+orderOf (receive text) = 13 ∷ 14 ∷ 1 ∷ 2 ∷ 3 ∷ 4 ∷ 5 ∷ 6 ∷ 7 ∷ 20 ∷ 9 ∷ 10 ∷ 11 ∷ 8 ∷ 15 ∷ []
+orderOf (send word arguments body out) = 13 ∷ 14 ∷ 17 ∷ 4 ∷ 5 ∷ 6 ∷ 7 ∷ 20 ∷ 9 ∷ 10 ∷ 11 ∷ 19 ∷ 8 ∷ 15 ∷ []
+orderOf (receive-two text out) = 13 ∷ 14 ∷ 1 ∷ 2 ∷ 3 ∷ 4 ∷ 5 ∷ 6 ∷ 7 ∷ 20 ∷ 9 ∷ 10 ∷ 11 ∷ 8 ∷ 15 ∷ []
 orderOf (reply r body out) = 13 ∷ 14 ∷ 12 ∷ 17 ∷ 15 ∷ []
-orderOf (send-two word arguments body out) = 13 ∷ 14 ∷ 17 ∷ 4 ∷ 5 ∷ 6 ∷ 7 ∷ 9 ∷ 10 ∷ 11 ∷ 19 ∷ 8 ∷ 15 ∷ []
+orderOf (send-two word arguments body out) = 13 ∷ 14 ∷ 17 ∷ 4 ∷ 5 ∷ 6 ∷ 7 ∷ 20 ∷ 9 ∷ 10 ∷ 11 ∷ 19 ∷ 8 ∷ 15 ∷ []
 orderOf (respond text out) = 13 ∷ 14 ∷ 1 ∷ 2 ∷ 3 ∷ 12 ∷ 15 ∷ []
 
 -- n is the first number of an order whose condition holds, and no earlier one's does; "No refusal is 0"

@@ -1,4 +1,4 @@
--- Phase one received, at the plugin end (document 01, "Phase one" and "Numbers given back": 13, 14, 1 to 3, then 4, 5, 7, 8; a refusal writes nothing).
+-- Phase one received, at the plugin end (document 01, "Phase one" and "Numbers given back": 13, 14, 1 to 3, then 4, 5, 7, 20, 8; a refusal writes nothing).
 use Prim.Native.Nat.{ℕ, _+_}
 use mathlib.Core.List.{List}
 use lib.Dec.{eqb}

@@ -1,5 +1,5 @@
 -- Phase one sent, at the client end (document 01, "Numbers given back": "At either end's sending, faults of its own host's making leave the session as before;
--- the order is 13, 14, 17, 4, 5, 7, 8, 15").
+-- the order is 13, 14, 17, 4, 5, 7, 8, 15"; document 02, No. 7: 20 between 7 and 8).
 use Prim.Native.Nat.{ℕ}
 use mathlib.Core.List.{List}
 use lib.Dec.{eqb}

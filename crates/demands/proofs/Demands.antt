@@ -25,7 +25,8 @@ use Rattle.stanza.specs.Writing.{isWritable}
 use Rattle.symbols.specs.Checksum.{areSymbols, polymod, checksum}
 use Rattle.bech32.specs.Calls as bech32-calls
 use Rattle.bech32.specs.Calls.{formOf, textNumber, readAnswer, readBuffer, payloadOf, writeAnswer, writeBuffer}
-use Rattle.bech32.specs.Faults.{Judged, Marked}
+use Rattle.bech32.specs.Faults as faults
+use Rattle.bech32.specs.Faults.{Marked}
 use Rattle.bech32.specs.Text.{isName, textOf, parsed, parse, Read}
 use Rattle.bech32.specs.declared.TextKind.{TextKind}
 use Rattle.bech32.specs.declared.TextKind.the-variants.{Recipient, Identity}
@@ -45,7 +46,7 @@ use Rattle.session.specs.declared.opening.Machine.{Machine}
 use Rattle.session.specs.declared.phases.Phase.{Phase as SessionPhase}
 use Rattle.session.specs.declared.phases.Phase.the-variants.{One, Two, Awaiting, Ended, Closed}
 use Rattle.conversation.specs.Agreement.{Alike, Agreed, SameViews}
-use Rattle.conversation.specs.Allowed.{Allowed, rowsIn, AllowedTwo, Exchange, isDoneSent, sendingCalls, AllowedSent, leftOf, capacityOf}
+use Rattle.conversation.specs.Allowed.{Allowed, rowsIn, Distinct, AllowedTwo, Exchange, isDoneSent, sendingCalls, AllowedSent, leftOf, capacityOf}
 use Rattle.conversation.specs.Answers.{events, Paired}
 use Rattle.conversation.specs.Calls.{Call, receive, send, receive-two, reply, send-two, isClient, outcome, writtenBy, State, stateOf, after, in-two, broughtBy, rowsBrought, acceptedRows, AllZero, Accepted, Refused}
 use Rattle.conversation.specs.CommandsTwo.{Named, ask, lineSent, commandTwo, wordTwo, textOfWord}
@@ -53,7 +54,7 @@ use Rattle.conversation.specs.Given.{GivenBack}
 use Rattle.conversation.specs.Marks.{MarkedRows}
 use Rattle.conversation.specs.Kinds.{AnyKind, first, Buffers, tableOf, viewOf, ofFile}
 use Rattle.conversation.specs.Names.{Names, NamedOnce}
-use Rattle.conversation.specs.Numbers.{header, reports, SaysTwo, MissingIn, Condition, orderOf, FirstOf, bufferFor}
+use Rattle.conversation.specs.Numbers.{header, reports, SaysTwo, MissingIn, TwiceIn, Judged, Condition, orderOf, FirstOf, bufferFor}
 use Rattle.conversation.specs.PhaseTwo.{stanzasFor, hasKey, markOf, indexOf, isHeldBack}
 use Rattle.conversation.specs.Phases.{All, Part, one-part, two-part, Phase, blocksOf, IsPhase, Supply, callsOf, LongEnough, Starts, JustDone, JustReceived, SameStart, Rearranged, SameTables, SameOutcome, commandIn, textsOf, CallWith, afterEach, Whole}
 use Rattle.conversation.specs.ReceivingTwo.{writes, atOnce}
@@ -66,7 +67,7 @@ use Rattle.conversation.specs.TurnsTwo.{turnTwo}
 use Rattle.conversation.specs.SentOne as sent-one
 use Rattle.session.specs.Opening.{OpenedWith}
 use Rattle.session.specs.Tables.{Tables}
-use Rattle.session.specs.Session.{Session, openedSession, moved, opened, openedUntold}
+use Rattle.session.specs.Session.{Session, openedSession, moved, closed, opened, openedUntold}
 use Rattle.look_up.specs.ErrorNames.{namesIn, nameAt}
 use Rattle.look_up.specs.LookUp.{entryText, errorNamed, messageOf, stanzaOf, keyOf, LookedOf, Told}
 use Rattle.conversation.specs.WrittenRead.{OneReadsBack, TwoReadsBack, ResponseReadsBack, ReceivedAgain}
@@ -119,6 +120,7 @@ use Rattle.conversation.proofs.Laws.ShapesOne as one-shaped
 use Rattle.conversation.proofs.Laws.ShapesSent as sent-shaped
 use Rattle.conversation.proofs.Laws.ShapesTwo as two-shaped
 use Rattle.conversation.proofs.Laws.Tables as tables
+use Rattle.conversation.proofs.Laws.Twice as twice
 use Rattle.conversation.proofs.Laws.WrittenRead as written-read
 use Rattle.chunks.proofs.Laws.AnyAccepted as any-accepted
 use Rattle.chunks.proofs.Laws.AnyCalls as any-calls
@@ -318,7 +320,7 @@ pub demand-2-bech32-accepted : (k : TextKind) (t : List ℕ) → (textNumber (pa
 demand-2-bech32-accepted k = bech32-both.number-iff (formOf k) (bech32-both.form-plain k)
 
 -- .. with 16 and the place, 21 or 22, each exactly if its condition holds
-pub demand-2-bech32-judged : (k : TextKind) (t : List ℕ) → Judged (formOf k) t (parse (formOf k) t)
+pub demand-2-bech32-judged : (k : TextKind) (t : List ℕ) → faults.Judged (formOf k) t (parse (formOf k) t)
 demand-2-bech32-judged k = bech32-faults.judged (formOf k) (bech32-both.form-plain k)
 
 -- an entry's mark for the session's name: 16 where the text has not the form with this name, else 21, 22 or 0
@@ -393,7 +395,8 @@ pub demand-2-agreement : (machine name : List ℕ) (screen : Bool) (cs : List Ca
     × SameViews (sent s word arguments body b out .session) (sent s word arguments body b out .buffers) (received s′ text b′ .session) (received s′ text b′ .buffers)
 demand-2-agreement machine name screen cs s′ b b′ word arguments body out text n a v y q e l =
     let s = afterEach (opened machine name screen .session) cs in
-    (agreements.agreement s s′ b b′ word arguments body out text n a y q e l, agreements.views-agree s s′ b b′ word arguments body out text n a y q e l (made machine name screen cs .tables) v)
+    let j = made machine name screen cs .tables in
+    (agreements.agreement s s′ b b′ word arguments body out text n a j v y q e l, agreements.views-agree s s′ b b′ word arguments body out text n a j v y q e l)
 
 -- ---- Demand 2, look-ups, of a session that an opening and calls have made: "is shown that entry's text as a part of the recipient room or the identity room. If there
 -- is none, or the room lent is too short for it, the part is empty; no entry is empty"
@@ -731,6 +734,28 @@ any-calls-received e machine name screen before b cs h y = sending-over.sent-rec
 pub chunks-written : (e : End) (s : Session) (b : Buffers) (cs : List Piece) (ts : List (List ℕ)) → All Whole ts → textIn cs ≡ joined ts [] → NoneHeldUp (chunk-lists.numbers e (emptied s []) b cs) →
     isWaiting e (chunk-lists.after e (emptied s []) b cs .intake .session .phase) ≡ false → stanzasIn (uncut e (emptied s []) b [] cs) ≡ ts
 chunks-written = chunks-read.chunks-written
+
+-- ---- The same recipient twice (document 02, No. 7)
+
+-- behind any calls, each lent buffers of its own: 20 exactly if the call's command is judged, adds a recipient, and an earlier entry, as the buffer lent shows it, has
+-- its text; so never for an identity, nor in identity-v1, where add-recipient is no known command
+pub recipient-twice : (machine name : List ℕ) (screen : Bool) (cs : List CallWith) (b : Buffers) (c : Call) → let s = afterEach (opened machine name screen .session) cs in
+    (outcome s b c .number ≡ 20) ↔ (Judged s c × TwiceIn s b (broughtBy c))
+recipient-twice machine name screen cs b c = twice.twenty-iff (afterEach (opened machine name screen .session) cs) b (made machine name screen cs) c
+
+-- "refused with 20, and the session closes"; the commands before it in its chunk stand (`demand-1-chunk`)
+pub recipient-twice-closes : (s : Session) (b : Buffers) (text : List ℕ) → let o = outcome s b (receive text) in o .number ≡ 20 → (o .session ≡ closed s) × (o .buffers ≡ b)
+recipient-twice-closes = twice.twice-closes
+
+-- "at the client's own sending it is refused too and the session stays as before"
+pub recipient-twice-stays : (s : Session) (b : Buffers) (word : WordOne) (arguments body out : List ℕ) → let o = outcome s b (send word arguments body out) in
+    o .number ≡ 20 → (o .session ≡ s) × (o .buffers ≡ b) × (o .output ≡ out) × (o .size ≡ 0)
+recipient-twice-stays = twice.twice-stays
+
+-- where buffers are handed on, the recipients' texts are pairwise different, behind any calls from an opening, refused ones included
+pub recipients-differ : (e : End) (machine name : List ℕ) (screen : Bool) (b : Buffers) (cs : List AnyCall) → All (Has e) cs →
+    let z = afterAny e (emptied (opened machine name screen .session) []) b cs in Distinct (viewOf (first recipients) (z .intake .session .tables) (z .buffers))
+recipients-differ = any-calls.any-recipients
 
 -- ---- Demand 3: "Order between strangers means nothing." One theorem about two lists of calls, for both phases and both machines
 

@@ -25,7 +25,7 @@ use Rattle.conversation.specs.Kinds.{Buffers, first, viewOf}
 use Rattle.conversation.specs.PhaseTwo as two
 use Rattle.conversation.specs.Calls.{Call, stateOf, after, Accepted}
 use Rattle.conversation.specs.Phases.{All, keep, Whole, one-part, Block, Phase, blocksOf, IsPhase, Supply, callsOf, Strand, of-kind, of-errors, of-file, isIn, Rearranged, SameTables, SameOutcome, textsOf}
-use Rattle.conversation.specs.Allowed.{rowsIn, slotsOf, bytesOf, Rising, Allowed}
+use Rattle.conversation.specs.Allowed.{rowsIn, slotsOf, bytesOf, Rising, Distinct, Allowed}
 use Rattle.conversation.proofs.Laws.AllowedOne.{accepted-iff, accepted-tables}
 use Rattle.conversation.proofs.Laws.OrderOne.{order-one}
 
@@ -117,8 +117,8 @@ abbrev pub lent : Buffers
 lent = kinds.buffersOf (buffersOf (0 ∷ 0 ∷ []) (0 ∷ []) (replicate 16 0) []) (two.buffersOf [] [] [])
 
 allowed : Allowed RecipientV1 plugin (lent .first) (textsOf given)
-unfolding All rowsIn bytesOf Rising isCharacter valueOf characterOf encoded decoded endsWell wrapped unwrapped run isGraphic next verdict scan found isWordByte before words same
-allowed = record { right = (refl, (refl, (refl, (refl, (refl, tt))))); slots = slots; bytes = bytes; rising = tt }
+unfolding All rowsIn bytesOf Rising Distinct isCharacter valueOf characterOf encoded decoded endsWell wrapped unwrapped run isGraphic next verdict scan found isWordByte before words same
+allowed = record { right = (refl, (refl, (refl, (refl, (refl, tt))))); slots = slots; bytes = bytes; rising = tt; distinct = ((λ e. let z : _≡_ {A = ℕ} 97 98 = cc in omega arith, tt), (tt, tt)) }
   where
     slots : (k : KindOne) → length (rowsIn RecipientV1 plugin k (textsOf given)) ≤ slotsOf k
     slots recipients = lit≤ tt

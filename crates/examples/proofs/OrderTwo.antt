@@ -26,6 +26,7 @@ use Rattle.stanza.specs.Reading.{found}
 use Rattle.responses.specs.Responses.{responseLine}
 use Rattle.responses.specs.declared.Response.the-variants.{Ok, Unsupported}
 use Rattle.session.specs.declared.words.WordTwo.the-variants.{Msg, RecipientStanza, FileKey, Error, Done}
+use Rattle.tables.specs.Repeats.{anyShows}
 use Rattle.tables.specs.Tables.{Row}
 use Rattle.phase_one.specs.Commands as one-command
 use Rattle.phase_one.specs.Commands.{afterSpace}
@@ -80,7 +81,7 @@ sends =
     []
 
 pub just-done : JustDone (start .session)
-unfolding All afterEach sending.sent sending.sentStanza isName isNameByte parse isFormed hasTail isClosed separator isUpper isLower lower isCharacter valueOf characterOf encoded decoded endsWell wrapped unwrapped all run isGraphic isWordByte before words isArgument areArguments same
+unfolding anyShows All afterEach sending.sent sending.sentStanza isName isNameByte parse isFormed hasTail isClosed separator isUpper isLower lower isCharacter valueOf characterOf encoded decoded endsWell wrapped unwrapped all run isGraphic isWordByte before words isArgument areArguments same
 just-done = record {
   machine = recipientV1;
   name = plugin;

@@ -9,6 +9,7 @@ use Rattle.stanza.specs.Arguments.{words, before}
 use Rattle.stanza.specs.Automaton.{next, verdict, scan}
 use Rattle.stanza.specs.Index.{digits, readIndex, decimal, decimalWith}
 use Rattle.stanza.specs.Reading.{found}
+use Rattle.tables.specs.Repeats.{anyShows}
 use Rattle.phase_one.specs.Commands.{afterSpace}
 use Rattle.conversation.specs.Calls.{numbers}
 use Rattle.conversation.specs.Receiving.{received, receivedStanza}
@@ -16,5 +17,5 @@ use Rattle.conversation.specs.Responding.{respondedAs}
 use Rattle.examples.specs.Examples.{AllHold, rows}
 
 pub worked : AllHold rows
-unfolding isCharacter valueOf characterOf encoded decoded endsWell wrapped unwrapped run isGraphic next verdict scan digits readIndex found same words before decimal decimalWith afterSpace numbers received receivedStanza respondedAs
-worked = (refl, (refl, (refl, (refl, (refl, (refl, (refl, (refl, (refl, (refl, (refl, (refl, ((refl, refl), tt)))))))))))))
+unfolding isCharacter valueOf characterOf encoded decoded endsWell wrapped unwrapped run isGraphic next verdict scan digits readIndex found same words before decimal decimalWith afterSpace numbers received receivedStanza respondedAs anyShows
+worked = (refl, (refl, (refl, (refl, (refl, (refl, (refl, (refl, (refl, (refl, (refl, (refl, (refl, (refl, ((refl, refl), tt)))))))))))))))

@@ -1,4 +1,4 @@
--- The worked examples of document 01 marked * (the paper's classroom pieces): one table, and what it is for a row to hold.
+-- The worked examples of document 01 marked * (the paper's classroom pieces), and two of document 02, No. 7: one table, and what it is for a row to hold.
 -- Texts are lists of bytes: 45 62 32 is "-> ", 10 is LF, 48 to 57 are the digits.
 use Prim.Native.Nat.{ℕ}
 use mathlib.Core.Path.{_≡_}
@@ -14,10 +14,10 @@ use Rattle.responses.specs.declared.Response.{Response}
 use Rattle.responses.specs.declared.Response.the-variants.{No}
 use Rattle.session.specs.declared.words.WordTwo.{WordTwo}
 use Rattle.session.specs.declared.words.WordTwo.the-variants.{Confirm}
-use Rattle.phase_one.specs.Commands.{recipientStanza}
+use Rattle.phase_one.specs.Commands.{addRecipient, recipientStanza}
 use Rattle.phase_one.specs.PhaseOne as one
 use Rattle.session.specs.Tables.{openedTables}
-use Rattle.session.specs.declared.opening.Machine.the-variants.{IdentityV1}
+use Rattle.session.specs.declared.opening.Machine.the-variants.{RecipientV1, IdentityV1}
 use Rattle.session.specs.declared.phases.Phase.the-variants.{Awaiting}
 use Rattle.conversation.specs.Calls.{Call, receive, numbers}
 use Rattle.conversation.specs.Kinds.{Buffers, buffersOf}
@@ -27,23 +27,32 @@ use Rattle.conversation.specs.Responding.{took-response, responded}
 use Rattle.session.specs.Session.{Session, moved, openedSession}
 
 -- an example: a text is read so; arguments and a body make so many bytes; so many body bytes make a line of so many characters and then these
--- bytes; a text is read as an index so; header stanzas of these files, received one behind the other, give these numbers; a text is this response, and
--- the plugin end takes it as that to a command that awaits one
+-- bytes; a text is read as an index so; header stanzas of these files, received one behind the other, give these numbers, and so do recipients of these
+-- texts; a text is this response, and the plugin end takes it as that to a command that awaits one
 pub data Row : Type 0 where
   reads : List ℕ → Reading → Row
   writes : List ℕ → List ℕ → ℕ → Row
   makes : ℕ → ℕ → List ℕ → Row
   counts : List ℕ → index.ReadIndex → Row
   files : List ℕ → List ℕ → Row
+  recipients : List (List ℕ) → List ℕ → Row
   answers : List ℕ → WordTwo → Response → Row
 
 -- a header stanza of a file: "recipient-stanza", the index, the tag "x"
 abbrev pub headerOf : ℕ → Call
 headerOf file = receive (stanzaText (recipientStanza ++ 32 ∷ index.decimal file ++ 32 ∷ 120 ∷ []) [])
 
+-- a recipient of a text
+abbrev pub recipientOf : List ℕ → Call
+recipientOf text = receive (stanzaText (addRecipient ++ 32 ∷ text) [])
+
 -- space for header stanzas alone
 abbrev pub buffers : Buffers
 buffers = buffersOf (one.buffersOf [] [] [] (replicate 16 0)) (two.buffersOf [] [] [])
+
+-- .. for recipients alone
+abbrev pub recipientBuffers : Buffers
+recipientBuffers = buffersOf (one.buffersOf (replicate 4 0) [] [] []) (two.buffersOf [] [] [])
 
 -- a plugin session that awaits the response to a command
 abbrev pub awaiting : WordTwo → Session
@@ -56,6 +65,7 @@ Holds (writes line body n) = length (stanzaText line body) ≡ n
 Holds (makes n k ending) = linesOf (replicate n 0) ≡ replicate k 65 ++ ending
 Holds (counts text r) = index.readIndex text ≡ r
 Holds (files indices ns) = numbers (openedSession IdentityV1 (120 ∷ []) false) buffers (map headerOf indices) ≡ ns
+Holds (recipients texts ns) = numbers (openedSession RecipientV1 (120 ∷ []) false) recipientBuffers (map recipientOf texts) ≡ ns
 Holds (answers text w r) = (responseOf (lineIn text) ≡ response r) × (responded (awaiting w) text [] .answer ≡ took-response r (length text) 0)
 
 abbrev pub AllHold : List Row → Type 0
@@ -91,6 +101,9 @@ rows =
     -- file indices 3, 3, 7 pass; 3, 2 gives 7
     files (3 ∷ 3 ∷ 7 ∷ []) (0 ∷ 0 ∷ 0 ∷ []) ∷
     files (3 ∷ 2 ∷ []) (0 ∷ 7 ∷ []) ∷
+    -- recipients "a", "ab" pass, a second "ab" gives 20; so does a second "a" with no space left
+    recipients ((97 ∷ []) ∷ (97 ∷ 98 ∷ []) ∷ (97 ∷ 98 ∷ []) ∷ []) (0 ∷ 0 ∷ 20 ∷ []) ∷
+    recipients ((97 ∷ []) ∷ (98 ∷ 98 ∷ 98 ∷ []) ∷ (97 ∷ []) ∷ []) (0 ∷ 0 ∷ 20 ∷ []) ∷
     -- "-> ok no", LF, LF to confirm means no
     answers (45 ∷ 62 ∷ 32 ∷ 111 ∷ 107 ∷ 32 ∷ 110 ∷ 111 ∷ 10 ∷ 10 ∷ []) Confirm No ∷
     []

@@ -1,4 +1,4 @@
--- Phase one: what is decided of a command, and what it does (document 01, "Phase one" and "Numbers given back").
+-- Phase one: what is decided of a command, and what it does (document 01, "Phase one" and "Numbers given back"; document 02, No. 7).
 use Prim.Native.Nat.{ℕ, _-_}
 use mathlib.Core.Bool.{Bool, _&&_}
 use mathlib.Core.List.{List}
@@ -7,6 +7,7 @@ use lib.ListN.{length, getD}
 use Rattle.refusal.specs.Pick.{pick}
 use Rattle.refusal.specs.Verdict.{firstOf}
 use Rattle.phase_one.specs.Commands.{command, payloadOf, CommandOne, recipient, identity, key, header, done, other, bad}
+use Rattle.tables.specs.Repeats.{repeats}
 use Rattle.tables.specs.Tables.{Table, empty, fits, entered, kept}
 use Rattle.session.specs.Tables.{Tables}
 use Rattle.session.specs.declared.opening.Machine.{Machine}
@@ -14,16 +15,6 @@ use Rattle.session.specs.declared.opening.Machine.{Machine}
 -- header stanza indices never fall: an index is not less than that of the last one accepted
 abbrev pub falls : Table → ℕ → Bool
 falls t index = ltb 0 (t .count) && leb (t .count) (t .width) && ltb index (getD (t .slots) (t .count - 1) empty .index)
-
--- No. 8, no slot or the buffer is too short; for a header stanza No. 7 before it. done and an ignored command need no space
-abbrev pub decidedBy : Tables → CommandOne → ℕ → ℕ → ℕ → ℕ → ℕ → ℕ
-decidedBy t (recipient m) n recipients identities keys headers = pick (fits (t .recipients) n recipients) 0 8
-decidedBy t (identity m) n recipients identities keys headers = pick (fits (t .identities) n identities) 0 8
-decidedBy t key n recipients identities keys headers = pick (fits (t .keys) n keys) 0 8
-decidedBy t (header i m) n recipients identities keys headers = pick (falls (t .headers) i) 7 (pick (fits (t .headers) n headers) 0 8)
-decidedBy t done n recipients identities keys headers = 0
-decidedBy t other n recipients identities keys headers = 0
-decidedBy t (bad k) n recipients identities keys headers = k
 
 -- the four buffers of phase one
 pub record BuffersOne : Type 0 where
@@ -36,9 +27,16 @@ pub record BuffersOne : Type 0 where
 abbrev pub buffersOf : List ℕ → List ℕ → List ℕ → List ℕ → BuffersOne
 buffersOf r i k h = record { recipients = r; identities = i; keys = k; headers = h }
 
--- the decision, by the buffers themselves
-abbrev pub decided : Tables → BuffersOne → CommandOne → ℕ → ℕ
-decided t b c n = decidedBy t c n (length (b .recipients)) (length (b .identities)) (length (b .keys)) (length (b .headers))
+-- No. 8, no slot or the buffer is too short; before it, for a header stanza No. 7, and for a recipient No. 20, "a second recipient whose text equals an earlier
+-- one". done and an ignored command need no space
+abbrev pub decided : Tables → BuffersOne → CommandOne → List ℕ → ℕ
+decided t b (recipient m) p = pick (repeats (t .recipients) (b .recipients) p) 20 (pick (fits (t .recipients) (length p) (length (b .recipients))) 0 8)
+decided t b (identity m) p = pick (fits (t .identities) (length p) (length (b .identities))) 0 8
+decided t b key p = pick (fits (t .keys) (length p) (length (b .keys))) 0 8
+decided t b (header i m) p = pick (falls (t .headers) i) 7 (pick (fits (t .headers) (length p) (length (b .headers))) 0 8)
+decided t b done p = 0
+decided t b other p = 0
+decided t b (bad n) p = n
 
 -- what an accepted command does: one entry more in its kind's table, with its index and its mark; no other table changes
 abbrev pub applied : Tables → BuffersOne → CommandOne → List ℕ → Tables
@@ -105,7 +103,7 @@ payloadIn machine plugin line body = payloadOf (commandIn machine plugin line bo
 
 -- its number
 abbrev pub numberOne : Machine → List ℕ → Tables → BuffersOne → ℕ → List ℕ → List ℕ → ℕ
-numberOne machine plugin t b late line body = firstOf (decided t b (commandIn machine plugin line body) (length (payloadIn machine plugin line body))) late
+numberOne machine plugin t b late line body = firstOf (decided t b (commandIn machine plugin line body) (payloadIn machine plugin line body)) late
 
 -- the tables afterwards
 abbrev pub tablesOne : Machine → List ℕ → Tables → BuffersOne → ℕ → List ℕ → List ℕ → Tables

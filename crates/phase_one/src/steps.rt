@@ -11,6 +11,7 @@ ghost use Rattle.bech32.specs.Text.{parse};
 ghost use Rattle.bech32.specs.Calls.{formOf, markOf};
 ghost use Rattle.profile.specs.Profile.{checked};
 ghost use Rattle.tables.specs.Bodies.{bodyFrom};
+ghost use Rattle.tables.specs.Repeats.{repeats};
 ghost use Rattle.tables.specs.Slots.{areApart, slotsOf};
 ghost use Rattle.tables.specs.declared.slots.Span.{Span as AnySpan};
 ghost use Rattle.tables.specs.Tables.{tableIn, storing, entered, kept};
@@ -109,6 +110,48 @@ fn keep_text(
     let text = stanza::argument(line, 1);
     let mark = text_mark(kind, text, plugin);
     table.store(span, late, Coding::Bytes, text, 0, mark, slots, buffer)
+}
+
+// A recipient kept. 20 before 8.
+fn keep_recipient(
+    table: Table,
+    plugin: &[u8],
+    late: Verdict,
+    line: &[u8],
+    slots: &mut [[usize; 4]],
+    buffer: &mut [u8],
+) -> Stored
+    ensures number { λ r. ⌜ verdictSaid (r .verdict) ≡
+        pick (repeats (tableIn (spanOf Kind.Recipients) table (now (slots .entry))) (now (buffer .entry)) (argumentOf (now (line .entry)) 1)) 20
+        (storing (tableIn (spanOf Kind.Recipients) table (now (slots .entry))) (length (argumentOf (now (line .entry)) 1)) (length (now (buffer .entry)))
+        (verdictSaid late)) ⌝ }
+    ensures table { λ r. ⌜ tableIn (spanOf Kind.Recipients) (r .table) (now (slots .exit)) ≡
+        pick (eqb (verdictSaid (r .verdict)) 0) (entered (tableIn (spanOf Kind.Recipients) table (now (slots .entry)))
+        (length (argumentOf (now (line .entry)) 1)) 0 (markOf (parse (formOf TextKind.Recipient) (argumentOf (now (line .entry)) 1)) (now (plugin .entry)))
+        (length (now (buffer .entry)))) (tableIn (spanOf Kind.Recipients) table (now (slots .entry))) ⌝ }
+    ensures others { λ r. ⌜ ((k : AnySpan) → areApart (spanOf Kind.Recipients) k ≡ true → slotsOf k (now (slots .exit)) ≡ slotsOf k (now (slots .entry))) ⌝ }
+    ensures buffer { λ r. ⌜ now (buffer .exit) ≡
+        pick (eqb (verdictSaid (r .verdict)) 0) (kept (tableIn (spanOf Kind.Recipients) table (now (slots .entry))) (argumentOf (now (line .entry)) 1)
+        (now (buffer .entry))) (now (buffer .entry)) ⌝ }
+{
+    let span = span_of(Kind::Recipients);
+    let text = stanza::argument(line, 1);
+    if table.is_repeated(span, text, slots, buffer) {
+        return Stored {
+            verdict: Verdict::Refused(Refusal::Repeated),
+            table: table,
+        };
+    }
+    keep_text(
+        TextKind::Recipient,
+        table,
+        span,
+        plugin,
+        late,
+        line,
+        slots,
+        buffer,
+    )
 }
 
 // A header stanza kept: its payload is its tag and arguments, an LF and its body, of `n` bytes. 7 before 8.
@@ -215,17 +258,7 @@ pub fn step_one(
     match command {
         CommandOne::Recipient => {
             let t = tables.recipients;
-            let span = span_of(Kind::Recipients);
-            let stored = keep_text(
-                TextKind::Recipient,
-                t,
-                span,
-                plugin,
-                late,
-                line,
-                slots,
-                recipients,
-            );
+            let stored = keep_recipient(t, plugin, late, line, slots, recipients);
             stepped(command, tables, Kind::Recipients, stored)
         }
         CommandOne::Identity => {

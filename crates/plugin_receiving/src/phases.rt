@@ -57,8 +57,8 @@ fn dropped(kept: usize, came: usize) -> Verdict
     Verdict::Refused(Refusal::OutOfTurn)
 }
 
-// A chunk received: its stanzas one by one, with those that began in earlier chunks. 13, 14, 1, 3, 4, 5, 7, 8, 12 or 15 where it is refused; the stanzas before
-// the fault are taken all the same, but for 15, which leaves everything as it was.
+// A chunk received: its stanzas one by one, with those that began in earlier chunks. 13, 14, 1, 3, 4, 5, 7, 8, 12, 15 or 20 where it is refused; the stanzas
+// before the fault are taken all the same, but for 15, which leaves everything as it was.
 pub fn receive(
     session: Session,
     chunk: &[u8],

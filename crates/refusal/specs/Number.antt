@@ -1,7 +1,7 @@
 -- Document 01, "Numbers given back", and document 02: the number of each fault.
 use Prim.Native.Nat.{ℕ}
 use Rattle.refusal.specs.declared.Refusal.{Refusal}
-use Rattle.refusal.specs.declared.Refusal.the-variants.{NotStanza, Unfinished, TooLong, BadCommand, BadIndex, NoSuchIndex, FallingIndex, NoSpace, SecondKey, TooManyStanzas, WorkAndError, UnfitResponse, SessionOver, OutOfTurn, ShortOutput, Malformed, Unwritable, NoSuchMachine, HeldBack, BadChecksum, LeftoverBits}
+use Rattle.refusal.specs.declared.Refusal.the-variants.{NotStanza, Unfinished, TooLong, BadCommand, BadIndex, NoSuchIndex, FallingIndex, NoSpace, SecondKey, TooManyStanzas, WorkAndError, UnfitResponse, SessionOver, OutOfTurn, ShortOutput, Malformed, Unwritable, NoSuchMachine, HeldBack, Repeated, BadChecksum, LeftoverBits}
 
 -- the first column of the paper's table, and the requests' numbers
 abbrev pub numberOf : Refusal → ℕ
@@ -24,5 +24,6 @@ numberOf Malformed = 16
 numberOf Unwritable = 17
 numberOf NoSuchMachine = 18
 numberOf HeldBack = 19
+numberOf Repeated = 20
 numberOf BadChecksum = 21
 numberOf LeftoverBits = 22

@@ -43,6 +43,8 @@ pub enum Refusal {
     NoSuchMachine,
     // 19: the plugin end holds the command back
     HeldBack,
+    // 20: a recipient whose text is an earlier one's
+    Repeated,
     // 21: a recipient's (or identity's) checksum that fails
     BadChecksum,
     // 22: bits left over behind its payload
@@ -85,6 +87,7 @@ pub fn number(r: Refusal) -> u8
         Refusal::Unwritable => 17,
         Refusal::NoSuchMachine => 18,
         Refusal::HeldBack => 19,
+        Refusal::Repeated => 20,
         Refusal::BadChecksum => 21,
         Refusal::LeftoverBits => 22,
     }

@@ -23,7 +23,7 @@ fn is_closing(refusal: Refusal) -> bool
 {
     let n = refusal::number(refusal);
     if 12 < n {
-        return false;
+        return n == 20;
     }
     n != 2
 }

@@ -11,6 +11,7 @@ ghost use Rattle.refusal.specs.Verdict.{verdictSaid};
 ghost use Rattle.tables.specs.Bodies.{bodyFrom};
 ghost use Rattle.tables.specs.Slots.{areApart, slotsOf};
 ghost use Rattle.tables.specs.declared.slots.Span.{Span as AnySpan};
+ghost use Rattle.tables.specs.Repeats.{repeats};
 ghost use Rattle.tables.specs.Tables.{tableIn, storing, entered, kept, foundSaid, found, shown, partOf};
 use crate::copying::Coding;
 use crate::copying::body_size;
@@ -20,6 +21,7 @@ use crate::slots::Entry;
 use crate::slots::Span;
 use crate::slots::entry_at;
 use crate::slots::put_entry;
+use crate::slots::slots_in;
 use refusal::Refusal;
 use refusal::Verdict;
 
@@ -73,6 +75,47 @@ impl Table {
             return Found::Nothing;
         }
         Found::Entry(entry_at(span, n, slots))
+    }
+
+    // Whether an entry already shows a text. One that the buffer is too short for shows none.
+    pub fn is_repeated(self, span: Span, text: &[u8], slots: &[[usize; 4]], buffer: &[u8]) -> bool
+        ensures { λ r. ⌜ r ≡ repeats (tableIn span self (now (slots .entry))) (now (buffer .entry)) (now (text .entry)) ⌝ }
+    {
+        let count = self.count;
+        let first = span.first;
+        let there = slots_in(span, slots);
+        let mut i: usize = 0;
+        let found = 'entries: loop {
+            if count <= i {
+                break 'entries false;
+            }
+            if there <= i {
+                break 'entries false;
+            }
+            let at = first + i;
+            let slot = slots[at];
+            i += 1;
+            let start = slot[0];
+            let length = slot[1];
+            if length != text.len() {
+                continue 'entries;
+            }
+            if buffer.len() < length {
+                continue 'entries;
+            }
+            if buffer.len() - length < start {
+                continue 'entries;
+            }
+            let mut k: usize = 0;
+            while k < length {
+                if buffer[start + k] != text[k] {
+                    continue 'entries;
+                }
+                k += 1;
+            }
+            break 'entries true;
+        };
+        found
     }
 
     // One entry more, of n bytes of a buffer of `capacity` bytes. 8 where it does not fit, then the late fault: table and slots stay as they were.

@@ -17,10 +17,12 @@ use Rattle.session.specs.Session.{Session, closed, opened}
 use Rattle.session.specs.declared.words.WordTwo.{WordTwo}
 use Rattle.session.specs.declared.phases.Phase.{Phase}
 use Rattle.session.specs.declared.phases.Phase.the-variants.{One, Two, Awaiting, Ended, Closed}
+use Rattle.phase_one.specs.Views.{recipients}
 use Rattle.conversation.specs.Calls as one-call
 use Rattle.conversation.specs.Calls.{Call, send, send-two, outcome, writtenBy, acceptedRows}
 use Rattle.conversation.specs.Answers.{events, Paired}
-use Rattle.conversation.specs.Kinds.{AnyKind, Buffers, viewOf}
+use Rattle.conversation.specs.Allowed.{Distinct}
+use Rattle.conversation.specs.Kinds.{AnyKind, first, Buffers, viewOf}
 use Rattle.conversation.specs.Phases.{All}
 use Rattle.conversation.specs.Replying.{numberReplied}
 use Rattle.conversation.specs.TurnsTwo.{answered}
@@ -29,6 +31,7 @@ use Rattle.conversation.proofs.Laws.Refusals.{either, refusal}
 use Rattle.conversation.proofs.Laws.Runs.{after-append}
 use Rattle.conversation.proofs.Laws.StepsTwo.{all-written}
 use Rattle.conversation.proofs.Laws.Tables.{tables-opened}
+use Rattle.conversation.proofs.Laws.Twice.{recipients-differ}
 use Rattle.chunks.specs.Cutting.{Rest, unfinished, impossible, bytesOf, cut}
 use Rattle.chunks.specs.Taking.{End, client, plugin, Turn, reads, drops, keeps-back, turnAt, ample, stanzaCall, awaitedBehind, Intake, Taken, lastIn, noMore, emptied, oneMore, joined, takenRest, takenBy, takenAll}
 use Rattle.chunks.specs.Chunks.{Outcome, isHeld, taken, turnOf, chunked, takenBack, replied}
@@ -303,6 +306,11 @@ module _ (e : End) (machine name : List ℕ) (screen : Bool) (b : Buffers) (cs :
   -- tables: of any calls from an opening, each kind's table is exactly the accepted commands of that kind, in order
   pub any-tables : (k : AnyKind) → viewOf k (behind-calls .intake .session .tables) (behind-calls .buffers) ≡ acceptedRows k start-session b stanza-calls
   any-tables k = ap₂ (λ (s : Session) b. viewOf k (s .tables) b) (comes-to .session) (comes-to .buffers) ∙ tables-opened k machine name screen b stanza-calls
+
+  -- the same recipient twice: of any calls from an opening, each lent the buffers as the one before left them, no two recipients have the same text
+  pub any-recipients : Distinct (viewOf (first recipients) (behind-calls .intake .session .tables) (behind-calls .buffers))
+  any-recipients =
+      subst Distinct (sym (ap₂ (λ (s : Session) b. viewOf (first recipients) (s .tables) b) (comes-to .session) (comes-to .buffers))) (recipients-differ machine name screen b stanza-calls)
 
   -- answers: where the conversation has ended, each accepted command of phase two but done has its response directly behind it, and the response fits
   pub any-answers : behind-calls .intake .session .phase ≡ Ended → Paired (events start-session b stanza-calls)

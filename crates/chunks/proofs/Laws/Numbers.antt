@@ -1,4 +1,4 @@
--- The numbers that the stanzas of a chunk give: what holds of 0, 1 and 3 to 12 holds of each, since the output of `ample` is long enough for any.
+-- The numbers that the stanzas of a chunk give: what holds of 0, 1, 3 to 12 and 20 holds of each, since the output of `ample` is long enough for any.
 use Prim.Native.Nat.{ℕ, _≤_}
 use mathlib.Core.Path.{_≡_, refl, sym, ap, subst, _∙_}
 use mathlib.Core.Bool.{Bool, true, false}
@@ -24,6 +24,7 @@ use Rattle.session.specs.Phases.{closes}
 use Rattle.session.specs.Session.{Session}
 use Rattle.session.specs.Tables.{Tables}
 use Rattle.session.specs.declared.opening.Machine.{Machine}
+use Rattle.tables.specs.Repeats.{repeats}
 use Rattle.tables.specs.Tables.{fits}
 use Rattle.phase_one.specs.Commands as one-command
 use Rattle.phase_one.specs.PhaseOne as one
@@ -118,14 +119,16 @@ module _ (P : ℕ → Type 0) (low : (n : ℕ) → T (closes n) → P n) where
   fault n h = ⊎-elim (λ q. subst P (sym (q .0)) (low 4 tt)) (λ q. subst P (sym (q .0)) (low 5 tt)) h
 
   -- what is decided of a command of phase one
-  decided-one : (machine : Machine) (line body : List ℕ) (c : one-command.CommandOne) → SaidOne machine line body c → (t : Tables) (b : one.BuffersOne) (n : ℕ) → P (one.decided t b c n)
-  decided-one machine l y (one-command.recipient m) said t b n = by (fits (t .recipients) n (length (b .recipients))) 0 8 (low 0 tt) (low 8 tt)
-  decided-one machine l y (one-command.identity m) said t b n = by (fits (t .identities) n (length (b .identities))) 0 8 (low 0 tt) (low 8 tt)
-  decided-one machine l y one-command.key said t b n = by (fits (t .keys) n (length (b .keys))) 0 8 (low 0 tt) (low 8 tt)
-  decided-one machine l y (one-command.header j m) said t b n = by (one.falls (t .headers) j) 7 (pick (fits (t .headers) n (length (b .headers))) 0 8) (low 7 tt) (by (fits (t .headers) n (length (b .headers))) 0 8 (low 0 tt) (low 8 tt))
-  decided-one machine l y one-command.done said t b n = low 0 tt
-  decided-one machine l y one-command.other said t b n = low 0 tt
-  decided-one machine l y (one-command.bad m) said t b n = fault m said
+  decided-one : (machine : Machine) (line body : List ℕ) (c : one-command.CommandOne) → SaidOne machine line body c → (t : Tables) (b : one.BuffersOne) (p : List ℕ) → P (one.decided t b c p)
+  decided-one machine l y (one-command.recipient m) said t b p =
+      by (repeats (t .recipients) (b .recipients) p) 20 (pick (fits (t .recipients) (length p) (length (b .recipients))) 0 8) (low 20 tt) (by (fits (t .recipients) (length p) (length (b .recipients))) 0 8 (low 0 tt) (low 8 tt))
+  decided-one machine l y (one-command.identity m) said t b p = by (fits (t .identities) (length p) (length (b .identities))) 0 8 (low 0 tt) (low 8 tt)
+  decided-one machine l y one-command.key said t b p = by (fits (t .keys) (length p) (length (b .keys))) 0 8 (low 0 tt) (low 8 tt)
+  decided-one machine l y (one-command.header j m) said t b p =
+      by (one.falls (t .headers) j) 7 (pick (fits (t .headers) (length p) (length (b .headers))) 0 8) (low 7 tt) (by (fits (t .headers) (length p) (length (b .headers))) 0 8 (low 0 tt) (low 8 tt))
+  decided-one machine l y one-command.done said t b p = low 0 tt
+  decided-one machine l y one-command.other said t b p = low 0 tt
+  decided-one machine l y (one-command.bad m) said t b p = fault m said
 
   -- .. of one of phase two
   fault-two : (machine : Machine) (line body : List ℕ) (c : CommandTwo) → SaidTwo machine line body c → P (two.faultOf c)

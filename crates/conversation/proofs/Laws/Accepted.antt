@@ -65,7 +65,7 @@ pub record Written (text out : List ℕ) (o : Outcome) : Type 0 where
 pub record Applied (s : Session) (b : one.BuffersOne) (line body : List ℕ) (after : Session) (buffers-after : one.BuffersOne) : Type 0 where
   pub turn : s .phase ≡ One
   pub argued : isLine line ≡ true
-  pub faultless : one.decided (s .tables) b (commandIn (s .machine) (s .name) line body) (length (payloadIn (s .machine) (s .name) line body)) ≡ 0
+  pub faultless : one.decided (s .tables) b (commandIn (s .machine) (s .name) line body) (payloadIn (s .machine) (s .name) line body) ≡ 0
   pub session : after ≡ moved s (phaseAfter (commandIn (s .machine) (s .name) line body)) (one.applied (s .tables) b (commandIn (s .machine) (s .name) line body) (payloadIn (s .machine) (s .name) line body))
   pub buffers : buffers-after ≡ one.filledBy (s .tables) b (commandIn (s .machine) (s .name) line body) (payloadIn (s .machine) (s .name) line body)
 
@@ -184,7 +184,7 @@ one-applied s b late line body o a h =
     record {
       turn = o;
       argued = a;
-      faultless = first-zero (one.decided (s .tables) b c (length (payloadIn (s .machine) (s .name) line body))) late z;
+      faultless = first-zero (one.decided (s .tables) b c (payloadIn (s .machine) (s .name) line body)) late z;
       session = ap (moved s (phaseAfter c)) (sym (w .0));
       buffers = sym (w .1);
     }
@@ -243,7 +243,7 @@ module _ (s : Session) (b : Buffers) where
         writable = w;
         second = refl;
         written = record {
-          fits = short-none (overflows text out) (first-iff (one.decided (s .tables) (b .first) (commandIn (s .machine) (s .name) line body) (length (payloadIn (s .machine) (s .name) line body))) late .0 (eqb-true n 0 f) .1);
+          fits = short-none (overflows text out) (first-iff (one.decided (s .tables) (b .first) (commandIn (s .machine) (s .name) line body) (payloadIn (s .machine) (s .name) line body)) late .0 (eqb-true n 0 f) .1);
           output = refl;
           size = refl;
         };

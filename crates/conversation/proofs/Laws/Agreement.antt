@@ -7,7 +7,8 @@ use lib.Dec.{eqb, leb, ltb}
 use lib.ListN.{length, take, drop, take-append-drop}
 use lib.Pow.{areBytes}
 use lib.Seq.{take-append-seam}
-use borrow.Author.Tests.{eq-eqb, le-leb}
+use native.Mathlib.Omega.{arith}
+use borrow.Author.Tests.{eq-eqb, le-leb, leb-true}
 use Rattle.refusal.specs.Output.{bytes, overflows, filled}
 use Rattle.refusal.specs.Pick.{pick}
 use Rattle.refusal.proofs.Laws.Booleans.{and-true, true-and}
@@ -16,15 +17,17 @@ use Rattle.stanza.specs.Grammar.{stanzaText}
 use Rattle.stanza.specs.Reading.{readFirst}
 use Rattle.stanza.specs.Writing.{isWritable}
 use Rattle.stanza.proofs.Laws.RoundTrip.{read-written, read-arguments, read-body}
-use Rattle.tables.specs.Tables.{Table, fits, appended, entered}
+use Rattle.tables.specs.Repeats.{repeats}
+use Rattle.tables.specs.Tables.{Table, fits, appended, entered, view}
+use Rattle.tables.proofs.Laws.Tables.{Kept}
 use Rattle.phase_one.specs.Commands.{CommandOne, recipient, identity, key, header, done, other, bad, WordOne, wordOf, lineSent}
 use Rattle.session.specs.Tables.{Tables}
 use Rattle.phase_one.specs.PhaseOne.{BuffersOne, commandIn, payloadIn, falls, decided, applied, numberOne}
 use Rattle.refusal.specs.Verdict.{firstOf}
 use Rattle.phase_one.specs.Turns.{turnOne}
-use Rattle.phase_one.specs.Views.{KindOne, recipients, identities, keys, headers, tableOf, bufferOf, rowsOf}
+use Rattle.phase_one.specs.Views.{KindOne, recipients, identities, keys, headers, tableOf, bufferOf, viewOf, rowsOf}
 use Rattle.session.specs.declared.phases.Phase.the-variants.{One}
-use Rattle.phase_one.proofs.Laws.Views.{Reached, space, header-space}
+use Rattle.phase_one.proofs.Laws.Views.{Reached, space, recipient-space, header-space}
 use Rattle.session.specs.Session.{Session, opened}
 use Rattle.conversation.specs.Agreement.{Alike, Agreed, SameViews}
 use Rattle.conversation.specs.Receiving.{took, Received, refusedReceipt, receivedStanza, receivedAs, received}
@@ -33,6 +36,7 @@ use Rattle.conversation.specs.Kinds as kinds
 use Rattle.conversation.specs.PhaseTwo as two
 use Rattle.conversation.specs.Calls.{sentNumber, sentSize, sentOutcome, send}
 use Rattle.conversation.proofs.Laws.Accepted.{Applied, AppliedOne, applied-rows, one-applied, accepted}
+use Rattle.conversation.proofs.Laws.Limits.{Without, no-repeat}
 
 -- ---- the decision again, with other buffers that are long enough
 
@@ -42,16 +46,26 @@ fits-again t n index mark c c′ f h =
     let u : t .used + n ≤ c′ = subst (λ g. pick g (appended t n index mark) t .used ≤ c′) f h in
     true-and (ltb (t .count) (t .width)) (leb (t .used + n) c′) (and-true (ltb (t .count) (t .width)) (leb (t .used + n) c) f .0) (le-leb (t .used + n) c′ u) ∙ sym f
 
-module _ (t : Tables) (b b′ : BuffersOne) (p : List ℕ) where
+-- one kind: what the one end's buffer does not show the other's does not, where both are long enough for the entries and show the same rows
+repeats-again : (t : Table) (b b′ p : List ℕ) → Kept t → t .used ≤ length b → t .used ≤ length b′ → view t b ≡ view t b′ → repeats t b p ≡ false → repeats t b′ p ≡ false
+repeats-again t b b′ p k u u′ v f = no-repeat t b′ p k u′ .1 (subst (Without p) v (no-repeat t b p k u .0 f))
+
+module _ (t : Tables) (b b′ : BuffersOne) (p : List ℕ) (j : Reached t) (v : viewOf recipients t b ≡ viewOf recipients t b′) where
   -- the other end's buffers are long enough for what the tables then take
   abbrev Enough : CommandOne → Type 0
   Enough c = (k : KindOne) → tableOf k (applied t b c p) .used ≤ length (bufferOf k b′)
 
   -- the same number, and the same tables
-  again : (c : CommandOne) → decided t b c (length p) ≡ 0 → Enough c → (decided t b′ c (length p) ≡ 0) × (applied t b′ c p ≡ applied t b c p)
+  again : (c : CommandOne) → decided t b c p ≡ 0 → Enough c → (decided t b′ c p ≡ 0) × (applied t b′ c p ≡ applied t b c p)
+  unfolding Reached
   again (recipient m) h r =
-      let e = fits-again (t .recipients) (length p) 0 m (length (b .recipients)) (length (b′ .recipients)) (space (fits (t .recipients) (length p) (length (b .recipients))) h) (r recipients) in
-      (ap (λ x. pick x 0 8) e ∙ h, rw e)
+      let z = recipient-space (repeats (t .recipients) (b .recipients) p) (fits (t .recipients) (length p) (length (b .recipients))) h in
+      let e = fits-again (t .recipients) (length p) 0 m (length (b .recipients)) (length (b′ .recipients)) (z .0) (r recipients) in
+      let f = repeats-again (t .recipients) (b .recipients) (b′ .recipients) p (j recipients .kept-so) (room (t .recipients) (length p) (length (b .recipients)) (z .0)) (room (t .recipients) (length p) (length (b′ .recipients)) (e ∙ z .0)) v (z .1) in
+      (rw (f, e, z .0), rw e)
+    where
+      room : (t : Table) (n c : ℕ) → fits t n c ≡ true → t .used ≤ c
+      room t n c f = omega (arith, leb-true (t .used + n) c (and-true (ltb (t .count) (t .width)) (leb (t .used + n) c) f .1))
   again (identity m) h r =
       let e = fits-again (t .identities) (length p) 0 m (length (b .identities)) (length (b′ .identities)) (space (fits (t .identities) (length p) (length (b .identities))) h) (r identities) in
       (ap (λ x. pick x 0 8) e ∙ h, rw e)
@@ -81,7 +95,7 @@ module _ (s : Session) (b : BuffersOne) (line body : List ℕ) where
   TookAs k r = (r .answer ≡ took (wordOf (commandIn (s .machine) (s .name) line body)) k) × Applied s b line body (r .session) (r .buffers)
 
   -- a stanza in which the decision finds no fault
-  stanza-took : (k : ℕ) → s .phase ≡ One → isLine line ≡ true → decided (s .tables) b (commandIn (s .machine) (s .name) line body) (length (payloadIn (s .machine) (s .name) line body)) ≡ 0 →
+  stanza-took : (k : ℕ) → s .phase ≡ One → isLine line ≡ true → decided (s .tables) b (commandIn (s .machine) (s .name) line body) (payloadIn (s .machine) (s .name) line body) ≡ 0 →
       TookAs k (receivedStanza s b line body k)
   unfolding receivedStanza
   stanza-took k o l h =
@@ -98,10 +112,10 @@ module _ (s : Session) (b : BuffersOne) (line body : List ℕ) where
 abbrev lent : BuffersOne → kinds.Buffers
 lent b = kinds.buffersOf b (two.buffersOf [] [] [])
 
--- a sending and its receipt agree; and where the client's tables are reached, views that were equal are equal again
-record Both (s s′ : Session) (b b′ : BuffersOne) (line body : List ℕ) (n : ℕ) (r : Sent) (r′ : Received) : Type 0 where
+-- a sending and its receipt agree, and the views that were equal are equal again
+record Both (s : Session) (line body : List ℕ) (n : ℕ) (r : Sent) (r′ : Received) : Type 0 where
   agreed : Agreed s line body n r r′
-  views : Reached (s .tables) → SameViews s b s′ b′ → SameViews (r .session) (r .buffers) (r′ .session) (r′ .buffers)
+  views : SameViews (r .session) (r .buffers) (r′ .session) (r′ .buffers)
 
 -- the plugin's session is the client's with a screen of its own
 alike-is : (s s′ : Session) → Alike s s′ → _≡_ {A = Session} (record { machine = s .machine; name = s .name; screen = s′ .screen; phase = s .phase; tables = s .tables }) s′
@@ -112,16 +126,16 @@ front : (text out : List ℕ) → overflows text out ≡ false → take (length 
 front text out e = ap (λ f. take (length text) (pick f out (text ++ drop (length text) out))) e ∙ take-append-seam text (drop (length text) out)
 
 module _ (s : Session) (b b′ : BuffersOne) (line body out : List ℕ) (n : ℕ) (r : Sent) where
-  agreed-like : (screen : Bool) (rest : List ℕ) → areBytes body ≡ true → AppliedOne s (lent b) line body (stanzaText line body) out (sentOutcome (lent b .second) r) → r .answer ≡ bytes n →
+  agreed-like : (screen : Bool) (rest : List ℕ) → Reached (s .tables) → ((k : KindOne) → viewOf k (s .tables) b ≡ viewOf k (s .tables) b′) → areBytes body ≡ true → AppliedOne s (lent b) line body (stanzaText line body) out (sentOutcome (lent b .second) r) → r .answer ≡ bytes n →
       ((k : KindOne) → tableOf k (r .session .tables) .used ≤ length (bufferOf k b′)) →
       let s′ : Session = record { machine = s .machine; name = s .name; screen = screen; phase = s .phase; tables = s .tables } in
-      Both s s′ b b′ line body n r (received s′ (stanzaText line body ++ rest) b′)
-  agreed-like screen rest a w q l =
+      Both s line body n r (received s′ (stanzaText line body ++ rest) b′)
+  agreed-like screen rest j v a w q l =
       let s′ : Session = record { machine = s .machine; name = s .name; screen = screen; phase = s .phase; tables = s .tables } in
       let r′ : Received = received s′ (stanzaText line body ++ rest) b′ in
       let p : Applied s b line body (r .session) (r .buffers) = w .applied in
       let m : n ≡ length (stanzaText line body) = sym (ap sentSize q) ∙ w .written .size in
-      let g = again (s .tables) b b′ (payloadIn (s .machine) (s .name) line body) (commandIn (s .machine) (s .name) line body) (p .faultless) (λ k. subst (λ x. tableOf k (x .tables) .used ≤ length (bufferOf k b′)) (p .session) (l k)) in
+      let g = again (s .tables) b b′ (payloadIn (s .machine) (s .name) line body) j (v recipients) (commandIn (s .machine) (s .name) line body) (p .faultless) (λ k. subst (λ x. tableOf k (x .tables) .used ≤ length (bufferOf k b′)) (p .session) (l k)) in
       let h : TookAs s′ b′ line body (length (stanzaText line body)) r′ =
       subst (TookAs s′ b′ line body (length (stanzaText line body))) (sym (text-received s′ b′ line body rest (p .turn) (w .writable) a)) (stanza-took s′ b′ line body (length (stanzaText line body)) (p .turn) (p .argued) (g .0)) in
       let p′ = h .1 in
@@ -136,28 +150,29 @@ module _ (s : Session) (b b′ : BuffersOne) (line body out : List ℕ) (n : ℕ
             tables = ap (λ x. x .tables) (p .session) ∙ sym (g .1) ∙ sym (ap (λ x. x .tables) (p′ .session));
           };
         };
-        views = λ j v k.
+        views = λ k.
             applied-rows s b line body (r .session) (r .buffers) p j k ∙ ap (λ l. l ++ rowsOf (commandIn (s .machine) (s .name) line body) k (payloadIn (s .machine) (s .name) line body)) (v k)
             ∙ sym (applied-rows s′ b′ line body (r′ .session) (r′ .buffers) p′ j k);
       }
 
-module _ (s s′ : Session) (b b′ : BuffersOne) (word : WordOne) (arguments body out text : List ℕ) (n : ℕ) (a : Alike s s′) (y : areBytes body ≡ true)
+module _ (s s′ : Session) (b b′ : BuffersOne) (word : WordOne) (arguments body out text : List ℕ) (n : ℕ) (a : Alike s s′) (j : Reached (s .tables)) (v : SameViews s b s′ b′) (y : areBytes body ≡ true)
     (q : sent s word arguments body b out .answer ≡ bytes n) (e : take n text ≡ take n (sent s word arguments body b out .output))
     (l : (k : KindOne) → tableOf k (sent s word arguments body b out .session .tables) .used ≤ length (bufferOf k b′)) where
-  both : Both s s′ b b′ (lineSent word arguments) body n (sent s word arguments body b out) (received s′ text b′)
+  both : Both s (lineSent word arguments) body n (sent s word arguments body b out) (received s′ text b′)
   both =
       let r = sent s word arguments body b out in
       let line = lineSent word arguments in
-      let g = agreed-like s b b′ line body out n r (s′ .screen) (drop n text) y (accepted s (lent b) (send word arguments body out) (ap sentNumber q)) q l in
+      let g = agreed-like s b b′ line body out n r (s′ .screen) (drop n text) j (λ k. v k ∙ ap (λ t. viewOf k t b′) (sym (a .tables))) y (accepted s (lent b) (send word arguments body out) (ap sentNumber q)) q l in
       let f : stanzaText line body ++ drop n text ≡ text = ap (λ x. x ++ drop n text) (sym (e ∙ g .agreed .written)) ∙ take-append-drop n text in
-      subst (λ x. Both s s′ b b′ line body n r (received s′ x b′)) f (subst (λ x. Both s x b b′ line body n r (received x (stanzaText line body ++ drop n text) b′)) (alike-is s s′ a) g)
+      subst (λ x. Both s line body n r (received s′ x b′)) f (subst (λ x. Both s line body n r (received x (stanzaText line body ++ drop n text) b′)) (alike-is s s′ a) g)
 
-  -- what the client sends the plugin accepts, at the front of any text that begins with it, where each of its buffers is long enough for what the client's table takes
+  -- what the client sends the plugin accepts, at the front of any text that begins with it, where their tables show the same and each of its buffers is long enough for
+  -- what the client's table takes
   pub agreement : Agreed s (lineSent word arguments) body n (sent s word arguments body b out) (received s′ text b′)
   agreement = both .agreed
 
-  -- and their tables show the same, where they did before
-  pub views-agree : Reached (s .tables) → SameViews s b s′ b′ →
+  -- and their tables show the same again
+  pub views-agree :
       SameViews (sent s word arguments body b out .session) (sent s word arguments body b out .buffers) (received s′ text b′ .session) (received s′ text b′ .buffers)
   views-agree = both .views
 

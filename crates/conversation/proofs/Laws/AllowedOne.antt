@@ -19,7 +19,7 @@ use Rattle.conversation.specs.Kinds as kinds
 use Rattle.conversation.specs.PhaseTwo as two
 use Rattle.conversation.specs.Calls.{receive, outcome, State, after, numbers, AllZero, Accepted}
 use Rattle.conversation.specs.Phases.{All, Whole, isDone, commandOf, rowsFrom, one-part, Block, Phase, blocksOf, Quiet, IsPhase, Supply, skip, replyCalls, callsOf, textsOf}
-use Rattle.conversation.specs.Allowed.{isRight, rowsIn, Rising, Allowed}
+use Rattle.conversation.specs.Allowed.{isRight, rowsIn, Rising, Distinct, Allowed}
 use Rattle.conversation.proofs.Laws.Lists.{all-map}
 use Rattle.conversation.proofs.Laws.Limits.{Ordered, Within, within-front}
 use Rattle.conversation.proofs.Laws.Steps.{Going, Fitting, payload, judged, tablesWith, buffersWith, judged-iff, view-with, length-with, going-with, going, number-received, tables-received, buffers-received, session-received}
@@ -141,8 +141,8 @@ module _ (machine : Machine) (name : List ℕ) where
 
 -- ---- from an opening
 
-opened-going : (b : BuffersOne) → Going openedTables b
-unfolding Reached Rising
+pub opened-going : (b : BuffersOne) → Going openedTables b
+unfolding Reached Rising Distinct
 opened-going b recipients = record { reached = opened-reached recipients; wide = refl; room = omega arith; ordered = tt }
 opened-going b identities = record { reached = opened-reached identities; wide = refl; room = omega arith; ordered = tt }
 opened-going b keys = record { reached = opened-reached keys; wide = refl; room = omega arith; ordered = tt }
@@ -154,11 +154,11 @@ opened-none b identities rs = refl
 opened-none b keys rs = refl
 opened-none b headers rs = refl
 
-allowed-ordered : (rows : KindOne → List Row) → Rising (rows headers) → (k : KindOne) → Ordered k (rows k)
-allowed-ordered rows h recipients = tt
-allowed-ordered rows h identities = tt
-allowed-ordered rows h keys = tt
-allowed-ordered rows h headers = h
+allowed-ordered : (rows : KindOne → List Row) → Rising (rows headers) → Distinct (rows recipients) → (k : KindOne) → Ordered k (rows k)
+allowed-ordered rows h d recipients = d
+allowed-ordered rows h d identities = tt
+allowed-ordered rows h d keys = tt
+allowed-ordered rows h d headers = h
 
 -- ---- a phase
 
@@ -192,8 +192,8 @@ module _ (machine : Machine) (name : List ℕ) (screen : Bool) (b : kinds.Buffer
     texts-iff =
         let i = from-iff machine name screen (b .second) xs y openedTables (b .first) (opened-going (b .first)) w d in (
           λ a. let f : (k : KindOne) → Within k (length (bufferOf k (b .first))) (rowsIn machine name k texts) = λ k. within-same refl (none-yet k) (i .0 a .1 k) in
-              record { right = i .0 a .0; slots = λ k. f k .slots; bytes = λ k. f k .bytes; rising = f headers .ordered },
-          λ a. i .1 (a .right, λ k. within-same refl (sym (none-yet k)) (record { slots = a .slots k; bytes = a .bytes k; ordered = allowed-ordered (λ k. rowsIn machine name k texts) (a .rising) k })),
+              record { right = i .0 a .0; slots = λ k. f k .slots; bytes = λ k. f k .bytes; rising = f headers .ordered; distinct = f recipients .ordered },
+          λ a. i .1 (a .right, λ k. within-same refl (sym (none-yet k)) (record { slots = a .slots k; bytes = a .bytes k; ordered = allowed-ordered (λ k. rowsIn machine name k texts) (a .rising) (a .distinct) k })),
         )
 
     texts-tables : Accepted start b (map receive texts) → Holds machine name texts (after start b (map receive texts))

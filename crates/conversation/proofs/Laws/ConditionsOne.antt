@@ -10,7 +10,9 @@ use borrow.Author.Tests.{eqb-true}
 use Rattle.refusal.specs.Pick.{pick}
 use Rattle.refusal.specs.Verdict.{firstOf}
 use Rattle.refusal.proofs.Laws.Booleans.{cases}
+use Rattle.tables.specs.Repeats.{repeats}
 use Rattle.tables.specs.Tables.{Row, fits}
+use Rattle.tables.proofs.Laws.Repeats.{repeats-iff}
 use Rattle.session.specs.Session.{Session}
 use Rattle.session.specs.Tables.{Tables}
 use Rattle.phase_one.specs.Commands.{CommandOne, recipient, identity, key, header, done, other, bad, payloadOf}
@@ -19,7 +21,7 @@ use Rattle.phase_one.specs.Views.{recipients, identities, keys, headers}
 use Rattle.stanza.specs.Arguments.{argumentOf}
 use Rattle.conversation.specs.PhaseTwo.{when}
 use Rattle.conversation.specs.Kinds.{AnyKind, first, Buffers, viewOf}
-use Rattle.conversation.specs.Numbers.{SayingOne, SaysOne, Falling, Full, stanzaPayload, SpacelessOne, recipient-spaceless, identity-spaceless, key-spaceless, header-spaceless}
+use Rattle.conversation.specs.Numbers.{SayingOne, SaysOne, Falling, Twice, Full, stanzaPayload, SpacelessOne, recipient-spaceless, identity-spaceless, key-spaceless, header-spaceless}
 use Rattle.conversation.proofs.Laws.ConditionsTwo.{kept-any, full-iff}
 use Rattle.conversation.proofs.Laws.SumsTwo.{assured}
 use Rattle.conversation.proofs.Laws.Limits.{lastOf, last-is, no-fall}
@@ -48,6 +50,16 @@ isFalling t done = false
 isFalling t other = false
 isFalling t (bad n) = false
 
+-- No. 20
+abbrev pub isRepeated : Tables → BuffersOne → CommandOne → List ℕ → Bool
+isRepeated t b (recipient m) p = repeats (t .recipients) (b .recipients) p
+isRepeated t b (identity m) p = false
+isRepeated t b key p = false
+isRepeated t b (header i m) p = false
+isRepeated t b done p = false
+isRepeated t b other p = false
+isRepeated t b (bad n) p = false
+
 -- No. 8
 abbrev pub isSpacelessOne : Tables → BuffersOne → CommandOne → ℕ → Bool
 isSpacelessOne t b (recipient m) n = not (fits (t .recipients) n (length (b .recipients)))
@@ -62,19 +74,25 @@ turned : (f : Bool) → _≡_ {A = ℕ} (pick f 0 8) (when (not f) 8)
 turned true = refl
 turned false = refl
 
-pub decided-tests : (t : Tables) (b : BuffersOne) (c : CommandOne) (n : ℕ) → decided t b c n ≡ firstOf (faultOne c) (firstOf (when (isFalling t c) 7) (when (isSpacelessOne t b c n) 8))
-decided-tests t b (recipient m) n = turned (fits (t .recipients) n (length (b .recipients)))
-decided-tests t b (identity m) n = turned (fits (t .identities) n (length (b .identities)))
-decided-tests t b key n = turned (fits (t .keys) n (length (b .keys)))
-decided-tests t b (header i m) n = both (falls (t .headers) i) (fits (t .headers) n (length (b .headers)))
+pub decided-tests : (t : Tables) (b : BuffersOne) (c : CommandOne) (p : List ℕ) →
+    decided t b c p ≡ firstOf (faultOne c) (firstOf (when (isFalling t c) 7) (firstOf (when (isRepeated t b c p) 20) (when (isSpacelessOne t b c (length p)) 8)))
+decided-tests t b (recipient m) p = both (repeats (t .recipients) (b .recipients) p) (fits (t .recipients) (length p) (length (b .recipients)))
+  where
+    both : (g f : Bool) → _≡_ {A = ℕ} (pick g 20 (pick f 0 8)) (firstOf (when g 20) (when (not f) 8))
+    both true f = refl
+    both false true = refl
+    both false false = refl
+decided-tests t b (identity m) p = turned (fits (t .identities) (length p) (length (b .identities)))
+decided-tests t b key p = turned (fits (t .keys) (length p) (length (b .keys)))
+decided-tests t b (header i m) p = both (falls (t .headers) i) (fits (t .headers) (length p) (length (b .headers)))
   where
     both : (g f : Bool) → _≡_ {A = ℕ} (pick g 7 (pick f 0 8)) (firstOf (when g 7) (when (not f) 8))
     both true f = refl
     both false true = refl
     both false false = refl
-decided-tests t b done n = refl
-decided-tests t b other n = refl
-decided-tests t b (bad k) n = cases (eqb k 0) (λ e. rw e (eqb-true k 0 e)) (λ e. rw e)
+decided-tests t b done p = refl
+decided-tests t b other p = refl
+decided-tests t b (bad k) p = cases (eqb k 0) (λ e. rw e (eqb-true k 0 e)) (λ e. rw e)
 
 -- ---- the last row
 
@@ -120,6 +138,26 @@ module _ (s : Session) (b : Buffers) (r : ReachedSession s) (line body : List �
   falling-from done h e = absurd (false≢true e)
   falling-from other h e = absurd (false≢true e)
   falling-from (bad n) h e = absurd (false≢true e)
+
+  -- No. 20
+  abbrev repeated : CommandOne → Bool
+  repeated c = isRepeated t (b .first) c (payloadOf c line body)
+
+  pub repeated-to : Twice Says t (b .first .recipients) → repeated said ≡ true
+  repeated-to x =
+      let e = says-recipient (s .machine) line body (s .name) (x .text) (x .said) in
+      ap repeated (e .0) ∙ repeats-iff (t .recipients) (b .first .recipients) (argumentOf line 1) (kept-any s b r (first recipients)) .1 (x .earlier, x .there, x .held, x .equal ∙ e .1)
+
+  pub repeated-from : (c : CommandOne) → Said c → repeated c ≡ true → Twice Says t (b .first .recipients)
+  repeated-from (recipient m) h e =
+      let i = repeats-iff (t .recipients) (b .first .recipients) (argumentOf line 1) (kept-any s b r (first recipients)) .0 e in
+      record { text = argumentOf line 1; said = h; earlier = i .0; there = i .1; held = i .2; equal = i .3 }
+  repeated-from (identity m) h e = absurd (false≢true e)
+  repeated-from key h e = absurd (false≢true e)
+  repeated-from (header i m) h e = absurd (false≢true e)
+  repeated-from done h e = absurd (false≢true e)
+  repeated-from other h e = absurd (false≢true e)
+  repeated-from (bad n) h e = absurd (false≢true e)
 
   -- No. 8
   abbrev spaceless : CommandOne → Bool

@@ -60,23 +60,23 @@ by-index : (P : ReadIndex → Type 0) (t : List ℕ) → ((i : ℕ) → P (index
 by-index P t f g = ⊎-elim (λ j. subst P (sym (j .1)) (f _)) (λ e. subst P (sym e) g) (read-index t)
 
 -- in phase one
-module _ (t : Tables) (b : one.BuffersOne) (n : ℕ) (w : WordOne) where
+module _ (t : Tables) (b : one.BuffersOne) (p : List ℕ) (w : WordOne) where
   abbrev Of : CommandOne → Type 0
-  Of c = one.decided t b c n ≡ 0 → one-command.wordOf c ≡ w
+  Of c = one.decided t b c p ≡ 0 → one-command.wordOf c ≡ w
 
   of-either : (f : Bool) (c : CommandOne) → Of c → Of (pick f c (one-command.bad 4))
-  of-either true c p = p
-  of-either false c p = λ e. absurd (omega arith)
+  of-either true c h = h
+  of-either false c h = λ e. absurd (omega arith)
 
-word-one : (t : Tables) (b : one.BuffersOne) (n : ℕ) (plugin line : List ℕ) (size : ℕ) (w : WordOne) → Of t b n w (one-command.rowCommand w plugin line size)
-word-one t b n plugin line size one-command.add-recipient = of-either t b n _ (eqb (countOf line) 2 && eqb size 0) _ (λ e. refl)
-word-one t b n plugin line size one-command.add-identity = of-either t b n _ (eqb (countOf line) 2 && eqb size 0) _ (λ e. refl)
-word-one t b n plugin line size one-command.wrap-file-key = of-either t b n _ (isBare line size 16) _ (λ e. refl)
-word-one t b n plugin line size one-command.recipient-stanza =
-    of-either t b n _ (leb 3 (countOf line)) _
-    (by-index (λ x. Of t b n one-command.recipient-stanza (one-command.indexed x (one-command.headerMark plugin line size))) (argumentOf line 1) (λ i e. refl) (λ e. absurd (omega arith)))
-word-one t b n plugin line size one-command.done-word = of-either t b n _ (isBare line size 0) _ (λ e. refl)
-word-one t b n plugin line size one-command.other-word = λ e. refl
+word-one : (t : Tables) (b : one.BuffersOne) (p : List ℕ) (plugin line : List ℕ) (size : ℕ) (w : WordOne) → Of t b p w (one-command.rowCommand w plugin line size)
+word-one t b p plugin line size one-command.add-recipient = of-either t b p _ (eqb (countOf line) 2 && eqb size 0) _ (λ e. refl)
+word-one t b p plugin line size one-command.add-identity = of-either t b p _ (eqb (countOf line) 2 && eqb size 0) _ (λ e. refl)
+word-one t b p plugin line size one-command.wrap-file-key = of-either t b p _ (isBare line size 16) _ (λ e. refl)
+word-one t b p plugin line size one-command.recipient-stanza =
+    of-either t b p _ (leb 3 (countOf line)) _
+    (by-index (λ x. Of t b p one-command.recipient-stanza (one-command.indexed x (one-command.headerMark plugin line size))) (argumentOf line 1) (λ i e. refl) (λ e. absurd (omega arith)))
+word-one t b p plugin line size one-command.done-word = of-either t b p _ (isBare line size 0) _ (λ e. refl)
+word-one t b p plugin line size one-command.other-word = λ e. refl
 
 -- in phase two
 abbrev OfTwo : WordTwo → CommandTwo → Type 0
@@ -139,8 +139,8 @@ module _ (s : Session) (b : Buffers) where
       let z = numberOne (s .machine) (s .name) (s .tables) (b .first) 0 line body in
       branch (GivenOne (reading.stanza e n k) text) numberReceived (eqb z 0) _ _
       (λ f h. ap (λ w. command-one w k)
-      (word-one (s .tables) (b .first) (length (payloadIn (s .machine) (s .name) line body)) (s .name) line (length body) (one-command.wordIn (s .machine) (argumentOf line 0))
-      (first-zero (one.decided (s .tables) (b .first) (commandIn (s .machine) (s .name) line body) (length (payloadIn (s .machine) (s .name) line body))) 0 (eqb-true z 0 f))))
+      (word-one (s .tables) (b .first) (payloadIn (s .machine) (s .name) line body) (s .name) line (length body) (one-command.wordIn (s .machine) (argumentOf line 0))
+      (first-zero (one.decided (s .tables) (b .first) (commandIn (s .machine) (s .name) line body) (payloadIn (s .machine) (s .name) line body)) 0 (eqb-true z 0 f))))
       (λ f. eqb-false z 0 f)
   as-one text (reading.refused n) o = λ h. absurd (text-number text n o h)
 

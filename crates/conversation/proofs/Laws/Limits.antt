@@ -1,7 +1,7 @@
--- One kind's table and the limits of its rows: slots, payload bytes and, for header stanzas, indices that never fall.
+-- One kind's table and the limits of its rows: slots, payload bytes and, for header stanzas, indices that never fall; for recipients, texts that differ.
 use Prim.Native.Nat.{ℕ, zero, suc, _+_, _-_, _<_, _≤_}
-use mathlib.Core.Path.{_≡_, refl, sym, ap, _∙_, subst}
-use mathlib.Core.Bool.{true, false}
+use mathlib.Core.Path.{_≡_, refl, sym, ap, ap₂, _∙_, subst}
+use mathlib.Core.Bool.{Bool, true, false, _||_, true≢false}
 use mathlib.Core.Logic.{_↔_}
 use mathlib.Core.List.{List, [], _∷_, _++_, map, map-append, append-nil}
 use lib.Dec.{ltb, leb, eqb}
@@ -10,20 +10,26 @@ use lib.Seq.{take-suc}
 use native.Mathlib.Omega.{arith}
 use borrow.Author.Tests.{ltb-true, ltb-false, leb-true, lt-ltb, le-ltb, le-leb}
 use Rattle.refusal.specs.Pick.{pick}
+use Rattle.refusal.specs.Same.{same as same-text}
 use Rattle.refusal.proofs.Laws.Booleans.{and-true, true-and, cases}
+use Rattle.refusal.proofs.Laws.Same.{same-refl, same-eq}
 use Rattle.tables.specs.declared.slots.Entry.{Entry}
+use Rattle.tables.specs.Repeats.{shows, anyShows, repeats}
 use Rattle.tables.specs.Tables.{Table, Row, empty, fits, entered, rowOf, view, placed, kept}
-use Rattle.tables.proofs.Laws.Tables.{Kept, Filled, Chained, view-count}
+use Rattle.tables.proofs.Laws.Repeats.{shows-held}
+use Rattle.tables.proofs.Laws.Tables.{Kept, Filled, Chained, chain-le, view-count}
 use Rattle.phase_one.specs.PhaseOne.{falls}
 use Rattle.phase_one.proofs.Laws.PhaseOne.{falls-none, falls-is}
 use Rattle.phase_one.specs.Views.{KindOne, recipients, identities, keys, headers}
-use Rattle.conversation.specs.Allowed.{slotsOf, bytesOf, Rising}
+use Rattle.conversation.specs.Allowed.{slotsOf, bytesOf, Rising, Distinct}
+use Rattle.conversation.specs.Phases.{All}
+use Rattle.conversation.proofs.Laws.Lists.{all-append}
 
 -- ---- the limits of a list of rows
 
--- header stanza indices never fall; the other kinds have none
+-- header stanza indices never fall, and no recipient's text is another's; the other kinds have no such limit
 abbrev pub Ordered : KindOne → List Row → Type 0
-Ordered recipients rs = Unit
+Ordered recipients rs = Distinct rs
 Ordered identities rs = Unit
 Ordered keys rs = Unit
 Ordered headers rs = Rising rs
@@ -45,8 +51,13 @@ rising-front [] ys h = tt
 rising-front (a ∷ []) ys h = tt
 rising-front (a ∷ c ∷ xs) ys h = (h .0, rising-front (c ∷ xs) ys (h .1))
 
+distinct-front : (xs ys : List Row) → Distinct (xs ++ ys) → Distinct xs
+unfolding Distinct
+distinct-front [] ys h = tt
+distinct-front (a ∷ xs) ys h = (all-append (λ q. a .payload ≡ q .payload → ⊥) xs ys .0 (h .0) .0, distinct-front xs ys (h .1))
+
 ordered-front : (k : KindOne) (xs ys : List Row) → Ordered k (xs ++ ys) → Ordered k xs
-ordered-front recipients xs ys h = tt
+ordered-front recipients xs ys h = distinct-front xs ys h
 ordered-front identities xs ys h = tt
 ordered-front keys xs ys h = tt
 ordered-front headers xs ys h = rising-front xs ys h
@@ -83,6 +94,42 @@ unfolding Rising lastOf
 rising-last [] r h = omega arith
 rising-last (q ∷ []) r h = h .0
 rising-last (q ∷ s ∷ rs) r h = rising-last (s ∷ rs) r (h .1)
+
+-- ---- payloads that differ: the next one and those before
+
+-- no row has this payload
+abbrev pub Without : List ℕ → List Row → Type 0
+Without p rs = All (λ q. q .payload ≡ p → ⊥) rs
+
+pub distinct-more : (rs : List Row) (r : Row) → Distinct rs → Without (r .payload) rs → Distinct (rs ++ (r ∷ []))
+unfolding Distinct All
+distinct-more [] r h w = (tt, tt)
+distinct-more (q ∷ rs) r h w = (all-append (λ x. q .payload ≡ x .payload → ⊥) rs (r ∷ []) .1 (h .0, (w .0, tt)), distinct-more rs r (h .1) (w .1))
+
+distinct-last : (rs : List Row) (r : Row) → Distinct (rs ++ (r ∷ [])) → Without (r .payload) rs
+unfolding Distinct All
+distinct-last [] r h = tt
+distinct-last (q ∷ rs) r h = (all-append (λ x. q .payload ≡ x .payload → ⊥) rs (r ∷ []) .0 (h .0) .1 .0, distinct-last rs r (h .1))
+
+-- entries that the buffer is long enough for show a text exactly if a row has it as its payload
+chain-without : (es : List Entry) (s u : ℕ) (b p : List ℕ) → Chained s es u → u ≤ length b → (anyShows es b p ≡ false) ↔ Without p (map (rowOf b) es)
+unfolding Chained All anyShows
+chain-without [] s u b p h g = (λ e. tt, λ w. refl)
+chain-without (e ∷ es) s u b p h g =
+    let i = chain-without es (s + e .length) u b p (h .1) g in
+    let q = shows-held e b p (omega (arith, h .0, chain-le es (s + e .length) u (h .1))) in
+    let x = take (e .length) (drop (e .start) b) in (
+      λ f. let o = or-false (shows e b p) (anyShows es b p) f in (λ y. true≢false (sym (same-refl p) ∙ ap (λ z. same-text z p) (sym y) ∙ sym q ∙ o .0), i .0 (o .1)),
+      λ w. cases (same-text x p) (λ f. absurd (w .0 (same-eq x p f))) (λ f. ap₂ (λ a b. a || b) (q ∙ f) (i .1 (w .1))),
+    )
+  where
+    or-false : (a b : Bool) → (a || b) ≡ false → (a ≡ false) × (b ≡ false)
+    or-false true b f = absurd (true≢false f)
+    or-false false b f = (refl, f)
+
+-- so it is repeated exactly if it is the payload of a row
+pub no-repeat : (t : Table) (b p : List ℕ) → Kept t → t .used ≤ length b → (repeats t b p ≡ false) ↔ Without p (view t b)
+no-repeat t b p k g = chain-without (take (t .count) (t .slots)) 0 (t .used) b p (k .chained) g
 
 -- ---- a table's bytes and last index are those of its view
 
@@ -125,51 +172,51 @@ pub record Held (k : KindOne) (t : Table) (b : List ℕ) : Type 0 where
   pub room : t .used ≤ length b
   pub ordered : Ordered k (view t b)
 
--- a header stanza's index does not fall
-abbrev pub Passes : KindOne → Table → ℕ → Type 0
-Passes recipients t i = Unit
-Passes identities t i = Unit
-Passes keys t i = Unit
-Passes headers t i = falls t i ≡ false
+-- a header stanza's index does not fall, a recipient's text is not shown
+abbrev pub Passes : KindOne → Table → List ℕ → Row → Type 0
+Passes recipients t b r = repeats t b (r .payload) ≡ false
+Passes identities t b r = Unit
+Passes keys t b r = Unit
+Passes headers t b r = falls t (r .index) ≡ false
 
 module _ (t : Table) (b : List ℕ) (r : Row) where
-  passes-ordered : (k : KindOne) → Kept t → Ordered k (view t b) → Passes k t (r .index) → Ordered k (view t b ++ (r ∷ []))
-  passes-ordered recipients h o p = tt
-  passes-ordered identities h o p = tt
-  passes-ordered keys h o p = tt
-  passes-ordered headers h o p = rising-more (view t b) r o (no-fall t (r .index) b h .0 p)
+  passes-ordered : (k : KindOne) → Kept t → t .used ≤ length b → Ordered k (view t b) → Passes k t b r → Ordered k (view t b ++ (r ∷ []))
+  passes-ordered recipients h u o p = distinct-more (view t b) r o (no-repeat t b (r .payload) h u .0 p)
+  passes-ordered identities h u o p = tt
+  passes-ordered keys h u o p = tt
+  passes-ordered headers h u o p = rising-more (view t b) r o (no-fall t (r .index) b h .0 p)
 
-  ordered-passes : (k : KindOne) → Kept t → Ordered k (view t b ++ (r ∷ [])) → Passes k t (r .index)
-  ordered-passes recipients h o = tt
-  ordered-passes identities h o = tt
-  ordered-passes keys h o = tt
-  ordered-passes headers h o = no-fall t (r .index) b h .1 (rising-last (view t b) r o)
+  ordered-passes : (k : KindOne) → Kept t → t .used ≤ length b → Ordered k (view t b ++ (r ∷ [])) → Passes k t b r
+  ordered-passes recipients h u o = no-repeat t b (r .payload) h u .1 (distinct-last (view t b) r o)
+  ordered-passes identities h u o = tt
+  ordered-passes keys h u o = tt
+  ordered-passes headers h u o = no-fall t (r .index) b h .1 (rising-last (view t b) r o)
 
   one-bytes : bytesOf (view t b ++ (r ∷ [])) ≡ bytesOf (view t b) + length (r .payload)
   unfolding bytesOf
   one-bytes = omega (arith, bytes-append (view t b) (r ∷ []))
 
   -- one row more is within the limits exactly if it fits and passes
-  fits-within : (k : KindOne) → Held k t b → fits t (length (r .payload)) (length b) ≡ true → Passes k t (r .index) → Within k (length b) (view t b ++ (r ∷ []))
+  fits-within : (k : KindOne) → Held k t b → fits t (length (r .payload)) (length b) ≡ true → Passes k t b r → Within k (length b) (view t b ++ (r ∷ []))
   fits-within k h f p =
       let a = and-true (ltb (t .count) (t .width)) (leb (t .used + length (r .payload)) (length b)) f in
       record {
         slots = omega (arith, ltb-true (t .count) (t .width) (a .0), view-count t b (h .reached .kept-so), length-append (view t b) (r ∷ []), h .wide);
         bytes = omega (arith, leb-true (t .used + length (r .payload)) (length b) (a .1), view-bytes t b (h .reached .kept-so) (h .room), one-bytes);
-        ordered = passes-ordered k (h .reached .kept-so) (h .ordered) p;
+        ordered = passes-ordered k (h .reached .kept-so) (h .room) (h .ordered) p;
       }
 
-  pub within-fits : (k : KindOne) → Held k t b → Within k (length b) (view t b ++ (r ∷ [])) → (fits t (length (r .payload)) (length b) ≡ true) × Passes k t (r .index)
+  pub within-fits : (k : KindOne) → Held k t b → Within k (length b) (view t b ++ (r ∷ [])) → (fits t (length (r .payload)) (length b) ≡ true) × Passes k t b r
   within-fits k h w =
       let s : t .count < t .width = omega (arith, w .slots, view-count t b (h .reached .kept-so), length-append (view t b) (r ∷ []), h .wide) in
       let u : t .used + length (r .payload) ≤ length b = omega (arith, w .bytes, view-bytes t b (h .reached .kept-so) (h .room), one-bytes) in
-      (true-and (ltb (t .count) (t .width)) (leb (t .used + length (r .payload)) (length b)) (lt-ltb (t .count) (t .width) s) (le-leb (t .used + length (r .payload)) (length b) u), ordered-passes k (h .reached .kept-so) (w .ordered))
+      (true-and (ltb (t .count) (t .width)) (leb (t .used + length (r .payload)) (length b)) (lt-ltb (t .count) (t .width) s) (le-leb (t .used + length (r .payload)) (length b) u), ordered-passes k (h .reached .kept-so) (h .room) (w .ordered))
 
 -- ---- what one command does to a kind's table and buffer, where the decision is the number d: nothing, or one entry more
 
 pub data Grown (k : KindOne) (t : Table) (b : List ℕ) (d : ℕ) : List Row → Table → List ℕ → Type 0 where
   same : Grown k t b d [] t b
-  more : (p : List ℕ) (i m : ℕ) → (d ≡ 0 → (fits t (length p) (length b) ≡ true) × Passes k t i) →
+  more : (p : List ℕ) (i m : ℕ) → (d ≡ 0 → (fits t (length p) (length b) ≡ true) × Passes k t b (record { payload = p; index = i; mark = m })) →
       Grown k t b d (record { payload = p; index = i; mark = m } ∷ []) (entered t (length p) i m (length b)) (kept t p b)
 
 held-within : {k : KindOne} {t : Table} {b : List ℕ} → Held k t b → Within k (length b) (view t b)

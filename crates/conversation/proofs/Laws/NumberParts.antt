@@ -57,7 +57,7 @@ picked number n x y z h = cases (eqb n 0) (λ e. rw e (z ∙ sym (eqb-true n 0 e
 module _ (s : Session) (b : Buffers) where
   -- the decision of phase one; of phase two, `own` at the plugin's sending
   abbrev pub decidedOne : List ℕ → List ℕ → ℕ
-  decidedOne line body = one.decided (s .tables) (b .first) (one.commandIn (s .machine) (s .name) line body) (length (one.payloadIn (s .machine) (s .name) line body))
+  decidedOne line body = one.decided (s .tables) (b .first) (one.commandIn (s .machine) (s .name) line body) (one.payloadIn (s .machine) (s .name) line body)
 
   abbrev pub decidedTwo : Bool → List ℕ → List ℕ → ℕ
   decidedTwo own line body = let c = commandTwo (s .machine) line body in two.decided own (s .tables) (b .second) c (length (payloadOf c line body))

@@ -13,7 +13,7 @@ use Rattle.refusal.specs.Output.{overflows}
 use Rattle.refusal.specs.Pick.{pick}
 use Rattle.refusal.specs.Verdict.{firstOf}
 use Rattle.refusal.specs.declared.Refusal.{Refusal}
-use Rattle.refusal.specs.declared.Refusal.the-variants.{NotStanza, Unfinished, TooLong, BadCommand, BadIndex, NoSuchIndex, FallingIndex, NoSpace, SecondKey, TooManyStanzas, WorkAndError, UnfitResponse, SessionOver, OutOfTurn, ShortOutput, Malformed, Unwritable, NoSuchMachine, HeldBack, BadChecksum, LeftoverBits}
+use Rattle.refusal.specs.declared.Refusal.the-variants.{NotStanza, Unfinished, TooLong, BadCommand, BadIndex, NoSuchIndex, FallingIndex, NoSpace, SecondKey, TooManyStanzas, WorkAndError, UnfitResponse, SessionOver, OutOfTurn, ShortOutput, Malformed, Unwritable, NoSuchMachine, HeldBack, Repeated, BadChecksum, LeftoverBits}
 use Rattle.refusal.proofs.Laws.Booleans.{and-true, cases}
 use Rattle.refusal.proofs.Laws.Number.{number-not-zero}
 use Rattle.stanza.specs.Arguments.{words, isLine}
@@ -45,8 +45,8 @@ use Rattle.conversation.specs.ReceivingTwo.{AtOnce, writes, silent, atOn
 use Rattle.conversation.specs.Replying.{numberReplied}
 use Rattle.conversation.specs.Sending.{shortness}
 use Rattle.conversation.specs.TurnsTwo.{turnTwo, dueIn}
-use Rattle.conversation.specs.Numbers.{Question, message, confirmation, public-value, secret-value, Naming, internal, identity, recipient, header, SayingTwo, asks, returns-stanza, returns-key, reports, SaysTwo, WrittenAtOnce, for-stanza, for-key, for-error, for-other, for-question, RowOne, RowTwo, KnownOne, KnownTwo, indicesOne, indicesTwo, Wrong, Misindexed, WrongIn, MisindexedIn, MissingIn, FallingIn, SpacelessIn, SecondIn, TooManyIn, TogetherIn, Fitting, msg-answered, confirm-answered, public-given, public-failed, secret-given, secret-failed, stanza-answered, key-answered, error-answered, other-answered, Over, InTurn, ReadsAs, Unwritten, Holds, Condition, orderOf, FirstOf, no-number, this-number, later-number}
-use Rattle.conversation.proofs.Laws.ConditionsOne.{faultOne, isFalling, isSpacelessOne, decided-tests, falling-to, falling-from, spaceless-one-to, spaceless-one-from}
+use Rattle.conversation.specs.Numbers.{Question, message, confirmation, public-value, secret-value, Naming, internal, identity, recipient, header, SayingTwo, asks, returns-stanza, returns-key, reports, SaysTwo, WrittenAtOnce, for-stanza, for-key, for-error, for-other, for-question, RowOne, RowTwo, KnownOne, KnownTwo, indicesOne, indicesTwo, Wrong, Misindexed, WrongIn, MisindexedIn, MissingIn, FallingIn, TwiceIn, SpacelessIn, SecondIn, TooManyIn, TogetherIn, Fitting, msg-answered, confirm-answered, public-given, public-failed, secret-given, secret-failed, stanza-answered, key-answered, error-answered, other-answered, Over, InTurn, ReadsAs, Unwritten, Holds, Condition, orderOf, FirstOf, no-number, this-number, later-number}
+use Rattle.conversation.proofs.Laws.ConditionsOne.{faultOne, isFalling, isRepeated, isSpacelessOne, decided-tests, falling-to, falling-from, repeated-to, repeated-from, spaceless-one-to, spaceless-one-from}
 use Rattle.conversation.proofs.Laws.ConditionsTwo.{missing-to, missing-from, second-to, second-from, too-many-to, too-many-from, together-to, together-from, spaceless-to, spaceless-from, held-to, held-from}
 use Rattle.conversation.proofs.Laws.SumsTwo.{refuted}
 use Rattle.conversation.proofs.Laws.NumberParts.{asRead, decidedOne, decidedTwo, atOnceText, byDue, unfitness, given-receive, given-send, given-receive-two, given-send-two, given-reply, given-respond}
@@ -72,7 +72,7 @@ refusalOf n =
     (pick (eqb n 12) UnfitResponse
     (pick (eqb n 13) SessionOver
     (pick (eqb n 14) OutOfTurn
-    (pick (eqb n 15) ShortOutput (pick (eqb n 16) Malformed (pick (eqb n 17) Unwritable (pick (eqb n 18) NoSuchMachine (pick (eqb n 19) HeldBack (pick (eqb n 21) BadChecksum LeftoverBits)))))))))))))))))))
+    (pick (eqb n 15) ShortOutput (pick (eqb n 16) Malformed (pick (eqb n 17) Unwritable (pick (eqb n 18) NoSuchMachine (pick (eqb n 19) HeldBack (pick (eqb n 20) Repeated (pick (eqb n 21) BadChecksum LeftoverBits))))))))))))))))))))
 
 refusal-of : (r : Refusal) → refusalOf (numberOf r) ≡ r
 unfolding refusalOf
@@ -95,6 +95,7 @@ refusal-of Malformed = refl
 refusal-of Unwritable = refl
 refusal-of NoSuchMachine = refl
 refusal-of HeldBack = refl
+refusal-of Repeated = refl
 refusal-of BadChecksum = refl
 refusal-of LeftoverBits = refl
 
@@ -181,7 +182,7 @@ found-number m w short n e = by (ltb m 8192) e
     by false e = inr (inr (cc))
 found-number m w (whole k) n e = let z : _≡_ {A = ℕ} 0 1 = cc in absurd (omega arith)
 
-reading-number : (text : List ℕ) (n : ℕ) → readFirst text ≡ refused n → (n ≡ 1) ⊎ (n ≡ 2) ⊎ (n ≡ 3)
+pub reading-number : (text : List ℕ) (n : ℕ) → readFirst text ≡ refused n → (n ≡ 1) ⊎ (n ≡ 2) ⊎ (n ≡ 3)
 reading-number text n e = found-number (length text) (take 8192 text) (scan start 0 (take 8192 text)) n e
 
 -- then what follows
@@ -291,7 +292,7 @@ module _ (s : Session) (b : Buffers) (c : Call) where
   H r = Holds s b c r
 
   -- a number's condition is that of its fault
-  holds-of : (r : Refusal) → P (numberOf r) → H r
+  pub holds-of : (r : Refusal) → P (numberOf r) → H r
   holds-of r (q, e, h) = subst H (sym (refusal-of q) ∙ ap refusalOf e ∙ refusal-of r) h
 
   here : (r : Refusal) {ks : List ℕ} → H r → FirstOf P (numberOf r ∷ ks) (numberOf r)
@@ -417,24 +418,25 @@ module _ (s : Session) (b : Buffers) (c : Call) where
     -- 4 to 11; then the rest
     early-two : (own : Bool) (ks : List ℕ) →
         (faultOf commandSaid ≡ 0 → isFalse missing → isFalse secondKey → isFalse tooMany → isFalse clashing → FirstOf P ks (decidedTwo s b own line body)) →
-        FirstOf P (4 ∷ 5 ∷ 6 ∷ 7 ∷ 9 ∷ 10 ∷ 11 ∷ ks) (decidedTwo s b own line body)
+        FirstOf P (4 ∷ 5 ∷ 6 ∷ 7 ∷ 20 ∷ 9 ∷ 10 ∷ 11 ∷ ks) (decidedTwo s b own line body)
     unfolding decided
     early-two own ks rest =
         let n = decidedTwo s b own line body in
         let four = wrong-from (s .machine) line body commandSaid saidSo in
         let five = misindexed-from (s .machine) line body commandSaid saidSo in
-        step-two BadCommand (WrongIn s) (λ h. h, λ h. h) (5 ∷ 6 ∷ 7 ∷ 9 ∷ 10 ∷ 11 ∷ ks) n (isBad 4 commandSaid) four (λ h. ap (isBad 4) (wrong-command (s .machine) line body h)) (λ f. rw (ap faultOf (wrong-command (s .machine) line body (four f))))
-        (λ b4. step-two BadIndex (MisindexedIn s) (λ h. h, λ h. h) (6 ∷ 7 ∷ 9 ∷ 10 ∷ 11 ∷ ks) n (isBad 5 commandSaid) five (λ h. ap (isBad 5) (misindexed-command (s .machine) line body h)) (λ f. rw (ap faultOf (misindexed-command (s .machine) line body (five f))))
+        step-two BadCommand (WrongIn s) (λ h. h, λ h. h) (5 ∷ 6 ∷ 7 ∷ 20 ∷ 9 ∷ 10 ∷ 11 ∷ ks) n (isBad 4 commandSaid) four (λ h. ap (isBad 4) (wrong-command (s .machine) line body h)) (λ f. rw (ap faultOf (wrong-command (s .machine) line body (four f))))
+        (λ b4. step-two BadIndex (MisindexedIn s) (λ h. h, λ h. h) (6 ∷ 7 ∷ 20 ∷ 9 ∷ 10 ∷ 11 ∷ ks) n (isBad 5 commandSaid) five (λ h. ap (isBad 5) (misindexed-command (s .machine) line body h)) (λ f. rw (ap faultOf (misindexed-command (s .machine) line body (five f))))
         (λ b5. let z : faultOf commandSaid ≡ 0 = fault-is (s .machine) line body commandSaid saidSo ∙ rw (b4, b5) in
-        step-two NoSuchIndex (MissingIn s b) (λ h. h, λ h. h) (7 ∷ 9 ∷ 10 ∷ 11 ∷ ks) n missing (missing-from s b reached line body commandSaid saidSo) (missing-to s b reached line body) (λ f. rw (z, f))
+        step-two NoSuchIndex (MissingIn s b) (λ h. h, λ h. h) (7 ∷ 20 ∷ 9 ∷ 10 ∷ 11 ∷ ks) n missing (missing-from s b reached line body commandSaid saidSo) (missing-to s b reached line body) (λ f. rw (z, f))
         (λ m. there FallingIndex (λ h. subst (FallingIn s b) brought h)
+        (there Repeated (λ h. subst (TwiceIn s b) brought h)
         (step-two SecondKey (SecondIn s b) (λ h. h, λ h. h) (10 ∷ 11 ∷ ks) n secondKey (second-from s b reached line body commandSaid saidSo) (second-to s b reached line body) (λ f. rw (z, m, f))
         (λ k. step-two TooManyStanzas (TooManyIn s b) (λ h. h, λ h. h) (11 ∷ ks) n tooMany (too-many-from s b reached line body commandSaid saidSo) (too-many-to s b reached line body) (λ f. rw (z, m, k, f))
         (λ y. step-two WorkAndError (TogetherIn s b) (λ h. h, λ h. h) ks n clashing (together-from s b reached line body commandSaid saidSo) (together-to s b reached line body) (λ f. rw (z, m, k, y, f))
-        (λ l. rest z m k y l)))))))
+        (λ l. rest z m k y l))))))))
 
     -- received: 8
-    received-two : FirstOf P (4 ∷ 5 ∷ 6 ∷ 7 ∷ 9 ∷ 10 ∷ 11 ∷ 8 ∷ []) (decidedTwo s b false line body)
+    received-two : FirstOf P (4 ∷ 5 ∷ 6 ∷ 7 ∷ 20 ∷ 9 ∷ 10 ∷ 11 ∷ 8 ∷ []) (decidedTwo s b false line body)
     unfolding decided
     received-two =
         early-two false (8 ∷ [])
@@ -442,7 +444,7 @@ module _ (s : Session) (b : Buffers) (c : Call) where
         (λ f. rw (z, m, k, y, l, f)) (λ f. rw (z, m, k, y, l, f) no-number))
 
     -- sent: 19, 8
-    sent-two : (isTrue heldBack → H HeldBack) → (H HeldBack → isTrue heldBack) → FirstOf P (4 ∷ 5 ∷ 6 ∷ 7 ∷ 9 ∷ 10 ∷ 11 ∷ 19 ∷ 8 ∷ []) (decidedTwo s b true line body)
+    sent-two : (isTrue heldBack → H HeldBack) → (H HeldBack → isTrue heldBack) → FirstOf P (4 ∷ 5 ∷ 6 ∷ 7 ∷ 20 ∷ 9 ∷ 10 ∷ 11 ∷ 19 ∷ 8 ∷ []) (decidedTwo s b true line body)
     unfolding decided
     sent-two to from =
         early-two true (19 ∷ 8 ∷ [])
@@ -470,18 +472,20 @@ module _ (s : Session) (b : Buffers) (c : Call) where
         (λ z. test-one BadIndex (MisindexedIn s) (λ h. h, λ h. h) (isBadOne 5 oneSaid) 5 refl (misindexed-one-from (s .machine) line body oneSaid oneSo) (λ h. ap (isBadOne 5) (misindexed-one (s .machine) line body (s .name) h))))
 
     -- `ks` where nothing of it is given in phase one
-    decided-one : (ks : List ℕ) → FirstOf P ks 0 → FirstOf P (4 ∷ 5 ∷ 6 ∷ 7 ∷ 9 ∷ 10 ∷ 11 ∷ ks ++ (8 ∷ [])) (decidedOne s b line body)
+    decided-one : (ks : List ℕ) → FirstOf P ks 0 → FirstOf P (4 ∷ 5 ∷ 6 ∷ 7 ∷ 20 ∷ 9 ∷ 10 ∷ 11 ∷ ks ++ (8 ∷ [])) (decidedOne s b line body)
     decided-one ks held =
-        subst (FirstOf P (4 ∷ 5 ∷ 6 ∷ 7 ∷ 9 ∷ 10 ∷ 11 ∷ ks ++ (8 ∷ []))) (sym (decided-tests (s .tables) (b .first) oneSaid (length (payloadIn (s .machine) (s .name) line body))))
-        (both (4 ∷ 5 ∷ []) (6 ∷ 7 ∷ 9 ∷ 10 ∷ 11 ∷ ks ++ (8 ∷ [])) _ _ fault-one
+        subst (FirstOf P (4 ∷ 5 ∷ 6 ∷ 7 ∷ 20 ∷ 9 ∷ 10 ∷ 11 ∷ ks ++ (8 ∷ []))) (sym (decided-tests (s .tables) (b .first) oneSaid (payloadIn (s .machine) (s .name) line body)))
+        (both (4 ∷ 5 ∷ []) (6 ∷ 7 ∷ 20 ∷ 9 ∷ 10 ∷ 11 ∷ ks ++ (8 ∷ [])) _ _ fault-one
         (λ z. there NoSuchIndex (λ h. subst (MissingIn s b) brought h)
-        (both (7 ∷ []) (9 ∷ 10 ∷ 11 ∷ ks ++ (8 ∷ [])) _ _
+        (both (7 ∷ []) (20 ∷ 9 ∷ 10 ∷ 11 ∷ ks ++ (8 ∷ [])) _ _
         (test-one FallingIndex (FallingIn s b) (λ h. h, λ h. h) (isFalling (s .tables) oneSaid) _ refl (falling-from s b reached line body oneSaid oneSo) (falling-to s b reached line body))
+        (λ z. both (20 ∷ []) (9 ∷ 10 ∷ 11 ∷ ks ++ (8 ∷ [])) _ _
+        (test-one Repeated (TwiceIn s b) (λ h. h, λ h. h) (isRepeated (s .tables) (b .first) oneSaid (payloadIn (s .machine) (s .name) line body)) _ refl (repeated-from s b reached line body oneSaid oneSo) (repeated-to s b reached line body))
         (λ z. there SecondKey (λ h. subst (SecondIn s b) brought h)
         (there TooManyStanzas (λ h. subst (TooManyIn s b) brought h)
         (there WorkAndError (λ h. subst (TogetherIn s b) brought h)
         (both ks (8 ∷ []) 0 _ held
-        (λ z. test-one NoSpace (SpacelessIn s b) (λ h. h, λ h. h) (isSpacelessOne (s .tables) (b .first) oneSaid (length (payloadIn (s .machine) (s .name) line body))) _ refl (spaceless-one-from s b reached line body oneSaid oneSo) (spaceless-one-to s b reached line body)))))))))
+        (λ z. test-one NoSpace (SpacelessIn s b) (λ h. h, λ h. h) (isSpacelessOne (s .tables) (b .first) oneSaid (length (payloadIn (s .machine) (s .name) line body))) _ refl (spaceless-one-from s b reached line body oneSaid oneSo) (spaceless-one-to s b reached line body))))))))))
 
 -- ---- what the client writes at once
 
@@ -598,31 +602,31 @@ module _ (s : Session) (b : Buffers) (reached : ReachedSession s) where
   pub number-given : (c : Call) → FirstOf (Condition s b c) (orderOf c) (outcome s b c .number)
   number-given (receive text) =
       let c = receive text in
-      let commands : FirstOf (Condition s b c) (4 ∷ 5 ∷ 6 ∷ 7 ∷ 9 ∷ 10 ∷ 11 ∷ 8 ∷ 15 ∷ []) (firstOf (decidedOne s b (lineIn text) (bodyIn text)) 0) =
-      both s b c (4 ∷ 5 ∷ 6 ∷ 7 ∷ 9 ∷ 10 ∷ 11 ∷ 8 ∷ []) (15 ∷ []) _ 0 (decided-one s b c reached (lineIn text) (bodyIn text) refl [] no-number) (λ z. there s b c ShortOutput (λ h. h) no-number) in
+      let commands : FirstOf (Condition s b c) (4 ∷ 5 ∷ 6 ∷ 7 ∷ 20 ∷ 9 ∷ 10 ∷ 11 ∷ 8 ∷ 15 ∷ []) (firstOf (decidedOne s b (lineIn text) (bodyIn text)) 0) =
+      both s b c (4 ∷ 5 ∷ 6 ∷ 7 ∷ 20 ∷ 9 ∷ 10 ∷ 11 ∷ 8 ∷ []) (15 ∷ []) _ 0 (decided-one s b c reached (lineIn text) (bodyIn text) refl [] no-number) (λ z. there s b c ShortOutput (λ h. h) no-number) in
       subst (FirstOf (Condition s b c) (orderOf c)) (sym (given-receive s b text))
-      (both s b c (13 ∷ 14 ∷ []) (1 ∷ 2 ∷ 3 ∷ 4 ∷ 5 ∷ 6 ∷ 7 ∷ 9 ∷ 10 ∷ 11 ∷ 8 ∷ 15 ∷ []) _ _ (turned-one s b c (λ h. h, λ h. h) (s .phase) refl)
-      (λ z. subst (FirstOf (Condition s b c) (1 ∷ 2 ∷ 3 ∷ 4 ∷ 5 ∷ 6 ∷ 7 ∷ 9 ∷ 10 ∷ 11 ∷ 8 ∷ 15 ∷ [])) (sym (read-first text _))
-      (both s b c (1 ∷ 2 ∷ 3 ∷ []) (4 ∷ 5 ∷ 6 ∷ 7 ∷ 9 ∷ 10 ∷ 11 ∷ 8 ∷ 15 ∷ []) _ _ (read-part s b c text (λ n. (λ h. h, λ h. h))) (λ y. commands))))
+      (both s b c (13 ∷ 14 ∷ []) (1 ∷ 2 ∷ 3 ∷ 4 ∷ 5 ∷ 6 ∷ 7 ∷ 20 ∷ 9 ∷ 10 ∷ 11 ∷ 8 ∷ 15 ∷ []) _ _ (turned-one s b c (λ h. h, λ h. h) (s .phase) refl)
+      (λ z. subst (FirstOf (Condition s b c) (1 ∷ 2 ∷ 3 ∷ 4 ∷ 5 ∷ 6 ∷ 7 ∷ 20 ∷ 9 ∷ 10 ∷ 11 ∷ 8 ∷ 15 ∷ [])) (sym (read-first text _))
+      (both s b c (1 ∷ 2 ∷ 3 ∷ []) (4 ∷ 5 ∷ 6 ∷ 7 ∷ 20 ∷ 9 ∷ 10 ∷ 11 ∷ 8 ∷ 15 ∷ []) _ _ (read-part s b c text (λ n. (λ h. h, λ h. h))) (λ y. commands))))
   number-given (send word arguments body out) =
       let c = send word arguments body out in
       let line = one-command.lineSent word arguments in
       let text = stanzaText line body in
-      let commands : FirstOf (Condition s b c) (4 ∷ 5 ∷ 6 ∷ 7 ∷ 9 ∷ 10 ∷ 11 ∷ 19 ∷ 8 ∷ 15 ∷ []) (firstOf (decidedOne s b line body) (shortness text out)) =
-      both s b c (4 ∷ 5 ∷ 6 ∷ 7 ∷ 9 ∷ 10 ∷ 11 ∷ 19 ∷ 8 ∷ []) (15 ∷ []) _ _ (decided-one s b c reached line body refl (19 ∷ []) (there s b c HeldBack (λ h. h) no-number)) (λ z. output-part s b c text out (λ h. h, λ h. h)) in
+      let commands : FirstOf (Condition s b c) (4 ∷ 5 ∷ 6 ∷ 7 ∷ 20 ∷ 9 ∷ 10 ∷ 11 ∷ 19 ∷ 8 ∷ 15 ∷ []) (firstOf (decidedOne s b line body) (shortness text out)) =
+      both s b c (4 ∷ 5 ∷ 6 ∷ 7 ∷ 20 ∷ 9 ∷ 10 ∷ 11 ∷ 19 ∷ 8 ∷ []) (15 ∷ []) _ _ (decided-one s b c reached line body refl (19 ∷ []) (there s b c HeldBack (λ h. h) no-number)) (λ z. output-part s b c text out (λ h. h, λ h. h)) in
       subst (FirstOf (Condition s b c) (orderOf c)) (sym (given-send s b word arguments body out))
-      (both s b c (13 ∷ 14 ∷ []) (17 ∷ 4 ∷ 5 ∷ 6 ∷ 7 ∷ 9 ∷ 10 ∷ 11 ∷ 19 ∷ 8 ∷ 15 ∷ []) _ _ (turned-one s b c (λ h. h, λ h. h) (s .phase) refl)
-      (λ z. subst (FirstOf (Condition s b c) (17 ∷ 4 ∷ 5 ∷ 6 ∷ 7 ∷ 9 ∷ 10 ∷ 11 ∷ 19 ∷ 8 ∷ 15 ∷ [])) (sym (unwritten-first s b c (isWritable line body) _))
-      (both s b c (17 ∷ []) (4 ∷ 5 ∷ 6 ∷ 7 ∷ 9 ∷ 10 ∷ 11 ∷ 19 ∷ 8 ∷ 15 ∷ []) _ _ (write-part s b c line body (λ h. h, λ h. h)) (λ y. commands))))
+      (both s b c (13 ∷ 14 ∷ []) (17 ∷ 4 ∷ 5 ∷ 6 ∷ 7 ∷ 20 ∷ 9 ∷ 10 ∷ 11 ∷ 19 ∷ 8 ∷ 15 ∷ []) _ _ (turned-one s b c (λ h. h, λ h. h) (s .phase) refl)
+      (λ z. subst (FirstOf (Condition s b c) (17 ∷ 4 ∷ 5 ∷ 6 ∷ 7 ∷ 20 ∷ 9 ∷ 10 ∷ 11 ∷ 19 ∷ 8 ∷ 15 ∷ [])) (sym (unwritten-first s b c (isWritable line body) _))
+      (both s b c (17 ∷ []) (4 ∷ 5 ∷ 6 ∷ 7 ∷ 20 ∷ 9 ∷ 10 ∷ 11 ∷ 19 ∷ 8 ∷ 15 ∷ []) _ _ (write-part s b c line body (λ h. h, λ h. h)) (λ y. commands))))
   number-given (receive-two text out) =
       let c = receive-two text out in
-      let commands : FirstOf (Condition s b c) (4 ∷ 5 ∷ 6 ∷ 7 ∷ 9 ∷ 10 ∷ 11 ∷ 8 ∷ 15 ∷ []) (firstOf (decidedTwo s b false (lineIn text) (bodyIn text)) (shortness (atOnceText s b (lineIn text) (bodyIn text)) out)) =
-      both s b c (4 ∷ 5 ∷ 6 ∷ 7 ∷ 9 ∷ 10 ∷ 11 ∷ 8 ∷ []) (15 ∷ []) _ _ (received-two s b c reached (lineIn text) (bodyIn text) refl)
+      let commands : FirstOf (Condition s b c) (4 ∷ 5 ∷ 6 ∷ 7 ∷ 20 ∷ 9 ∷ 10 ∷ 11 ∷ 8 ∷ 15 ∷ []) (firstOf (decidedTwo s b false (lineIn text) (bodyIn text)) (shortness (atOnceText s b (lineIn text) (bodyIn text)) out)) =
+      both s b c (4 ∷ 5 ∷ 6 ∷ 7 ∷ 20 ∷ 9 ∷ 10 ∷ 11 ∷ 8 ∷ []) (15 ∷ []) _ _ (received-two s b c reached (lineIn text) (bodyIn text) refl)
       (λ z. output-part s b c (atOnceText s b (lineIn text) (bodyIn text)) out (let i = at-once-over s (lineIn text) (bodyIn text) out in (i .1, i .0))) in
       subst (FirstOf (Condition s b c) (orderOf c)) (sym (given-receive-two s b text out))
-      (both s b c (13 ∷ 14 ∷ []) (1 ∷ 2 ∷ 3 ∷ 4 ∷ 5 ∷ 6 ∷ 7 ∷ 9 ∷ 10 ∷ 11 ∷ 8 ∷ 15 ∷ []) _ _ (turned-two s b c (λ h. h, λ h. h) (s .phase) refl)
-      (λ z. subst (FirstOf (Condition s b c) (1 ∷ 2 ∷ 3 ∷ 4 ∷ 5 ∷ 6 ∷ 7 ∷ 9 ∷ 10 ∷ 11 ∷ 8 ∷ 15 ∷ [])) (sym (read-first text _))
-      (both s b c (1 ∷ 2 ∷ 3 ∷ []) (4 ∷ 5 ∷ 6 ∷ 7 ∷ 9 ∷ 10 ∷ 11 ∷ 8 ∷ 15 ∷ []) _ _ (read-part s b c text (λ n. (λ h. h, λ h. h))) (λ y. commands))))
+      (both s b c (13 ∷ 14 ∷ []) (1 ∷ 2 ∷ 3 ∷ 4 ∷ 5 ∷ 6 ∷ 7 ∷ 20 ∷ 9 ∷ 10 ∷ 11 ∷ 8 ∷ 15 ∷ []) _ _ (turned-two s b c (λ h. h, λ h. h) (s .phase) refl)
+      (λ z. subst (FirstOf (Condition s b c) (1 ∷ 2 ∷ 3 ∷ 4 ∷ 5 ∷ 6 ∷ 7 ∷ 20 ∷ 9 ∷ 10 ∷ 11 ∷ 8 ∷ 15 ∷ [])) (sym (read-first text _))
+      (both s b c (1 ∷ 2 ∷ 3 ∷ []) (4 ∷ 5 ∷ 6 ∷ 7 ∷ 20 ∷ 9 ∷ 10 ∷ 11 ∷ 8 ∷ 15 ∷ []) _ _ (read-part s b c text (λ n. (λ h. h, λ h. h))) (λ y. commands))))
   number-given (reply r body out) =
       let c = reply r body out in
       subst (FirstOf (Condition s b c) (orderOf c)) (sym (given-reply s b r body out)) (answer-part s b c (λ h. h, λ h. h) (12 ∷ 17 ∷ 15 ∷ []) _ (reply-part s b r body out))
@@ -631,10 +635,10 @@ module _ (s : Session) (b : Buffers) (reached : ReachedSession s) where
       let line = lineSent word arguments in
       let text = stanzaText line body in
       subst (FirstOf (Condition s b c) (orderOf c)) (sym (given-send-two s b word arguments body out))
-      (both s b c (13 ∷ 14 ∷ []) (17 ∷ 4 ∷ 5 ∷ 6 ∷ 7 ∷ 9 ∷ 10 ∷ 11 ∷ 19 ∷ 8 ∷ 15 ∷ []) _ _ (turned-two s b c (λ h. h, λ h. h) (s .phase) refl)
-      (λ z. both s b c (17 ∷ 4 ∷ 5 ∷ 6 ∷ 7 ∷ 9 ∷ 10 ∷ 11 ∷ 19 ∷ 8 ∷ []) (15 ∷ []) _ _
-      (subst (FirstOf (Condition s b c) (17 ∷ 4 ∷ 5 ∷ 6 ∷ 7 ∷ 9 ∷ 10 ∷ 11 ∷ 19 ∷ 8 ∷ [])) (sym (unwritten-first s b c (isWritable line body) _))
-      (both s b c (17 ∷ []) (4 ∷ 5 ∷ 6 ∷ 7 ∷ 9 ∷ 10 ∷ 11 ∷ 19 ∷ 8 ∷ []) _ _ (write-part s b c line body (λ h. h, λ h. h)) (λ y. sent-two s b c reached line body refl (held-from s b reached line body (commandTwo (s .machine) line body) (said-two (s .machine) line body)) (held-to s b reached line body))))
+      (both s b c (13 ∷ 14 ∷ []) (17 ∷ 4 ∷ 5 ∷ 6 ∷ 7 ∷ 20 ∷ 9 ∷ 10 ∷ 11 ∷ 19 ∷ 8 ∷ 15 ∷ []) _ _ (turned-two s b c (λ h. h, λ h. h) (s .phase) refl)
+      (λ z. both s b c (17 ∷ 4 ∷ 5 ∷ 6 ∷ 7 ∷ 20 ∷ 9 ∷ 10 ∷ 11 ∷ 19 ∷ 8 ∷ []) (15 ∷ []) _ _
+      (subst (FirstOf (Condition s b c) (17 ∷ 4 ∷ 5 ∷ 6 ∷ 7 ∷ 20 ∷ 9 ∷ 10 ∷ 11 ∷ 19 ∷ 8 ∷ [])) (sym (unwritten-first s b c (isWritable line body) _))
+      (both s b c (17 ∷ []) (4 ∷ 5 ∷ 6 ∷ 7 ∷ 20 ∷ 9 ∷ 10 ∷ 11 ∷ 19 ∷ 8 ∷ []) _ _ (write-part s b c line body (λ h. h, λ h. h)) (λ y. sent-two s b c reached line body refl (held-from s b reached line body (commandTwo (s .machine) line body) (said-two (s .machine) line body)) (held-to s b reached line body))))
       (λ y. output-part s b c text out (λ h. h, λ h. h))))
   number-given (respond text out) =
       let c = respond text out in

@@ -11,13 +11,13 @@ use Rattle.session.specs.declared.opening.Machine.{Machine}
 use Rattle.phase_one.specs.Commands.{WordOne, add-recipient, add-identity, wrap-file-key, recipient-stanza, done-word, other-word, wordIn, rowCommand}
 use Rattle.phase_one.specs.PhaseOne.{BuffersOne, buffersOf}
 use Rattle.session.specs.Tables.{openedTables}
-use Rattle.phase_one.specs.Views.{KindOne, headers, bufferOf}
+use Rattle.phase_one.specs.Views.{KindOne, recipients, headers, bufferOf}
 use Rattle.session.specs.Session.{Session, openedSession}
 use Rattle.conversation.specs.Kinds.{Buffers, second, viewOf, ofFile}
 use Rattle.conversation.specs.PhaseTwo as two
 use Rattle.conversation.specs.Calls.{receive, outcome, written, State, stateOf, after, Accepted}
 use Rattle.conversation.specs.Phases.{Part, All, keep, lineIn, bodyIn, wordOf, isNamed, commandOf, rowsFrom, isOf, one-part, Block, Phase, blocksOf, Quiet, IsPhase, Supply, skip, replyCalls, callsOf, writtenIn, responsesTo, Starts, SameLengths, SameStart, isKept, of-kind, isIn, Rearranged, SameOutcome, textsOf}
-use Rattle.conversation.specs.Allowed.{isRight, rowsIn, slotsOf, bytesOf, Rising, Allowed}
+use Rattle.conversation.specs.Allowed.{isRight, rowsIn, slotsOf, bytesOf, Rising, Distinct, Allowed}
 use Rattle.conversation.proofs.Laws.Lists.{all-append, all-permuted, all-kept, all-map, keep-map}
 use Rattle.conversation.proofs.Laws.Limits.{grown-rows}
 use Rattle.conversation.proofs.Laws.Steps.{grown, payload}
@@ -98,6 +98,7 @@ module _ (machine : Machine) (name : List ℕ) where
           slots = λ k. subst (λ rs. length rs ≤ slotsOf k) (same-rows k) (a .slots k);
           bytes = λ k. subst (λ n. bytesOf (rowsIn machine name k (textsOf q)) ≤ n) (l k) (subst (λ rs. bytesOf rs ≤ length (bufferOf k b)) (same-rows k) (a .bytes k));
           rising = subst Rising (same-rows headers) (a .rising);
+          distinct = subst Distinct (same-rows recipients) (a .distinct);
         }
 
   -- in either phase a rearrangement is one both ways

@@ -48,7 +48,7 @@ module _ (m : Machine) (g : List ℕ) (x : Bool) (q : Phase) (t : Tables) (b : B
       sending (pick (eqb (numberOne m g t b (shortness (stanzaText l y) out) l y) 0) (written l y out) (refused (numberOne m g t b (shortness (stanzaText l y) out) l y))) (sessionIn m g x (phaseSent q (numberOne m g t b (shortness (stanzaText l y) out) l y) (commandIn m g l y)) (tablesOne m g t b (shortness (stanzaText l y) out) l y)) (buffersOne m g t b (shortness (stanzaText l y) out) l y)
       (pick (eqb (numberOne m g t b (shortness (stanzaText l y) out) l y) 0) (bufferAfter l y out) out) ≡ sentStanza (sessionIn m g x q t) b l y out
   unfolding sentStanza
-  step-is = go (eqb (numberOne m g t b (shortness (stanzaText l y) out) l y) 0) (λ f. short-none (overflows (stanzaText l y) out) (first-iff (decided t b (commandIn m g l y) (length (payloadIn m g l y))) (shortness (stanzaText l y) out) .0 (eqb-true (numberOne m g t b (shortness (stanzaText l y) out) l y) 0 f) .1))
+  step-is = go (eqb (numberOne m g t b (shortness (stanzaText l y) out) l y) 0) (λ f. short-none (overflows (stanzaText l y) out) (first-iff (decided t b (commandIn m g l y) (payloadIn m g l y)) (shortness (stanzaText l y) out) .0 (eqb-true (numberOne m g t b (shortness (stanzaText l y) out) l y) 0 f) .1))
     where
       go : (f : Bool) → (f ≡ true → overflows (stanzaText l y) out ≡ false) →
           sending (pick f (written l y out) (refused (numberOne m g t b (shortness (stanzaText l y) out) l y))) (sessionIn m g x (pick f (phaseAfter (commandIn m g l y)) q) (pick f (applied t b (commandIn m g l y) (payloadIn m g l y)) t)) (pick f (filledBy t b (commandIn m g l y) (payloadIn m g l y)) b)

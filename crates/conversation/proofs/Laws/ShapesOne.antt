@@ -15,7 +15,7 @@ use Rattle.phase_one.specs.Commands.{CommandOne, done, bad, doneWord, wordIn, i
 use Rattle.phase_one.specs.PhaseOne as one
 use Rattle.phase_one.specs.Turns.{phaseAfter}
 use Rattle.phase_one.specs.Views as one-kind
-use Rattle.phase_one.specs.Views.{KindOne, headers}
+use Rattle.phase_one.specs.Views.{KindOne, recipients, headers}
 use Rattle.session.specs.Tables.{Tables}
 use Rattle.session.specs.declared.opening.Machine.{Machine}
 use Rattle.session.specs.declared.opening.Machine.the-variants.{RecipientV1, IdentityV1}
@@ -25,7 +25,7 @@ use Rattle.session.specs.Session.{Session, openedSession}
 use Rattle.conversation.specs.Calls.{receive, outcome, after, numbers, AllZero, Accepted}
 use Rattle.conversation.specs.Kinds.{Buffers}
 use Rattle.conversation.specs.Phases.{All, Whole, lineIn, bodyIn, isDone, commandOf}
-use Rattle.conversation.specs.Allowed.{isRight, rowsIn, bytesOf, Rising, slotsOf, Allowed}
+use Rattle.conversation.specs.Allowed.{isRight, rowsIn, bytesOf, Rising, Distinct, slotsOf, Allowed}
 use Rattle.conversation.specs.Shapes.{AcceptedTo, BeginsWhole, FrontOne, ShapedOne}
 use Rattle.conversation.proofs.Laws.Accepted.{accepted}
 use Rattle.conversation.proofs.Laws.AllowedOne.{texts-iff}
@@ -41,9 +41,9 @@ unfolding same
 one-done RecipientV1 name line body e = ap (λ w. rowCommand (wordIn RecipientV1 w) name line (length body)) (same-eq (argumentOf line 0) doneWord e)
 one-done IdentityV1 name line body e = ap (λ w. rowCommand (wordIn IdentityV1 w) name line (length body)) (same-eq (argumentOf line 0) doneWord e)
 
-done-phase : (t : Tables) (b : one.BuffersOne) (n : ℕ) (f : Bool) (c : CommandOne) → c ≡ pick f done (bad 4) → one.decided t b c n ≡ 0 → phaseAfter c ≡ Two
-done-phase t b n true c e z = ap phaseAfter e
-done-phase t b n false c e z = let h : _≡_ {A = ℕ} 4 0 = ap (λ c. one.decided t b c n) (sym e) ∙ z in absurd (omega arith)
+done-phase : (t : Tables) (b : one.BuffersOne) (p : List ℕ) (f : Bool) (c : CommandOne) → c ≡ pick f done (bad 4) → one.decided t b c p ≡ 0 → phaseAfter c ≡ Two
+done-phase t b p true c e z = ap phaseAfter e
+done-phase t b p false c e z = let h : _≡_ {A = ℕ} 4 0 = ap (λ c. one.decided t b c p) (sym e) ∙ z in absurd (omega arith)
 
 module _ (s : Session) (b : Buffers) (t : List ℕ) (z : outcome s b (receive t) .number ≡ 0) where
   abbrev c : CommandOne
@@ -150,6 +150,7 @@ module _ (machine : Machine) (name : List ℕ) where
       slots = λ k. subst (λ r. length r ≤ slotsOf k) (first-rows k ts) (a .slots k);
       bytes = λ k. subst (λ r. bytesOf r ≤ length (one-kind.bufferOf k b)) (first-rows k ts) (a .bytes k);
       rising = subst Rising (first-rows headers ts) (a .rising);
+      distinct = subst Distinct (first-rows recipients ts) (a .distinct);
     }
 
     first-allowed : Allowed machine name b ts → Allowed machine name b (firsts ts)
@@ -158,6 +159,7 @@ module _ (machine : Machine) (name : List ℕ) where
       slots = λ k. subst (λ r. length r ≤ slotsOf k) (sym (first-rows k ts)) (a .slots k);
       bytes = λ k. subst (λ r. bytesOf r ≤ length (one-kind.bufferOf k b)) (sym (first-rows k ts)) (a .bytes k);
       rising = subst Rising (sym (first-rows headers ts)) (a .rising);
+      distinct = subst Distinct (sym (first-rows recipients ts)) (a .distinct);
     }
 
   -- ---- from an opening
@@ -180,8 +182,8 @@ module _ (machine : Machine) (name : List ℕ) where
         )
 
     none-allowed : Allowed machine name (b .first) []
-    unfolding All rowsIn bytesOf Rising
-    none-allowed = record { right = tt; slots = λ k. omega arith; bytes = λ k. omega arith; rising = tt }
+    unfolding All rowsIn bytesOf Rising Distinct
+    none-allowed = record { right = tt; slots = λ k. omega arith; bytes = λ k. omega arith; rising = tt; distinct = tt }
 
     -- texts of which none is done
     front-iff : (ts : List (List ℕ)) → FrontOne ts → Accepted start b (map receive ts) ↔ Allowed machine name (b .first) ts

@@ -21,6 +21,7 @@ use Rattle.bech32.specs.Text.{parse}
 use Rattle.bech32.specs.Calls.{formOf, markOf}
 use Rattle.bech32.specs.declared.TextKind.{TextKind}
 use Rattle.bech32.specs.declared.TextKind.the-variants as the-kind
+use Rattle.tables.specs.Repeats.{repeats}
 use Rattle.tables.specs.Tables.{Row, fits}
 use Rattle.session.specs.declared.opening.Machine.{Machine}
 use Rattle.session.specs.declared.opening.Machine.the-variants.{RecipientV1, IdentityV1}
@@ -30,7 +31,7 @@ use Rattle.session.specs.Tables.{Tables}
 use Rattle.phase_one.specs.PhaseOne.{BuffersOne, falls, decided, applied, filledBy, payloadIn}
 use Rattle.refusal.specs.Verdict.{firstOf}
 use Rattle.phase_one.specs.Views.{KindOne, recipients, identities, keys, headers, tableOf, bufferOf, viewOf, rowsOf}
-use Rattle.phase_one.proofs.Laws.Views.{Reached, applied-reached, applied-view, payload-stored, space, header-space}
+use Rattle.phase_one.proofs.Laws.Views.{Reached, applied-reached, applied-view, payload-stored, space, recipient-space, header-space}
 use Rattle.phase_one.specs.Turns.{phaseAfter}
 use Rattle.session.specs.Session.{Session, moved, openedSession}
 use Rattle.conversation.specs.Receiving.{Received, took, refusedReceipt, receivedStanza, receivedAs, received}
@@ -112,8 +113,8 @@ proper-phase (bad n) h = refl
 module _ (t : Tables) (b : BuffersOne) where
   -- by the command alone: in its own kind one entry more, where it fits; nothing in another
   pub grown : (c : CommandOne) (p : List ℕ) (k : KindOne) →
-      Grown k (tableOf k t) (bufferOf k b) (decided t b c (length p)) (rowsOf c k p) (tableOf k (applied t b c p)) (bufferOf k (filledBy t b c p))
-  grown (recipient m) p recipients = more p 0 m (λ z. (space (fits (t .recipients) (length p) (length (b .recipients))) z, tt))
+      Grown k (tableOf k t) (bufferOf k b) (decided t b c p) (rowsOf c k p) (tableOf k (applied t b c p)) (bufferOf k (filledBy t b c p))
+  grown (recipient m) p recipients = more p 0 m (recipient-space (repeats (t .recipients) (b .recipients) p) (fits (t .recipients) (length p) (length (b .recipients))))
   grown (recipient m) p identities = unchanged
   grown (recipient m) p keys = unchanged
   grown (recipient m) p headers = unchanged
@@ -133,14 +134,14 @@ module _ (t : Tables) (b : BuffersOne) where
   grown other p k = unchanged
   grown (bad n) p k = unchanged
 
-  decided-right : (d : Bool) (c : CommandOne) (n : ℕ) → Proper d c → decided t b c n ≡ 0 → isRight c ≡ true
-  decided-right d (recipient m) n h z = refl
-  decided-right d (identity m) n h z = refl
-  decided-right d key n h z = refl
-  decided-right d (header i m) n h z = refl
-  decided-right d done n h z = refl
-  decided-right d other n h z = refl
-  decided-right d (bad k) n h z = absurd (h z)
+  decided-right : (d : Bool) (c : CommandOne) (p : List ℕ) → Proper d c → decided t b c p ≡ 0 → isRight c ≡ true
+  decided-right d (recipient m) p h z = refl
+  decided-right d (identity m) p h z = refl
+  decided-right d key p h z = refl
+  decided-right d (header i m) p h z = refl
+  decided-right d done p h z = refl
+  decided-right d other p h z = refl
+  decided-right d (bad k) p h z = absurd (h z)
 
   -- every kind's table and buffer
   abbrev pub Going : Type 0
@@ -150,8 +151,10 @@ module _ (t : Tables) (b : BuffersOne) where
   abbrev pub Fitting : (KindOne → List Row) → Type 0
   Fitting rows = (k : KindOne) → Within k (length (bufferOf k b)) (viewOf k t b ++ rows k)
 
-  decided-zero : (c : CommandOne) (p : List ℕ) → Going → isRight c ≡ true → Fitting (λ k. rowsOf c k p) → decided t b c (length p) ≡ 0
-  decided-zero (recipient m) p g h w = rw (within-fits (t .recipients) (b .recipients) (record { payload = p; index = 0; mark = m }) recipients (g recipients) (w recipients) .0)
+  decided-zero : (c : CommandOne) (p : List ℕ) → Going → isRight c ≡ true → Fitting (λ k. rowsOf c k p) → decided t b c p ≡ 0
+  decided-zero (recipient m) p g h w =
+      let f = within-fits (t .recipients) (b .recipients) (record { payload = p; index = 0; mark = m }) recipients (g recipients) (w recipients) in
+      rw (f .1, f .0)
   decided-zero (identity m) p g h w = rw (within-fits (t .identities) (b .identities) (record { payload = p; index = 0; mark = m }) identities (g identities) (w identities) .0)
   decided-zero key p g h w = rw (within-fits (t .keys) (b .keys) (record { payload = p; index = 0; mark = 0 }) keys (g keys) (w keys) .0)
   decided-zero (header i m) p g h w =
@@ -184,7 +187,7 @@ module _ (machine : Machine) (name : List ℕ) where
   module _ (t : Tables) (b : BuffersOne) where
     -- the decision of a text; the tables and the buffers behind it where it is accepted
     abbrev pub judged : List ℕ → ℕ
-    judged x = decided t b (commandOf machine name x) (length (payload x))
+    judged x = decided t b (commandOf machine name x) (payload x)
 
     abbrev pub tablesWith : List ℕ → Tables
     tablesWith x = applied t b (commandOf machine name x) (payload x)
@@ -196,7 +199,7 @@ module _ (machine : Machine) (name : List ℕ) where
     pub judged-iff : (x : List ℕ) → Going t b → (judged x ≡ 0) ↔ ((isRight (commandOf machine name x) ≡ true) × Fitting t b (λ k. rowsFrom machine name k x))
     judged-iff x g =
         let c = commandOf machine name x in
-        (λ z. (decided-right t b (isDone x) c (length (payload x)) (proper x) z, λ k. grown-within (grown t b c (payload x) k) z (g k)), λ h. decided-zero t b c (payload x) g (h .0) (h .1))
+        (λ z. (decided-right t b (isDone x) c (payload x) (proper x) z, λ k. grown-within (grown t b c (payload x) k) z (g k)), λ h. decided-zero t b c (payload x) g (h .0) (h .1))
 
     module _ (x : List ℕ) (w : Whole x) (g : Going t b) (z : judged x ≡ 0) where
       reached : Reached t

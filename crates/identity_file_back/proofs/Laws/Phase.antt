@@ -20,7 +20,7 @@ use Rattle.phase_one.specs.PhaseOne.{BuffersOne, commandIn, payloadIn}
 use Rattle.phase_one.specs.Views.{KindOne, recipients, identities, keys, headers, bufferOf, rowsOf}
 use Rattle.session.specs.declared.opening.Machine.{Machine}
 use Rattle.session.specs.declared.opening.Machine.the-variants.{RecipientV1, IdentityV1}
-use Rattle.conversation.specs.Allowed.{isRight, rowsIn, slotsOf, bytesOf, Rising, Allowed}
+use Rattle.conversation.specs.Allowed.{isRight, rowsIn, slotsOf, bytesOf, Rising, Distinct, Allowed}
 use Rattle.conversation.specs.Phases as phases
 use Rattle.conversation.specs.Phases.{All, Whole, lineIn, bodyIn, isDone, rowsFrom, one-part, Block, Phase, blocksOf, textsOf, Quiet, IsPhase}
 use Rattle.conversation.specs.Shapes.{BeginsWhole, ShapedOne}
@@ -187,12 +187,13 @@ bytes-for name ls b h keys = omega arith
 bytes-for name ls b h headers = omega arith
 
 pub texts-allowed : (machine : Machine) (name : List ℕ) (b : BuffersOne) (ls : List (List ℕ)) → All Argument ls → length ls ≤ 64 → length (joined ls []) ≤ length (b .identities) → Allowed machine name b (textsFor ls)
-unfolding Rising
+unfolding Rising Distinct
 texts-allowed machine name b ls a h n = record {
   right = all-texts (λ t. isRight (phases.commandOf machine name t) ≡ true) ls a (λ l h. ap isRight (command-in machine name l h)) (ap isRight (done-in machine name));
   slots = λ k. subst (λ r. length r ≤ slotsOf k) (sym (texts-rows machine name ls a k)) (slots-for name ls h k);
   bytes = λ k. subst (λ r. bytesOf r ≤ length (bufferOf k b)) (sym (texts-rows machine name ls a k)) (bytes-for name ls b n k);
   rising = subst Rising (sym (texts-rows machine name ls a headers)) tt;
+  distinct = subst Distinct (sym (texts-rows machine name ls a recipients)) tt;
 }
 
 -- ---- as blocks

@@ -8,6 +8,7 @@ use lib.ListN.{length, getD}
 use native.Mathlib.Omega.{arith}
 use borrow.Author.Tests.{lt-ltb, le-ltb, le-leb, lt-leb, eq-eqb}
 use Rattle.stanza.specs.Arguments.{argumentOf}
+use Rattle.tables.specs.Repeats.{repeats}
 use Rattle.tables.specs.Tables.{Table, empty, storing, entered, kept}
 use Rattle.refusal.specs.Pick.{pick}
 use Rattle.refusal.proofs.Laws.Pick.{pick-in}
@@ -22,10 +23,14 @@ same-either : {X : Type 0} (b : Bool) (x : X) → x ≡ pick b x x
 same-either true x = refl
 same-either false x = refl
 
--- No. 7 comes before a fault that is looked for last
+-- No. 7 and No. 20 come before a fault that is looked for last
 late-falling : (b : Bool) (n z : ℕ) → pick b 7 (firstOf n z) ≡ firstOf (pick b 7 n) z
 late-falling true n z = refl
 late-falling false n z = refl
+
+late-repeated : (b : Bool) (n z : ℕ) → pick b 20 (firstOf n z) ≡ firstOf (pick b 20 n) z
+late-repeated true n z = refl
+late-repeated false n z = refl
 
 module _ (t : Table) (index : ℕ) where
   pub falls-none : t .count ≡ 0 → false ≡ falls t index
@@ -44,13 +49,13 @@ module _ (m : Machine) (g : List ℕ) (t : Tables) (b : BuffersOne) (z : ℕ) (l
   abbrev pub Stepped : ℕ → Tables → BuffersOne → Type 0
   Stepped v t′ b′ = (v ≡ numberOne m g t b z l y) × ((t′ ≡ tablesOne m g t b z l y) × (b′ ≡ buffersOne m g t b z l y))
 
-  pub stepped : (x : CommandOne) (v : ℕ) (t′ : Tables) (b′ : BuffersOne) → x ≡ commandIn m g l y → v ≡ firstOf (decided t b x (length (payloadOf x l y))) z →
+  pub stepped : (x : CommandOne) (v : ℕ) (t′ : Tables) (b′ : BuffersOne) → x ≡ commandIn m g l y → v ≡ firstOf (decided t b x (payloadOf x l y)) z →
       t′ ≡ pick (eqb v 0) (applied t b x (payloadOf x l y)) t → b′ ≡ pick (eqb v 0) (filledBy t b x (payloadOf x l y)) b → Stepped v t′ b′
   stepped x v t′ b′ e q u w = (
-    q ∙ ap (λ x. firstOf (decided t b x (length (payloadOf x l y))) z) e,
+    q ∙ ap (λ x. firstOf (decided t b x (payloadOf x l y)) z) e,
     (
-      u ∙ ap (λ v. pick (eqb v 0) (applied t b x (payloadOf x l y)) t) q ∙ ap (λ x. pick (eqb (firstOf (decided t b x (length (payloadOf x l y))) z) 0) (applied t b x (payloadOf x l y)) t) e,
-      w ∙ ap (λ v. pick (eqb v 0) (filledBy t b x (payloadOf x l y)) b) q ∙ ap (λ x. pick (eqb (firstOf (decided t b x (length (payloadOf x l y))) z) 0) (filledBy t b x (payloadOf x l y)) b) e,
+      u ∙ ap (λ v. pick (eqb v 0) (applied t b x (payloadOf x l y)) t) q ∙ ap (λ x. pick (eqb (firstOf (decided t b x (payloadOf x l y)) z) 0) (applied t b x (payloadOf x l y)) t) e,
+      w ∙ ap (λ v. pick (eqb v 0) (filledBy t b x (payloadOf x l y)) b) q ∙ ap (λ x. pick (eqb (firstOf (decided t b x (payloadOf x l y)) z) 0) (filledBy t b x (payloadOf x l y)) b) e,
     ),
   )
 
@@ -65,13 +70,14 @@ module _ (m : Machine) (g : List ℕ) (t : Tables) (b : BuffersOne) (z : ℕ) (l
   step-other e = stepped other z t b e refl (same-either (eqb z 0) t) (same-either (eqb z 0) b)
 
   -- an entry of each kind
-  pub step-recipient : (k v : ℕ) (r : Table) (p : List ℕ) → recipient k ≡ commandIn m g l y → v ≡ storing (t .recipients) (length (argumentOf l 1)) (length (b .recipients)) z →
+  pub step-recipient : (k v : ℕ) (r : Table) (p : List ℕ) → recipient k ≡ commandIn m g l y →
+      v ≡ pick (repeats (t .recipients) (b .recipients) (argumentOf l 1)) 20 (storing (t .recipients) (length (argumentOf l 1)) (length (b .recipients)) z) →
       r ≡ pick (eqb v 0) (entered (t .recipients) (length (argumentOf l 1)) 0 k (length (b .recipients))) (t .recipients) → p ≡ pick (eqb v 0) (kept (t .recipients) (argumentOf l 1) (b .recipients)) (b .recipients) →
       Stepped v (record { recipients = r; identities = t .identities; keys = t .keys; headers = t .headers; errors = t .errors; stanzas = t .stanzas; returned = t .returned }) (buffersOf p (b .identities) (b .keys) (b .headers))
   step-recipient k v r p e q u w =
       let f : Table → Tables = λ x. record { recipients = x; identities = t .identities; keys = t .keys; headers = t .headers; errors = t .errors; stanzas = t .stanzas; returned = t .returned } in
       let h : List ℕ → BuffersOne = λ x. buffersOf x (b .identities) (b .keys) (b .headers) in
-      stepped (recipient k) v _ _ e q (ap f u ∙ pick-in (eqb v 0) f _ _) (ap h w ∙ pick-in (eqb v 0) h _ _)
+      stepped (recipient k) v _ _ e (q ∙ late-repeated (repeats (t .recipients) (b .recipients) (argumentOf l 1)) _ z) (ap f u ∙ pick-in (eqb v 0) f _ _) (ap h w ∙ pick-in (eqb v 0) h _ _)
 
   pub step-identity : (k v : ℕ) (r : Table) (p : List ℕ) → identity k ≡ commandIn m g l y → v ≡ storing (t .identities) (length (argumentOf l 1)) (length (b .identities)) z →
       r ≡ pick (eqb v 0) (entered (t .identities) (length (argumentOf l 1)) 0 k (length (b .identities))) (t .identities) → p ≡ pick (eqb v 0) (kept (t .identities) (argumentOf l 1) (b .identities)) (b .identities) →

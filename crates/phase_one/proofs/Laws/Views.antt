@@ -17,6 +17,7 @@ use Rattle.bech32.specs.Calls.{formOf, markOf}
 use Rattle.bech32.specs.declared.TextKind.{TextKind}
 use Rattle.bech32.specs.declared.TextKind.the-variants as the-kind
 use Rattle.phase_one.specs.Commands.{WordOne, add-recipient, add-identity, wrap-file-key, recipient-stanza, done-word, other-word, wordIn, CommandOne, recipient, identity, key, header, done, other, bad, textOfKind, headerMark, indexed, isBare, rowCommand, payloadOf}
+use Rattle.tables.specs.Repeats.{repeats}
 use Rattle.tables.specs.Tables.{Table, fits, entered, kept, view}
 use Rattle.session.specs.declared.opening.Machine.{Machine}
 use Rattle.session.specs.Tables.{Tables, openedTables}
@@ -69,10 +70,14 @@ applied-reached t b done p h r k = r k
 applied-reached t b other p h r k = r k
 applied-reached t b (bad n) p h r k = r k
 
--- a command that needs space and is accepted fits; the index of a header stanza does not fall
+-- a command that needs space and is accepted fits; a recipient's text is shown by none, the index of a header stanza does not fall
 pub space : (f : Bool) → _≡_ {A = ℕ} (pick f 0 8) 0 → f ≡ true
 space true h = refl
 space false h = absurd (omega arith)
+
+pub recipient-space : (g f : Bool) → _≡_ {A = ℕ} (pick g 20 (pick f 0 8)) 0 → (f ≡ true) × (g ≡ false)
+recipient-space true f h = absurd (omega arith)
+recipient-space false f h = (space f h, refl)
 
 pub header-space : (g f : Bool) → _≡_ {A = ℕ} (pick g 7 (pick f 0 8)) 0 → (f ≡ true) × (g ≡ false)
 header-space true f h = absurd (omega arith)
@@ -91,8 +96,8 @@ module _ (t : Tables) (b : BuffersOne) (p : List ℕ) (r : Reached t) where
   unfolding Reached
   kept-of k = r k .kept-so
 
-  pub applied-view : (c : CommandOne) → decided t b c (length p) ≡ 0 → (k : KindOne) → viewOf k (applied t b c p) (filledBy t b c p) ≡ viewOf k t b ++ rowsOf c k p
-  applied-view (recipient m) h recipients = own (t .recipients) p (b .recipients) 0 m (kept-of recipients) (space (fits (t .recipients) (length p) (length (b .recipients))) h)
+  pub applied-view : (c : CommandOne) → decided t b c p ≡ 0 → (k : KindOne) → viewOf k (applied t b c p) (filledBy t b c p) ≡ viewOf k t b ++ rowsOf c k p
+  applied-view (recipient m) h recipients = own (t .recipients) p (b .recipients) 0 m (kept-of recipients) (recipient-space (repeats (t .recipients) (b .recipients) p) (fits (t .recipients) (length p) (length (b .recipients))) h .0)
   applied-view (recipient m) h identities = none identities
   applied-view (recipient m) h keys = none keys
   applied-view (recipient m) h headers = none headers
@@ -162,7 +167,7 @@ module _ (m : Machine) (g : List ℕ) (t : Tables) (b : BuffersOne) (z : ℕ) (l
   pub one-view : (k : KindOne) → viewOf k (tablesOne m g t b z l y) (buffersOne m g t b z l y) ≡ viewOf k t b ++ pick (eqb (numberOne m g t b z l y) 0) (rowsOf (commandIn m g l y) k (payloadIn m g l y)) []
   one-view k =
       both (eqb (numberOne m g t b z l y) 0)
-      (λ e. applied-view t b (payloadIn m g l y) r (commandIn m g l y) (first-zero (decided t b (commandIn m g l y) (length (payloadIn m g l y))) z (eqb-true (numberOne m g t b z l y) 0 e)) k)
+      (λ e. applied-view t b (payloadIn m g l y) r (commandIn m g l y) (first-zero (decided t b (commandIn m g l y) (payloadIn m g l y)) z (eqb-true (numberOne m g t b z l y) 0 e)) k)
     where
       both : (f : Bool) →
           (f ≡ true → viewOf k (applied t b (commandIn m g l y) (payloadIn m g l y)) (filledBy t b (commandIn m g l y) (payloadIn m g l y)) ≡ viewOf k t b ++ rowsOf (commandIn m g l y) k (payloadIn m g l y)) →

@@ -26,5 +26,6 @@ number-not-zero the.Malformed = refl
 number-not-zero the.Unwritable = refl
 number-not-zero the.NoSuchMachine = refl
 number-not-zero the.HeldBack = refl
+number-not-zero the.Repeated = refl
 number-not-zero the.BadChecksum = refl
 number-not-zero the.LeftoverBits = refl

@@ -86,7 +86,7 @@ opened-view n buffer = refl
 
 -- ---- one entry more
 
-chain-le : (es : List Entry) (s u : ℕ) → Chained s es u → s ≤ u
+pub chain-le : (es : List Entry) (s u : ℕ) → Chained s es u → s ≤ u
 unfolding Chained
 chain-le [] s u h = omega arith
 chain-le (e ∷ es) s u h = omega (arith, chain-le es (s + e .length) u (h .1))

@@ -23,11 +23,8 @@ parse-one-requires c κs = search needs
 enum-told : tie.Need-enum-told
 enum-told c = search needs
 
-span-of-requires : tie.Need-span-of-requires
-span-of-requires c κs = search needs
-
-keep-text-requires : tie.Need-keep-text-requires
-keep-text-requires c κs = search needs
+keep-recipient-requires : tie.Need-keep-recipient-requires
+keep-recipient-requires c κs = search needs
 
 stepped-requires : tie.Need-stepped-requires
 stepped-requires c κs = search needs
@@ -35,11 +32,11 @@ stepped-requires c κs = search needs
 enum-told-2 : tie.Need-enum-told-2
 enum-told-2 c = search needs
 
-span-of-requires-2 : tie.Need-span-of-requires-2
-span-of-requires-2 c κs = search needs
+span-of-requires : tie.Need-span-of-requires
+span-of-requires c κs = search needs
 
-keep-text-requires-2 : tie.Need-keep-text-requires-2
-keep-text-requires-2 c κs = search needs
+keep-text-requires : tie.Need-keep-text-requires
+keep-text-requires c κs = search needs
 
 stepped-requires-2 : tie.Need-stepped-requires-2
 stepped-requires-2 c κs = search needs
@@ -47,8 +44,8 @@ stepped-requires-2 c κs = search needs
 enum-told-3 : tie.Need-enum-told-3
 enum-told-3 c = search needs
 
-span-of-requires-3 : tie.Need-span-of-requires-3
-span-of-requires-3 c κs = search needs
+span-of-requires-2 : tie.Need-span-of-requires-2
+span-of-requires-2 c κs = search needs
 
 store-requires : tie.Need-store-requires
 store-requires c κs = search needs
@@ -82,15 +79,15 @@ same-length-2 c = search needs
 
 returns : tie.Need-returns
 returns c =
-    let a = c .before .before .before .before .before .before .before .before .before .before .before .before .before .before .before .before .before .before .before .before .args in
+    let a = c .before .before .before .before .before .before .before .before .before .before .before .before .before .before .before .before .before .before .before .args in
     let y = bodyFrom (a .coding) (now (a .source)) in
     let t = tablesIn (a .tables) (now (a .slots)) (now (a .header-slots)) in
     let b = buffersOf (now (a .recipients)) (now (a .identities)) (now (a .keys)) (now (a .headers)) in
-    let e = rw (c .before .before .before .before .before .before .before .before .before .before .before .before .body-size .ensures .0) at (c .before .before .before .before .before .before .before .before .before .before .before .parse-one .ensures (now (a .plugin))) in
-    let z = rw (c .before .before .before .before .before .before .before .span-of .ensures) at (c .before .before .before .before .keep-text .ensures) in
-    let k = ap (commandSaid (now (a .plugin)) (now (a .line)) (length y)) (sym (c .before .before .before .before .before .before .before .before .before .enum-told .given .1)) ∙ e in
+    let e = rw (c .before .before .before .before .before .before .before .before .before .before .before .body-size .ensures .0) at (c .before .before .before .before .before .before .before .before .before .before .parse-one .ensures (now (a .plugin))) in
+    let z = c .before .before .before .before .keep-recipient .ensures in
+    let k = ap (commandSaid (now (a .plugin)) (now (a .line)) (length y)) (sym (c .before .before .before .before .before .before .before .before .enum-told .given .1)) ∙ e in
     let s = step-recipient (a .machine) (now (a .plugin)) t b (verdictSaid (a .late)) (now (a .line)) y _ _ _ _ k (z .0) (z .1 .0) (z .1 .1 .1) in
-    rw (c .stepped .ensures) (e, (s .0, (put-recipients (a .tables) (now (a .slots)) _ (now (a .header-slots)) (c .before .before .before .before .keep-text .result .table) _ refl (z .1 .1 .0) ∙ s .1 .0, s .1 .1)))
+    rw (c .stepped .ensures) (e, (s .0, (put-recipients (a .tables) (now (a .slots)) _ (now (a .header-slots)) (c .before .before .before .before .keep-recipient .result .table) _ refl (z .1 .1 .0) ∙ s .1 .0, s .1 .1)))
 
 same-length-3 : tie.Need-same-length-3
 same-length-3 c = search needs
@@ -105,10 +102,10 @@ returns-2 c =
     let t = tablesIn (a .tables) (now (a .slots)) (now (a .header-slots)) in
     let b = buffersOf (now (a .recipients)) (now (a .identities)) (now (a .keys)) (now (a .headers)) in
     let e = rw (c .before .before .before .before .before .before .before .before .before .before .before .before .body-size .ensures .0) at (c .before .before .before .before .before .before .before .before .before .before .before .parse-one .ensures (now (a .plugin))) in
-    let z = rw (c .before .before .before .before .before .before .before .span-of2 .ensures) at (c .before .before .before .before .keep-text2 .ensures) in
+    let z = rw (c .before .before .before .before .before .before .before .span-of .ensures) at (c .before .before .before .before .keep-text .ensures) in
     let k = ap (commandSaid (now (a .plugin)) (now (a .line)) (length y)) (sym (c .before .before .before .before .before .before .before .before .before .enum-told2 .given .1)) ∙ e in
     let s = step-identity (a .machine) (now (a .plugin)) t b (verdictSaid (a .late)) (now (a .line)) y _ _ _ _ k (z .0) (z .1 .0) (z .1 .1 .1) in
-    rw (c .stepped2 .ensures) (e, (s .0, (put-identities (a .tables) (now (a .slots)) _ (now (a .header-slots)) (c .before .before .before .before .keep-text2 .result .table) _ refl (z .1 .1 .0) ∙ s .1 .0, s .1 .1)))
+    rw (c .stepped2 .ensures) (e, (s .0, (put-identities (a .tables) (now (a .slots)) _ (now (a .header-slots)) (c .before .before .before .before .keep-text .result .table) _ refl (z .1 .1 .0) ∙ s .1 .0, s .1 .1)))
 
 same-length-5 : tie.Need-same-length-5
 same-length-5 c = search needs
@@ -123,7 +120,7 @@ returns-3 c =
     let t = tablesIn (a .tables) (now (a .slots)) (now (a .header-slots)) in
     let b = buffersOf (now (a .recipients)) (now (a .identities)) (now (a .keys)) (now (a .headers)) in
     let e = rw (c .before .before .before .before .before .before .before .before .before .before .before .before .body-size .ensures .0) at (c .before .before .before .before .before .before .before .before .before .before .before .parse-one .ensures (now (a .plugin))) in
-    let z = rw (c .before .before .before .before .before .before .before .span-of3 .ensures) at (c .before .before .before .before .store .ensures) in
+    let z = rw (c .before .before .before .before .before .before .before .span-of2 .ensures) at (c .before .before .before .before .store .ensures) in
     let k = ap (commandSaid (now (a .plugin)) (now (a .line)) (length y)) (sym (c .before .before .before .before .before .before .before .before .before .enum-told3 .given .1)) ∙ e in
     let s = step-key (a .machine) (now (a .plugin)) t b (verdictSaid (a .late)) (now (a .line)) y _ _ _ k (z .0) (rw (sym (z .0)) at (z .1 .0)) (rw (sym (z .0)) at (z .1 .1 .1)) in
     rw (c .stepped3 .ensures) (e, (s .0, (put-keys (a .tables) (now (a .slots)) _ (now (a .header-slots)) (c .before .before .before .before .store .result .table) _ refl (z .1 .1 .0) ∙ s .1 .0, s .1 .1)))
@@ -181,15 +178,14 @@ step-one-spec =
     body-size-requires
     parse-one-requires
     enum-told
-    span-of-requires
-    keep-text-requires
+    keep-recipient-requires
     stepped-requires
     enum-told-2
-    span-of-requires-2
-    keep-text-requires-2
+    span-of-requires
+    keep-text-requires
     stepped-requires-2
     enum-told-3
-    span-of-requires-3
+    span-of-requires-2
     store-requires
     stepped-requires-3
     enum-known-command
