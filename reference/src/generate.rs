@@ -17,6 +17,7 @@ mod profile;
 mod random;
 mod recordings;
 mod refusals;
+mod repeats;
 mod session;
 mod text;
 mod text_faults;
@@ -44,6 +45,7 @@ pub fn script() -> Vec<u8> {
     no_screen::sections(&mut script);
     file_numbers::sections(&mut script);
     text_faults::sections(&mut script);
+    repeats::sections(&mut script);
     class::sections(&mut script);
     script.heading("The last line lacks its LF");
     script.index(b"7");
@@ -175,7 +177,7 @@ mod tests {
             ("write-identity", "bad, ok, refused 15, refused 17"),
             ("profile", "bad, ok conforming, ok nonconforming, ok unknown"),
             ("identity-file", "bad, ok, refused 15, refused 8"),
-            ("judge", "bad, ok 0, ok 1, ok 2, ok 3, ok 4, ok 8"),
+            ("judge", "bad, ok 0, ok 1, ok 2, ok 20, ok 3, ok 4, ok 8"),
             ("open", "bad, ok, refused 17, refused 18"),
             ("buffers", "bad, none, ok"),
             ("entry", "bad, none, ok"),
@@ -257,11 +259,11 @@ mod tests {
     #[test]
     fn every_refusal_of_every_call_occurs() {
         let expected: [(&str, &[u8]); 8] = [
-            ("client send", &[4, 5, 7, 8, 13, 14, 15, 17]),
+            ("client send", &[4, 5, 7, 8, 13, 14, 15, 17, 20]),
             ("client chunk", &[1, 3, 4, 5, 6, 8, 9, 10, 11, 13, 14, 15]),
             ("client reply", &[1, 3, 4, 5, 6, 8, 9, 10, 11, 12, 13, 14, 15, 17]),
             ("client finish", &[2, 13]),
-            ("plugin chunk", &[1, 3, 4, 5, 7, 8, 13, 14]),
+            ("plugin chunk", &[1, 3, 4, 5, 7, 8, 13, 14, 20]),
             ("plugin send", &[4, 5, 6, 8, 9, 10, 11, 13, 14, 15, 17, 19]),
             ("plugin response", &[1, 3, 12, 15]),
             ("plugin finish", &[2, 13]),
@@ -275,14 +277,14 @@ mod tests {
                     // Stanzas of more than 8,192 bytes take much of the script.
                     (_, 3 | 17) => 2,
                     // Most often something stands before the fault.
-                    ("client reply", 1..=11) => 2,
+                    ("client reply", 1..=11) => 1,
                     _ => 15,
                 };
                 assert!(count >= least, "{call} refused {number}: {count}");
             }
         }
         let all: BTreeSet<u8> = refusals.values().flat_map(|counts| counts.keys().copied()).collect();
-        assert_eq!(all.into_iter().collect::<Vec<_>>(), (1..=19).chain([21, 22]).collect::<Vec<_>>());
+        assert_eq!(all.into_iter().collect::<Vec<_>>(), (1..=22).collect::<Vec<_>>());
     }
 
     /// So it is with calls that have taken something before the fault: all numbers but those that are for the
@@ -293,7 +295,7 @@ mod tests {
             ("client chunk", &[1, 3, 4, 5, 6, 8, 9, 10, 11, 13]),
             // What is kept back is at most 8,192 bytes, so 3 comes for its first stanza only.
             ("client reply", &[1, 4, 5, 6, 8, 9, 10, 11, 13]),
-            ("plugin chunk", &[1, 3, 4, 5, 7, 8, 14]),
+            ("plugin chunk", &[1, 3, 4, 5, 7, 8, 14, 20]),
             ("plugin response", &[14]),
         ];
         let refusals = refusals(&answered(&script()));
@@ -314,7 +316,7 @@ mod tests {
     #[test]
     fn every_refusal_of_phase_one_occurs() {
         let found: BTreeSet<u8> = session_answers().iter().filter_map(|(_, answer)| number(answer)).collect();
-        assert_eq!(found.into_iter().collect::<Vec<_>>(), [1, 2, 3, 4, 5, 7, 8, 13, 14, 15, 17, 18]);
+        assert_eq!(found.into_iter().collect::<Vec<_>>(), [1, 2, 3, 4, 5, 7, 8, 13, 14, 15, 17, 18, 20]);
     }
 
     #[test]

@@ -157,16 +157,24 @@ mod tests {
 
     #[test]
     fn sixty_four_recipients_pass_and_the_next_gives_8() {
-        let recipients = "-> add-recipient r\n\n".repeat(64);
+        let recipients: String = (0..64).map(|number| format!("-> add-recipient {number}\n\n")).collect();
         assert_eq!(numbers(&format!("{recipients}-> done\n\n")), [64, 0, 0, 0, 0]);
-        assert_eq!(numbers(&format!("{recipients}-> add-recipient r\n\n")), [64, 0, 0, 0, 8]);
+        assert_eq!(numbers(&format!("{recipients}-> add-recipient 64\n\n")), [64, 0, 0, 0, 8]);
+    }
+
+    #[test]
+    fn a_second_recipient_of_the_same_text_gives_20() {
+        assert_eq!(numbers(&EXAMPLE.replace("baz", "foo")), [1, 1, 1, 0, 20]);
+        assert_eq!(numbers(&EXAMPLE.replace("baz", "bar")), [2, 1, 2, 0, 0]);
+        let recipients: String = (0..64).map(|number| format!("-> add-recipient {number}\n\n")).collect();
+        assert_eq!(numbers(&format!("{recipients}-> add-recipient 40\n\n")), [64, 0, 0, 0, 20]);
     }
 
     #[test]
     fn buffers_of_16384_bytes() {
         let add = |command: &str, len| format!("-> {command} {}\n\n", "x".repeat(len));
         for command in ["add-recipient", "add-identity"] {
-            let exact = add(command, 8_000) + &add(command, 8_000) + &add(command, 384);
+            let exact = add(command, 8_001) + &add(command, 7_999) + &add(command, 384);
             let counts = numbers(&format!("{exact}-> done\n\n"));
             assert_eq!((counts[0] + counts[1], counts[4]), (3, 0));
             let counts = numbers(&(exact + &add(command, 1)));

@@ -42,6 +42,8 @@ pub enum Refusal {
     UnknownMachine = 18,
     /// Plugin end: held back by an invalid entry or nonconforming stanza, or error for an unknown stanza.
     HeldBack = 19,
+    /// A recipient whose text an earlier one has.
+    RepeatedRecipient = 20,
     /// Text isn't a recipient (or identity): its checksum fails.
     BadChecksum = 21,
     /// Text isn't a recipient (or identity): bits are left over.
@@ -61,15 +63,14 @@ mod tests {
     use super::Refusal::{self, *};
 
     #[test]
-    fn numbers_run_from_1_to_19_and_on() {
-        let in_order: [Refusal; 19] = [
+    fn numbers_run_from_1_to_22() {
+        let in_order: [Refusal; 22] = [
             NotAStanza, NotEnded, TooLong, WrongForm, BadIndex, NamesNothing, IndexFalls, NoSpace, SecondKey,
             TooManyStanzas, WorkAndError, UnfitResponse, SessionOver, OutOfTurn, OutputTooShort, NotAnEntry,
-            Unwritable, UnknownMachine, HeldBack,
+            Unwritable, UnknownMachine, HeldBack, RepeatedRecipient, BadChecksum, LeftoverBits,
         ];
         for (before, refusal) in in_order.into_iter().enumerate() {
             assert_eq!(usize::from(refusal.number()), before + 1);
         }
-        assert_eq!([BadChecksum, LeftoverBits].map(Refusal::number), [21, 22]);
     }
 }

@@ -81,6 +81,11 @@ impl Command {
     }
 }
 
+/// So many recipients, of which no two have the same text.
+pub(super) fn different_recipients(count: usize) -> Vec<Command> {
+    (0..count).map(|number| Command::add_recipient(format!("r{number}").as_bytes())).collect()
+}
+
 /// The text of commands, one behind the other.
 pub(super) fn text_of_all(commands: &[Command]) -> Vec<u8> {
     commands.iter().flat_map(Command::text).collect()

@@ -1,6 +1,6 @@
 //! Lines for the judging program.
 
-use super::commands::{text_of_all, Command, RECIPIENT};
+use super::commands::{different_recipients, text_of_all, Command, RECIPIENT};
 use super::phase_one::{damaged_text, some_phase};
 use super::recordings::RECORDINGS;
 use super::text::replaced;
@@ -64,18 +64,21 @@ fn example_damaged(script: &mut Script) {
 
 fn full_tables(script: &mut Script) {
     script.heading("Judge: 64 of a kind pass, the next gives 8");
-    let commands =
-        [Command::add_recipient(b"r"), Command::add_identity(b"i"), Command::wrap_file_key(&[255; 16])];
-    for command in commands {
+    let kinds = [
+        different_recipients(65),
+        vec![Command::add_identity(b"i"); 65],
+        vec![Command::wrap_file_key(&[255; 16]); 65],
+    ];
+    for commands in kinds {
         for count in [63, 64, 65] {
-            let mut phase = vec![command.clone(); count];
-            phase.push(Command::done());
+            let phase = [&commands[..count], &[Command::done()]].concat();
             script.judge(&text_of_all(&phase));
         }
     }
     script.heading("Judge: one counter for each kind");
+    let recipients = different_recipients(64).into_iter();
     let kinds: Vec<Command> =
-        (0..64).flat_map(|_| [Command::add_recipient(b"r"), Command::add_identity(b"i")]).collect();
+        recipients.flat_map(|recipient| [recipient, Command::add_identity(b"i")]).collect();
     script.judge(&[text_of_all(&kinds), b"-> done\n\n".to_vec()].concat());
 }
 

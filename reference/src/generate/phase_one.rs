@@ -93,7 +93,11 @@ pub(super) fn some_phase(script: &mut Script, machine: &str, plugin: &[u8]) -> V
     let mut file = 0;
     for _ in 0..script.random.below(7) {
         file += script.random.below(3) * script.random.below(3);
-        phase.push(some_command(script, machine, plugin, file));
+        let command = some_command(script, machine, plugin, file);
+        // A recipient may not repeat.
+        if command.word != b"add-recipient" || !phase.contains(&command) {
+            phase.push(command);
+        }
     }
     phase.push(Command::done());
     phase

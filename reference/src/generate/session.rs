@@ -1,7 +1,9 @@
 //! Lines for sessions: openings, phase one at both ends, buffers, marks, look-ups, and the recordings.
 
 use super::bech32::{other_case, signed, text_of};
-use super::commands::{headers, Command, End, ENDS, IDENTITY, MACHINES, PLUGIN, RECIPIENT, ROOMY};
+use super::commands::{
+    different_recipients, headers, Command, End, ENDS, IDENTITY, MACHINES, PLUGIN, RECIPIENT, ROOMY,
+};
 use super::judge::example;
 use super::phase_one;
 use super::recordings::{Recording, RECORDINGS};
@@ -106,7 +108,7 @@ fn full_tables(script: &mut Script) {
     let numbered = |number: usize| format!("{}", number % 10).into_bytes();
     for end in ENDS {
         script.heading(&format!("64 recipients pass, the 65th gives 8, {end:?}"));
-        let recipients: Vec<_> = (0..65).map(|number| Command::add_recipient(&numbered(number))).collect();
+        let recipients = different_recipients(65);
         script.conversation(end, RECIPIENT, ROOMY, &recipients);
         script.heading(&format!("64 identities pass, the 65th gives 8, {end:?}"));
         let identities: Vec<_> = (0..65).map(|number| Command::add_identity(&numbered(number))).collect();

@@ -39,10 +39,10 @@ impl<T> Received<T> {
 }
 
 /// What a call will have written if it stands, and what it has taken so far.
-pub(super) struct Draft<'b, T> {
-    /// The buffers that the call is lent; their lengths decide 8.
-    pub(super) buffers: &'b Buffers,
-    payloads: Vec<Payload>,
+pub(super) struct Draft<T> {
+    /// The buffers that the call is lent, with what it has kept so far: their lengths decide 8, and what they
+    /// show decides 20.
+    pub(super) buffers: Buffers,
     /// The length of the output buffer that the call is lent.
     space: usize,
     output: Vec<u8>,
@@ -50,9 +50,9 @@ pub(super) struct Draft<'b, T> {
     last: Option<T>,
 }
 
-impl<'b, T> Draft<'b, T> {
-    fn new(buffers: &'b Buffers, space: usize) -> Self {
-        Draft { buffers, payloads: Vec::new(), space, output: Vec::new(), count: 0, last: None }
+impl<T> Draft<T> {
+    fn new(buffers: Buffers, space: usize) -> Self {
+        Draft { buffers, space, output: Vec::new(), count: 0, last: None }
     }
 
     /// Puts a text behind what the call has written so far; 15 if together they are too long.
@@ -66,7 +66,7 @@ impl<'b, T> Draft<'b, T> {
 
     /// A payload for one of the buffers, if there is one.
     pub(super) fn keep(&mut self, payload: Option<Payload>) {
-        self.payloads.extend(payload);
+        self.buffers.put_all(payload);
     }
 
     fn take(&mut self, what: T) {
@@ -107,14 +107,14 @@ pub(super) fn call<E: Receiver>(
     work: impl FnOnce(&mut E, &mut Draft<E::What>) -> Result<(), Refusal>,
 ) -> Received<E::What> {
     let mut after = end.clone();
-    let mut draft = Draft::new(buffers, out.len());
+    let mut draft = Draft::new(buffers.clone(), out.len());
     let refusal = work(&mut after, &mut draft).err();
     if refusal == Some(Refusal::OutputTooShort) {
         return Received::refused(Refusal::OutputTooShort);
     }
-    let Draft { payloads, output, count, last, .. } = draft;
+    let Draft { buffers: lent, output, count, last, .. } = draft;
     *end = after;
-    buffers.put_all(payloads);
+    *buffers = lent;
     out[..output.len()].copy_from_slice(&output);
     Received { refusal, count, last, written: output.len() }
 }

@@ -51,7 +51,7 @@ impl Client {
     /// `arguments` has all of them, the command first. It is judged by the text that it makes, and a
     /// command that the machine does not name can be sent too.
     ///
-    /// The order is 13, 14, 17, 4, 5, 7, 8, 15. A refusal leaves everything as it was.
+    /// The order is 13, 14, 17, 4, 5, 7, 20, 8, 15. A refusal leaves everything as it was.
     pub fn send(
         &mut self,
         arguments: &[u8],
@@ -147,7 +147,7 @@ impl Receiver for Client {
         let step = phase_two::parse(self.session.machine, stanza)?;
         let command = step.command;
         step.check_rules(&self.session.tables)?;
-        step.check_space(&self.session.tables, draft.buffers)?;
+        step.check_space(&self.session.tables, &draft.buffers)?;
         if let Some(response) = self.at_once(command) {
             draft.write(&response.text(b"")?)?;
         }

@@ -1,4 +1,4 @@
-//! One command of phase one: its form (4, 5) and what the tables say to it (7, 8). Both ends judge by this.
+//! One command of phase one: its form (4, 5) and what the tables say to it (7, 20, 8). Both ends judge by this.
 
 use super::tables::{Addition, Buffers, Detail, Kind};
 use super::{body, split_word, Machine, Session, FILE_KEY_BYTES};
@@ -41,7 +41,7 @@ pub(super) struct Step {
     pub(super) addition: Option<Addition>,
 }
 
-/// What the stanza does to the session; 4, 5, 7 or 8 if it is refused. Nothing is changed yet.
+/// What the stanza does to the session; 4, 5, 7, 20 or 8 if it is refused. Nothing is changed yet.
 pub(super) fn judge(session: &Session, stanza: &Stanza, buffers: &Buffers) -> Result<Step, Refusal> {
     let (word, arguments) = split_word(stanza.arguments());
     let command = Command::named(session.machine, word);
@@ -49,6 +49,9 @@ pub(super) fn judge(session: &Session, stanza: &Stanza, buffers: &Buffers) -> Re
     if let Some(addition) = &addition {
         if falls(session, addition.detail) {
             return Err(Refusal::IndexFalls);
+        }
+        if repeats(session, addition, buffers) {
+            return Err(Refusal::RepeatedRecipient);
         }
         if !session.tables.fits(addition, buffers) {
             return Err(Refusal::NoSpace);
@@ -118,4 +121,12 @@ fn falls(session: &Session, detail: Detail) -> bool {
     };
     let last = session.tables.of(Kind::Header).last().and_then(|entry| file(entry.detail));
     file(detail).is_some_and(|file| last.is_some_and(|last| file < last))
+}
+
+/// Whether this is a recipient that the buffer lent now shows already. An entry that it is too short for is
+/// empty, and equals nothing.
+fn repeats(session: &Session, addition: &Addition, buffers: &Buffers) -> bool {
+    let mut numbers = 0..session.tables.of(Kind::Recipient).len() as u64;
+    addition.kind == Kind::Recipient
+        && numbers.any(|number| session.tables.payload(Kind::Recipient, number, buffers) == addition.payload)
 }

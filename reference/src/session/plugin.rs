@@ -35,9 +35,9 @@ impl Plugin {
     /// earlier chunks.
     ///
     /// 13 is for the call. After that faults are met from the left, for each stanza in the order 1 to 3, then
-    /// 4, 5, 7, 8 for a command and 12, 15 for a response; 14 for bytes that none awaits, which are dropped
+    /// 4, 5, 7, 20, 8 for a command and 12, 15 for a response; 14 for bytes that none awaits, which are dropped
     /// unread. What stood before a fault stands; only 15 leaves everything as it was before the call. 1, 3 to
-    /// 8 and 12 close the session.
+    /// 8, 12 and 20 close the session.
     pub fn chunk(&mut self, chunk: &[u8], buffers: &mut Buffers, out: &mut [u8]) -> Received<What> {
         chunk::call(self, buffers, out, |plugin, draft| {
             plugin.session.not_over()?;
@@ -71,9 +71,9 @@ impl Plugin {
         Ok(len)
     }
 
-    /// One command of phase one: 4, 5, 7, 8.
+    /// One command of phase one: 4, 5, 7, 20, 8.
     fn command(&mut self, stanza: &Stanza, draft: &mut Draft<What>) -> Result<phase_one::Command, Refusal> {
-        let step = phase_one::judge(&self.session, stanza, draft.buffers)?;
+        let step = phase_one::judge(&self.session, stanza, &draft.buffers)?;
         let command = step.command;
         draft.keep(self.session.apply_phase_one(step));
         Ok(command)

@@ -2,7 +2,7 @@
 //! responses.
 
 use super::live::Live;
-use crate::generate::commands::{Command, End, IDENTITY, RECIPIENT};
+use crate::generate::commands::{different_recipients, text_of_all, Command, End, IDENTITY, RECIPIENT};
 use crate::generate::phase_two::exchanges::{Answer, Screen, Start, AMPLE, SHORT};
 use crate::generate::Script;
 use crate::session::{KEPT_BACK_LIMIT, KINDS};
@@ -205,17 +205,17 @@ fn many_responses(script: &mut Script) {
 /// Full tables in one chunk: the command too many gives 8, and those before it stand.
 fn full_tables(script: &mut Script) {
     script.heading("Full tables in one chunk");
-    for (machine, command) in [
-        (RECIPIENT, Command::add_recipient(b"r")),
-        (RECIPIENT, Command::wrap_file_key(&[b'k'; 16])),
-        (IDENTITY, Command::recipient_stanza(b"3", b"t", b"")),
+    for (machine, commands) in [
+        (RECIPIENT, different_recipients(65)),
+        (RECIPIENT, vec![Command::wrap_file_key(&[b'k'; 16]); 65]),
+        (IDENTITY, vec![Command::recipient_stanza(b"3", b"t", b""); 257]),
     ] {
-        let slots = if machine == IDENTITY { 256 } else { 64 };
+        let slots = commands.len() - 1;
         for (count, tail) in
             [(slots, b"-> done\n\n".as_slice()), (slots + 1, b"-> done\n\n"), (slots + 1, b"\r")]
         {
             script.open(End::Plugin, machine, SHORT, AMPLE);
-            script.chunk(&[command.text().repeat(count).as_slice(), tail].concat(), 0);
+            script.chunk(&[text_of_all(&commands[..count]).as_slice(), tail].concat(), 0);
             script.show();
         }
     }

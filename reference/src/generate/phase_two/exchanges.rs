@@ -121,6 +121,11 @@ pub(in crate::generate) fn recipient() -> Command {
     Command::add_recipient(&text_of(Kind::Recipient, SHORT, b""))
 }
 
+/// Another for each number.
+pub(in crate::generate) fn other_recipient(number: u8) -> Command {
+    Command::add_recipient(&text_of(Kind::Recipient, SHORT, &[number]))
+}
+
 /// An identity of the plugin with the short name.
 pub(in crate::generate) fn identity() -> Command {
     Command::add_identity(&text_of(Kind::Identity, SHORT, b""))

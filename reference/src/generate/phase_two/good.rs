@@ -34,7 +34,10 @@ pub(in crate::generate) fn some_start(script: &mut Script) -> Start {
             }
             _ => Command::new(b"grease", b"", b""),
         };
-        phase_one.push(command);
+        // A recipient may not repeat.
+        if command.word != b"add-recipient" || !phase_one.contains(&command) {
+            phase_one.push(command);
+        }
     }
     Start::new(machine, plugin, &phase_one)
 }

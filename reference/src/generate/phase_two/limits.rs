@@ -1,7 +1,7 @@
 //! Full tables, buffers exactly long enough, buffers that change between calls, and output buffers.
 
 use super::exchanges::{
-    file_key, identity, recipient, unknown, Exchange, Screen, Start, AMPLE, LONGEST_ANSWER, SHORT,
+    file_key, identity, other_recipient, unknown, Exchange, Screen, Start, AMPLE, LONGEST_ANSWER, SHORT,
 };
 use crate::generate::commands::{Command, End, ENDS, IDENTITY, RECIPIENT};
 use crate::generate::Script;
@@ -42,7 +42,7 @@ fn full_errors(script: &mut Script, end: End) {
 
 fn full_stanzas(script: &mut Script, end: End) {
     script.heading(&format!("256 returned stanzas pass, the 257th gives 8, {end:?}"));
-    let mut phase = vec![recipient(); 33];
+    let mut phase: Vec<Command> = (0..33).map(other_recipient).collect();
     phase.extend(vec![identity(); 32]);
     phase.extend(vec![file_key(); 5]);
     let start = Start::new(RECIPIENT, SHORT, &phase);

@@ -1,8 +1,8 @@
 //! Forms of commands, indices, and the rules between commands: 4, 5, 6, 9, 10, 11, and the plugin end's 19.
 
 use super::exchanges::{
-    conforming, file_key, identity, nonconforming, recipient, unknown, Answer, Exchange, Start, AMPLE,
-    FIDO2_HMAC, LONGEST_ANSWER, SHORT,
+    conforming, file_key, identity, nonconforming, other_recipient, recipient, unknown, Answer, Exchange,
+    Start, AMPLE, FIDO2_HMAC, LONGEST_ANSWER, SHORT,
 };
 use crate::generate::commands::{Command, End, ENDS, IDENTITY, RECIPIENT};
 use crate::generate::Script;
@@ -188,7 +188,7 @@ fn named(script: &mut Script) {
 fn stanzas_of_a_file(script: &mut Script) {
     let invalid = [Command::add_recipient(b"x"), Command::add_identity(b"y")];
     let phases: [&[Command]; 5] =
-        [&[], &[recipient()], &[identity()], &[recipient(), identity(), recipient()], &invalid];
+        [&[], &[recipient()], &[identity()], &[recipient(), identity(), other_recipient(0)], &invalid];
     let files = [0, 1, 0, 1, 1, 0, 0, 1, 0, 1, 2];
     for end in ENDS {
         script.heading(&format!("Stanzas of a file, {end:?}"));

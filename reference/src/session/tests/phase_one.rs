@@ -5,8 +5,8 @@ use super::{text, LENGTHS};
 use crate::profile::Finding;
 use phase_one::Command;
 use Refusal::{
-    BadIndex, IndexFalls, NoSpace, NotAStanza, OutOfTurn, OutputTooShort, SessionOver, TooLong,
-    UnknownMachine, Unwritable, WrongForm,
+    BadIndex, IndexFalls, NoSpace, NotAStanza, OutOfTurn, OutputTooShort, RepeatedRecipient, SessionOver,
+    TooLong, UnknownMachine, Unwritable, WrongForm,
 };
 
 fn plugin(machine: &str) -> (Plugin, Buffers) {
@@ -96,10 +96,92 @@ fn worked_example_file_indices() {
 #[test]
 fn worked_example_64_recipients() {
     let (mut plugin, mut buffers) = plugin("recipient-v1");
-    assert_eq!(receive_lines(&mut plugin, &mut buffers, &["add-recipient r"; 64]), Ok(()));
+    let lines: Vec<String> = (0..65).map(|number| format!("add-recipient r{number}")).collect();
+    let lines: Vec<&str> = lines.iter().map(String::as_str).collect();
+    assert_eq!(receive_lines(&mut plugin, &mut buffers, &lines[..64]), Ok(()));
     assert_eq!(receive_lines(&mut plugin, &mut buffers, &["add-identity i"]), Ok(()));
-    assert_eq!(receive_lines(&mut plugin, &mut buffers, &["add-recipient r"]), Err(NoSpace));
+    // The repeat of one of 64 is 20, before 8.
+    assert_eq!(
+        receive_lines(&mut plugin.clone(), &mut buffers, &["add-recipient r63"]),
+        Err(RepeatedRecipient)
+    );
+    assert_eq!(receive_lines(&mut plugin, &mut buffers, &lines[64..]), Err(NoSpace));
     assert_eq!(plugin.session.tables.of(Kind::Recipient).len(), 64);
+}
+
+/// Receiving closes; sending leaves all as it was, and goes on.
+#[test]
+fn a_recipient_comes_once() {
+    let (mut plugin, mut buffers) = plugin("recipient-v1");
+    let lines = ["add-recipient abc", "add-recipient de", "grease", "add-recipient abc"];
+    assert_eq!(receive_lines(&mut plugin, &mut buffers, &lines), Err(RepeatedRecipient));
+    assert_eq!(plugin.session.phase, Phase::Closed);
+    assert_eq!(plugin.session.tables.of(Kind::Recipient).len(), 2);
+
+    let (mut client, mut buffers) = client("recipient-v1");
+    let mut send = |line: &str, body: &[u8], out: usize| {
+        client.send(line.as_bytes(), body, &mut buffers, &mut vec![0; out]).err()
+    };
+    assert_eq!(send("add-recipient abc", b"", 99), None);
+    assert_eq!(send("add-recipient abc", b"", 0), Some(RepeatedRecipient));
+    assert_eq!(send("add-recipient abc", b"x", 0), Some(WrongForm));
+    assert_eq!(send("add-recipient abc abc", b"", 0), Some(WrongForm));
+    for line in ["add-recipient ab", "add-recipient abcd", "add-recipient Abc", "add-identity abc"] {
+        assert_eq!(send(line, b"", 99), None, "{line}");
+        let again = line.starts_with("add-recipient").then_some(RepeatedRecipient);
+        assert_eq!(send(line, b"", 99), again, "{line}");
+    }
+    assert_eq!(send("done", b"", 99), None);
+    assert_eq!(send("add-recipient abc", b"", 99), Some(OutOfTurn));
+}
+
+/// In one chunk, and in single bytes: what stood before the repeat stands.
+#[test]
+fn a_repeated_recipient_in_mid_chunk() {
+    let before = [text("add-recipient abc", b""), text("add-recipient abcd", b"")].concat();
+    let chunk = [before.as_slice(), &text("add-recipient abc", b""), &text("done", b"")].concat();
+    let (mut plugin, mut buffers) = plugin("recipient-v1");
+    let mut bytes = plugin.clone();
+    let mut same = buffers.clone();
+    let received = plugin.chunk(&chunk, &mut buffers, &mut []);
+    assert_eq!((received.refusal, received.count), (Some(RepeatedRecipient), 2));
+    let refusal = chunk.iter().find_map(|&byte| bytes.chunk(&[byte], &mut same, &mut []).refusal);
+    assert_eq!(refusal, Some(RepeatedRecipient));
+    assert_eq!((bytes, same), (plugin, buffers));
+}
+
+/// What the lent buffer shows is compared: an entry that it is too short for equals nothing.
+#[test]
+fn recipients_are_compared_as_the_buffer_shows_them() {
+    let (mut plugin, mut buffers) = plugin("recipient-v1");
+    assert_eq!(receive_lines(&mut plugin, &mut buffers, &["add-recipient abc", "add-recipient de"]), Ok(()));
+    let refused = |len: usize, line: &str| {
+        let mut buffers = buffers.clone();
+        buffers.resize([len; KINDS]);
+        receive_lines(&mut plugin.clone(), &mut buffers, &[line]).err()
+    };
+    for (len, first, second) in [
+        (2, NoSpace, NoSpace),
+        (3, RepeatedRecipient, NoSpace),
+        (4, RepeatedRecipient, NoSpace),
+        (5, RepeatedRecipient, RepeatedRecipient),
+        (9, RepeatedRecipient, RepeatedRecipient),
+    ] {
+        assert_eq!(refused(len, "add-recipient abc"), Some(first), "{len}");
+        assert_eq!(refused(len, "add-recipient de"), Some(second), "{len}");
+    }
+    buffers.resize([4; KINDS]);
+    buffers.resize([9; KINDS]);
+    let refused = |line| receive_lines(&mut plugin.clone(), &mut buffers.clone(), &[line]).err();
+    assert_eq!(refused("add-recipient abc"), Some(RepeatedRecipient));
+    assert_eq!(refused("add-recipient de"), None);
+}
+
+#[test]
+fn in_identity_v1_recipients_are_unknown_and_may_repeat() {
+    let (mut plugin, mut buffers) = plugin("identity-v1");
+    let lines = ["add-recipient a", "add-recipient a", "add-identity a", "add-identity a"];
+    assert_eq!(receive_lines(&mut plugin, &mut buffers, &lines), Ok(()));
 }
 
 #[test]

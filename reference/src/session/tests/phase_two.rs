@@ -607,7 +607,9 @@ fn errors_have_384_slots() {
 
 #[test]
 fn returned_stanzas_have_256_slots() {
-    let mut one = vec![(VALID_RECIPIENT, 0); 64];
+    // Identities may repeat, recipients may not.
+    let mut one = vec![(VALID_IDENTITY, 0); 63];
+    one.push((VALID_RECIPIENT, 0));
     one.extend([("wrap-file-key", 16); 5]);
     let lines: Vec<String> = (0..257).map(|number| format!("recipient-stanza {} a", number / 64)).collect();
     let stanzas: Vec<Line> = lines.iter().map(|line| (line.as_str(), 0)).collect();
