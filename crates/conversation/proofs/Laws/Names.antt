@@ -168,12 +168,12 @@ module _ (s : Session) (b : Buffers) (reached : ReachedSession s) where
   not-missing (send word arguments body out) z m = m
   not-missing (receive-two text out) z m =
       let c = receive-two text out in
-      not-first (Condition s b c) (13 ∷ 14 ∷ 1 ∷ 2 ∷ 3 ∷ 4 ∷ 5 ∷ []) (7 ∷ 9 ∷ 10 ∷ 11 ∷ 8 ∷ 15 ∷ []) 6 (unfold arePositive in refl)
+      not-first (Condition s b c) (13 ∷ 14 ∷ 1 ∷ 2 ∷ 3 ∷ 4 ∷ 5 ∷ []) (7 ∷ 20 ∷ 9 ∷ 10 ∷ 11 ∷ 8 ∷ 15 ∷ []) 6 (unfold arePositive in refl)
       (given-none c z) (NoSuchIndex, refl, m)
   not-missing (reply r body out) z m = m
   not-missing (send-two word arguments body out) z m =
       let c = send-two word arguments body out in
-      not-first (Condition s b c) (13 ∷ 14 ∷ 17 ∷ 4 ∷ 5 ∷ []) (7 ∷ 9 ∷ 10 ∷ 11 ∷ 19 ∷ 8 ∷ 15 ∷ []) 6 (unfold arePositive in refl)
+      not-first (Condition s b c) (13 ∷ 14 ∷ 17 ∷ 4 ∷ 5 ∷ []) (7 ∷ 20 ∷ 9 ∷ 10 ∷ 11 ∷ 19 ∷ 8 ∷ 15 ∷ []) 6 (unfold arePositive in refl)
       (given-none c z) (NoSuchIndex, refl, m)
   not-missing (respond text out) z m = m
 
