@@ -11,7 +11,7 @@ use Rattle.refusal.specs.Output.{filled}
 use Rattle.refusal.specs.Pick.{pick}
 use Rattle.refusal.proofs.Laws.Booleans.{cases}
 use Rattle.base64.specs.Alphabet.{isCharacter, valueOf}
-use Rattle.stanza.specs.Arguments.{isGraphic}
+use Rattle.refusal.specs.Run.{isGraphic}
 use Rattle.stanza.specs.Automaton.{State, start, gap, word, line, next}
 use Rattle.stanza.specs.Resuming.{Continued, whole, continued, placeSaid, led, behind}
 use Rattle.stanza.specs.Resuming as resuming
