@@ -52,6 +52,7 @@ nameOf (malformed place) = []
 nameOf (bad-checksum name) = name
 nameOf (leftover-bits name) = name
 
+-- how many bytes the payload has, or the number
 abbrev pub readAnswer : Parsed → List ℕ → Answer
 readAnswer p buffer = pick (eqb (textNumber p) 0) (answered (payloadOf p) buffer) (refused (textNumber p))
 

@@ -2,10 +2,9 @@
 use Prim.Native.Nat.{ℕ, suc, _+_, _-_, _<_, _≤_, min}
 use mathlib.Core.Path.{_≡_, refl, sym, ap, ap₂, _∙_, subst}
 use mathlib.Core.Bool.{Bool, true, false, _&&_, not, false≢true}
-use mathlib.Core.Logic.{_↔_}
 use mathlib.Core.List.{List, [], _∷_, _++_, map, append-assoc}
 use lib.Dec.{eqb, ltb, leb}
-use lib.ListN.{length, take, drop, getD, length-map, length-append, length-drop, drop-of-length-le}
+use lib.ListN.{length, take, drop, getD, length-map, length-append, drop-of-length-le}
 use lib.Seq.{drop-at, take-append-seam, getD-drop}
 use native.Mathlib.Nat.{min-eq-left, min-eq-right}
 use native.Mathlib.Omega.{arith}
@@ -21,11 +20,11 @@ use Rattle.symbols.specs.Charset.{placeOf, valueOf, lower}
 use Rattle.symbols.specs.Checksum.{areSymbols, polymod, expanded}
 use Rattle.symbols.specs.Regroup.{bytes, isWhole}
 use Rattle.symbols.proofs.Laws.Maps.{map-take}
-use Rattle.bech32.specs.Text.{Form, isName, humanPart, isCased, isNotOne, separator, nameIn, Parsed, parsed, malformed, bad-checksum, leftover-bits, humanIn, valuesIn, payloadIn, hasTail, isClosed, isHuman, isFormed, isInAlphabet, placeIn, parse, Read}
-use Rattle.bech32.specs.Calls.{textNumber, nameOf, markOf}
-use Rattle.bech32.specs.Faults.{Formed, Closed, payloadPart, Whole, Behind, Foreign, not-graphic, not-in-alphabet, Place, Judged, Marked}
+use Rattle.bech32.specs.Text.{Form, humanPart, isCased, isNotOne, separator, nameIn, parsed, malformed, bad-checksum, leftover-bits, humanIn, valuesIn, payloadIn, hasTail, isClosed, isHuman, isFormed, isInAlphabet, placeIn, parse, Read}
+use Rattle.bech32.specs.Calls.{markOf}
+use Rattle.bech32.specs.Faults.{Formed, Closed, payloadPart, Whole, Foreign, not-graphic, not-in-alphabet, Place, Judged, Marked}
 use Rattle.bech32.proofs.Laws.Text.{separator-is, separator-split, name-in, human-ok, has-form, Plain, parse-cases, parse-iff, text-parse}
-use Rattle.bech32.proofs.Laws.Parsing.{separator-here, separator-le}
+use Rattle.bech32.proofs.Laws.Parsing.{separator-here}
 
 -- ---- the form
 

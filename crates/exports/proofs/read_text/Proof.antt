@@ -10,10 +10,6 @@ use Rattle.exports.proofs.Laws.Results.{name-made, name-kept}
 use borrow.Author.Needs.{needs}
 use Rattle.exports.proofs.read_text.Statement.{statement}
 use Rattle.exports.proofs.read_text.Tie as tie
-use Rattle.exports.proofs.read_text.Reads as reads
-use Rattle.exports.proofs.read_text.Lts as lts
-use Rattle.bech32.proofs.read.Reads as read-reads
-use Rattle.refusal.proofs.number.Reads as number-reads
 
 -- By the answer: bytes come with a name, which is given out; a refusal gives its number and leaves name and lengths as they were.
 read-requires : tie.Need-read-requires

@@ -2,7 +2,7 @@
 use Prim.Native.Nat.{ℕ, _+_}
 use mathlib.Core.Path.{_≡_, sym, ap, ap₂, subst, _∙_}
 use mathlib.Core.Bool.{true, false}
-use mathlib.Core.List.{List, [], _++_, append-nil}
+use mathlib.Core.List.{List, [], append-nil}
 use lib.Dec.{eqb}
 use lib.ListN.{length}
 use native.Mathlib.Omega.{arith}
@@ -14,11 +14,10 @@ use Rattle.session.specs.declared.phases.Phase.{Phase}
 use Rattle.conversation.specs.Kinds.{Buffers}
 use Rattle.conversation.proofs.Laws.RowsTwo.{no-bytes}
 use Rattle.chunks.specs.Cutting.{unfinished}
-use Rattle.chunks.specs.Taking.{End, Turn, reads, drops, keeps-back, turnAt, Intake, Last, Taken, noMore, emptied, keeping, takenAll, takenText, behind}
+use Rattle.chunks.specs.Taking.{End, Turn, reads, drops, keeps-back, turnAt, Intake, Last, noMore, emptied, keeping, takenAll, takenText, behind}
 use Rattle.chunks.specs.Uncut.{isWaiting}
 use Rattle.chunks.proofs.Laws.Cases.{keeps-not-reads, keeps-not-drops}
 use Rattle.chunks.proofs.Laws.Fronts.{front-unfinished, front-refused}
-use Rattle.chunks.proofs.Laws.Reading.{none}
 use Rattle.chunks.proofs.Laws.Taking.{turn-says}
 use Rattle.chunks.proofs.Laws.Texts.{takenCut, text-dropped}
 use Rattle.intake.specs.Settling.{MaySettle}

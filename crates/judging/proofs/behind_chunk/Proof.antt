@@ -1,5 +1,5 @@
 -- The five phases.
-use mathlib.Core.Path.{sym, ap, _∙_}
+use mathlib.Core.Path.{ap, _∙_}
 use Rattle.session.specs.Tables.{tablesIn}
 use Rattle.judging.specs.Judging.{stopped, counted}
 use borrow.Author.Needs.{needs}

@@ -1,8 +1,6 @@
 use borrow.Author.Needs.{needs}
 use Rattle.refusal.proofs.number.Statement.{statement}
 use Rattle.refusal.proofs.number.Tie as tie
-use Rattle.refusal.proofs.number.Reads as reads
-use Rattle.refusal.proofs.number.Lts as lts
 
 -- By the refusal: each has its number.
 enum-told : tie.Need-enum-told

@@ -5,7 +5,6 @@ use mathlib.Core.List.{map}
 use lib.ListN.{length, take, drop}
 use native.Mathlib.Omega.{arith}
 use denote.Ref.{now}
-use borrow.Author.Tests.{not-true, not-false}
 use Rattle.refusal.specs.Pick.{pick}
 use Rattle.refusal.proofs.Laws.Lists.{part-rest}
 use Rattle.symbols.specs.Charset.{lower}

@@ -1,5 +1,5 @@
 -- The least of the two ends; the second lies behind the separator, which the first does not reach.
-use Prim.Native.Nat.{_+_, _-_, _≤_, min}
+use Prim.Native.Nat.{_+_, _-_, min}
 use mathlib.Core.Path.{_≡_, sym, ap, _∙_}
 use mathlib.Core.List.{map}
 use lib.Dec.{ltb}

@@ -1,10 +1,9 @@
 -- Where the byte is kept, the stanza goes on with it (`byte-goes-on`); else nothing is done.
-use mathlib.Core.Path.{sym, ap, _∙_}
+use mathlib.Core.Path.{sym, _∙_}
 use native.Mathlib.Omega.{arith}
 use borrow.Author.Tests.{not-false}
 use denote.Ref.{now}
 use Rattle.intake.specs.Turns.{turnSaid}
-use Rattle.intake.specs.Fronts.{WithinSays}
 use Rattle.intake.proofs.Laws.Fronts.{byte-goes-on}
 use borrow.Author.Needs.{needs}
 use Rattle.intake.proofs.keeping.read_one.Statement.{statement}
