@@ -77,7 +77,8 @@ impl Table {
         Found::Entry(entry_at(span, n, slots))
     }
 
-    // Whether an entry already shows a text. One that the buffer is too short for shows none.
+    // Whether an entry already shows a text. One that the buffer is too short for shows none. Bytes are compared from the last: recipients have their front
+    // in common, and differ in the checksum.
     pub fn is_repeated(self, span: Span, text: &[u8], slots: &[[usize; 4]], buffer: &[u8]) -> bool
         ensures { λ r. ⌜ r ≡ repeats (tableIn span self (now (slots .entry))) (now (buffer .entry)) (now (text .entry)) ⌝ }
     {
@@ -106,12 +107,12 @@ impl Table {
             if buffer.len() - length < start {
                 continue 'entries;
             }
-            let mut k: usize = 0;
-            while k < length {
+            let mut k = length;
+            while 0 < k {
+                k -= 1;
                 if buffer[start + k] != text[k] {
                     continue 'entries;
                 }
-                k += 1;
             }
             break 'entries true;
         };

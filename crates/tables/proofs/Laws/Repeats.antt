@@ -1,7 +1,7 @@
 -- A text among those that entries show: one byte on, one entry on; and what it says of a table that an opening and calls can reach.
-use Prim.Native.Nat.{ℕ, zero, suc, _+_, _<_, _≤_}
-use mathlib.Core.Path.{_≡_, sym, ap, ap₂, _∙_, subst}
-use mathlib.Core.Bool.{true, false, _&&_, _||_, false≢true}
+use Prim.Native.Nat.{ℕ, zero, suc, _+_, _-_, _<_, _≤_}
+use mathlib.Core.Path.{_≡_, refl, sym, ap, ap₂, _∙_, subst}
+use mathlib.Core.Bool.{Bool, true, false, _&&_, _||_, false≢true}
 use mathlib.Core.Logic.{_⊎_, inl, inr, _↔_}
 use mathlib.Core.List.{List, [], _∷_, map}
 use lib.Dec.{eqb, leb}
@@ -13,7 +13,7 @@ use borrow.Author.Tests.{le-leb, lt-leb, leb-true}
 use Rattle.refusal.specs.Same.{same}
 use Rattle.refusal.proofs.Laws.Booleans.{and-true, true-and, cases}
 use Rattle.refusal.proofs.Laws.Lists.{drop-one}
-use Rattle.refusal.proofs.Laws.Same.{same-refl, same-eq, same-length, same-one}
+use Rattle.refusal.proofs.Laws.Same.{same-refl, same-eq, same-length}
 use Rattle.tables.specs.Slots.{entryOf, slotsOf}
 use Rattle.tables.specs.Tables.{Table, empty, found, shown, endOf}
 use Rattle.tables.specs.Repeats.{shows, anyShows, repeats}
@@ -23,7 +23,22 @@ use Rattle.tables.proofs.Laws.LookUp.{slotOf, there}
 use Rattle.tables.proofs.Laws.Slots.{slots-length}
 use Rattle.tables.proofs.Laws.Tables.{Kept}
 
--- ---- one entry, byte by byte
+-- ---- one entry, byte by byte, from the last
+
+-- the last byte of two fronts
+same-last : (a b : List ℕ) (k : ℕ) → k < length a → k < length b →
+    same (take (suc k) a) (take (suc k) b) ≡ (eqb (getD a k 0) (getD b k 0) && same (take k a) (take k b))
+unfolding same
+same-last [] b k h g = absurd (omega arith)
+same-last (x ∷ a) [] k h g = absurd (omega arith)
+same-last (x ∷ a) (y ∷ b) zero h g = refl
+same-last (x ∷ a) (y ∷ b) (suc k) h g =
+    ap (λ r. eqb x y && r) (same-last a b k (omega arith) (omega arith)) ∙ swapped (eqb x y) (eqb (getD a k 0) (getD b k 0)) (same (take k a) (take k b))
+  where
+    swapped : (p q r : Bool) → (p && (q && r)) ≡ (q && (p && r))
+    swapped true q r = refl
+    swapped false true r = refl
+    swapped false false r = refl
 
 module _ (start n : ℕ) (buffer : List ℕ) (h : start + n ≤ length buffer) where
   abbrev part : List ℕ
@@ -33,15 +48,20 @@ module _ (start n : ℕ) (buffer : List ℕ) (h : start + n ≤ length buffer) w
   part-length = simp (length-take, length-drop) (omega arith)
 
   module _ (text : List ℕ) (l : n ≡ length text) (k : ℕ) where
-    pub byte-on : k < n → same part text ≡ same (drop k part) (drop k text) →
-        same part text ≡ (eqb (getD buffer (start + k) 0) (getD text k 0) && same (drop (k + 1) part) (drop (k + 1) text))
-    byte-on s inv =
-        let e : getD part k 0 ≡ getD buffer (start + k) 0 = getD-take n (drop start buffer) k 0 s ∙ getD-drop start buffer k 0 in
-        inv ∙ same-one part text k (omega (arith, part-length)) (omega arith) ∙ ap (λ b. eqb b (getD text k 0) && same (drop (k + 1) part) (drop (k + 1) text)) e
+    pub byte-back : k ≤ n → 0 < k → same part text ≡ same (take k part) (take k text) →
+        same part text ≡ (eqb (getD buffer (start + (k - 1)) 0) (getD text (k - 1) 0) && same (take (k - 1) part) (take (k - 1) text))
+    byte-back s z inv =
+        let m : suc (k - 1) ≡ k = omega arith in
+        let e : getD part (k - 1) 0 ≡ getD buffer (start + (k - 1)) 0 = getD-take n (drop start buffer) (k - 1) 0 (omega arith) ∙ getD-drop start buffer (k - 1) 0 in
+        inv ∙ ap (λ j. same (take j part) (take j text)) (sym m) ∙ same-last part text (k - 1) (omega (arith, part-length)) (omega arith)
+        ∙ ap (λ b. eqb b (getD text (k - 1) 0) && same (take (k - 1) part) (take (k - 1) text)) e
 
-    pub bytes-end : n ≤ k → same part text ≡ same (drop k part) (drop k text) → same part text ≡ true
+    pub bytes-none : k ≡ 0 → same part text ≡ same (take k part) (take k text) → same part text ≡ true
     unfolding same
-    bytes-end s inv = inv ∙ ap₂ same (drop-of-length-le part {i = k} (omega (arith, part-length))) (drop-of-length-le text {i = k} (omega arith))
+    bytes-none z inv = inv ∙ ap (λ j. same (take j part) (take j text)) z
+
+  pub bytes-all : (text : List ℕ) → n ≡ length text → same part text ≡ same (take n part) (take n text)
+  bytes-all text l = sym (ap₂ same (take-all n part (omega (arith, part-length))) (take-all n text (omega arith)))
 
 module _ (e : Entry) (buffer text : List ℕ) where
   pub shows-held : e .start + e .length ≤ length buffer → shows e buffer text ≡ same (take (e .length) (drop (e .start) buffer)) text

@@ -1,4 +1,3 @@
--- Each entry that does not show the text leaves what those behind it show; the first that does is the answer.
 use Prim.Native.Nat.{_+_, _-_, _≤_, _<_}
 use mathlib.Core.Path.{_≡_, refl, sym, ap, _∙_, subst}
 use mathlib.Core.Logic.{inl, inr}
@@ -13,16 +12,16 @@ use Rattle.tables.specs.Tables.{tableIn}
 use Rattle.tables.specs.Repeats.{shows, anyShows, repeats}
 use Rattle.tables.specs.declared.slots.Entry.{Entry}
 use Rattle.tables.proofs.Laws.Slots.{slot-there}
-use Rattle.tables.proofs.Laws.Repeats.{among, slotAt, byte-on, bytes-end, shows-held, shows-short, shows-other, missed, met, none-left, among-all}
+use Rattle.tables.proofs.Laws.Repeats.{among, slotAt, byte-back, bytes-all, bytes-none, shows-held, shows-short, shows-other, missed, met, none-left, among-all}
 use Rattle.tables.proofs.tables.Table.is_repeated.Statement.{statement}
 use Rattle.tables.proofs.tables.Table.is_repeated.Tie as tie
 
 abbrev Inv-loop : tie.InvT-loop
 Inv-loop text slots buffer count first there i at start length k₀ k =
-    (k ≤ length) × (same (take length (drop start buffer)) text ≡ same (drop k (take length (drop start buffer))) (drop k text))
+    (k ≤ length) × (same (take length (drop start buffer)) text ≡ same (take k (take length (drop start buffer))) (take k text))
 
 abbrev μ-loop : tie.MeasureT-loop
-μ-loop text slots buffer count first there i at start length k₀ k = length - k
+μ-loop text slots buffer count first there i at start length k₀ k = k
 
 abbrev Inv-entries : tie.InvT-entries
 Inv-entries text slots buffer count first there i₀ i =
@@ -57,6 +56,7 @@ whole c r e =
     sym e ∙ ap (λ n. anyShows (among (c .before .before .before .args .self .count) (c .before .before .before .args .span .first) n (now (c .before .before .before .args .slots))) (now (c .before .before .before .args .buffer)) (now (c .before .before .before .args .text))) (c .slots-in .ensures)
     ∙ ap (λ es. anyShows es (now (c .before .before .before .args .buffer)) (now (c .before .before .before .args .text))) (among-all (c .before .before .before .args .span) (c .before .before .before .args .self .count) (now (c .before .before .before .args .slots)))
 
+-- Each entry that does not show the text leaves what those behind it show; the first that does is the answer.
 slots-in-requires : tie.Need-slots-in-requires Inv-loop μ-loop Inv-entries μ-entries
 slots-in-requires c κs = search needs
 
@@ -103,7 +103,10 @@ entries-again-3 : tie.Need-entries-again-3 Inv-loop μ-loop Inv-entries μ-entri
 entries-again-3 c = pass (c .before .before .before) (shows-short (el (c .before .before .before)) (now (c .before .before .before .before .before .before .before .before .before .before .args .buffer)) (now (c .before .before .before .before .before .before .before .before .before .before .args .text)) (omega arith))
 
 loop-holds : tie.Need-loop-holds Inv-loop μ-loop Inv-entries μ-entries
-loop-holds c = (search needs, refl)
+loop-holds c = (search needs, bytes-all ((el (c .before .before .before)) .start) ((el (c .before .before .before)) .length) (now (c .before .before .before .before .before .before .before .before .before .before .args .buffer)) (omega arith) (now (c .before .before .before .before .before .before .before .before .before .before .args .text)) (omega arith))
+
+sub-k : tie.Need-sub-k Inv-loop μ-loop Inv-entries μ-entries
+sub-k c = search needs
 
 add-if6 : tie.Need-add-if6 Inv-loop μ-loop Inv-entries μ-entries
 add-if6 c = search needs
@@ -118,16 +121,13 @@ entries-less-4 : tie.Need-entries-less-4 Inv-loop μ-loop Inv-entries μ-entries
 entries-less-4 c = search needs
 
 entries-again-4 : tie.Need-entries-again-4 Inv-loop μ-loop Inv-entries μ-entries
-entries-again-4 c = pass (c .before .before .before .before .before .before .before .before) (shows-held (el (c .before .before .before .before .before .before .before .before)) (now (c .before .before .before .before .before .before .before .before .before .before .before .before .before .before .before .args .buffer)) (now (c .before .before .before .before .before .before .before .before .before .before .before .before .before .before .before .args .text)) (omega arith) ∙ byte-on ((el (c .before .before .before .before .before .before .before .before)) .start) ((el (c .before .before .before .before .before .before .before .before)) .length) (now (c .before .before .before .before .before .before .before .before .before .before .before .before .before .before .before .args .buffer)) (omega arith) (now (c .before .before .before .before .before .before .before .before .before .before .before .before .before .before .before .args .text)) (omega arith) (c .before .before .before .before .loop .k) (omega arith) (c .before .before .before .before .loop .inv .1) ∙ simp (ne-eqb _ _ (c .if6 .taken)))
-
-add-k : tie.Need-add-k Inv-loop μ-loop Inv-entries μ-entries
-add-k c = search needs
+entries-again-4 c = pass (c .before .before .before .before .before .before .before .before) (shows-held (el (c .before .before .before .before .before .before .before .before)) (now (c .before .before .before .before .before .before .before .before .before .before .before .before .before .before .before .args .buffer)) (now (c .before .before .before .before .before .before .before .before .before .before .before .before .before .before .before .args .text)) (omega arith) ∙ byte-back ((el (c .before .before .before .before .before .before .before .before)) .start) ((el (c .before .before .before .before .before .before .before .before)) .length) (now (c .before .before .before .before .before .before .before .before .before .before .before .before .before .before .before .args .buffer)) (omega arith) (now (c .before .before .before .before .before .before .before .before .before .before .before .before .before .before .before .args .text)) (omega arith) (c .before .before .before .before .loop .k) (omega arith) (omega arith) (c .before .before .before .before .loop .inv .1) ∙ simp (ne-eqb _ _ (c .if6 .taken)))
 
 loop-less : tie.Need-loop-less Inv-loop μ-loop Inv-entries μ-entries
 loop-less c = search needs
 
 loop-again : tie.Need-loop-again Inv-loop μ-loop Inv-entries μ-entries
-loop-again c = (search needs, byte-on ((el (c .before .before .before .before .before .before .before .before)) .start) ((el (c .before .before .before .before .before .before .before .before)) .length) (now (c .before .before .before .before .before .before .before .before .before .before .before .before .before .before .before .args .buffer)) (omega arith) (now (c .before .before .before .before .before .before .before .before .before .before .before .before .before .before .before .args .text)) (omega arith) (c .before .before .before .before .loop .k) (omega arith) (c .before .before .before .before .loop .inv .1) ∙ simp (eq-eqb _ _ (c .if6 .left)))
+loop-again c = (search needs, byte-back ((el (c .before .before .before .before .before .before .before .before)) .start) ((el (c .before .before .before .before .before .before .before .before)) .length) (now (c .before .before .before .before .before .before .before .before .before .before .before .before .before .before .before .args .buffer)) (omega arith) (now (c .before .before .before .before .before .before .before .before .before .before .before .before .before .before .before .args .text)) (omega arith) (c .before .before .before .before .loop .k) (omega arith) (omega arith) (c .before .before .before .before .loop .inv .1) ∙ simp (eq-eqb _ _ (c .if6 .left)))
 
 returns : tie.Need-returns Inv-loop μ-loop Inv-entries μ-entries
 returns c = whole (c .before .before) false (none-left (c .before .before .before .before .before .args .self .count) (c .before .before .before .before .before .args .span .first) (c .before .before .slots-in .result) (now (c .before .before .before .before .before .args .slots)) (now (c .before .before .before .before .before .args .buffer)) (now (c .before .before .before .before .before .args .text)) (c .before .entries .i) (c .before .entries .inv) (inl (omega arith)))
@@ -136,7 +136,7 @@ returns-2 : tie.Need-returns-2 Inv-loop μ-loop Inv-entries μ-entries
 returns-2 c = whole (c .before .before .before) false (none-left (c .before .before .before .before .before .before .args .self .count) (c .before .before .before .before .before .before .args .span .first) (c .before .before .before .slots-in .result) (now (c .before .before .before .before .before .before .args .slots)) (now (c .before .before .before .before .before .before .args .buffer)) (now (c .before .before .before .before .before .before .args .text)) (c .before .before .entries .i) (c .before .before .entries .inv) (inr (omega arith)))
 
 returns-3 : tie.Need-returns-3 Inv-loop μ-loop Inv-entries μ-entries
-returns-3 c = whole (c .before .before .before .before .before .before .before .before .before) true (met (c .before .before .before .before .before .before .before .before .before .before .before .before .args .self .count) (c .before .before .before .before .before .before .before .before .before .before .before .before .args .span .first) (c .before .before .before .before .before .before .before .before .before .slots-in .result) (now (c .before .before .before .before .before .before .before .before .before .before .before .before .args .slots)) (now (c .before .before .before .before .before .before .before .before .before .before .before .before .args .buffer)) (now (c .before .before .before .before .before .before .before .before .before .before .before .before .args .text)) (c .before .before .before .before .before .before .before .before .entries .i) (c .before .before .before .before .before .before .before .before .entries .inv) (omega arith) (omega arith) (seen (c .before .before .before .before .before .before)) (shows-held (el (c .before .before .before .before .before)) (now (c .before .before .before .before .before .before .before .before .before .before .before .before .args .buffer)) (now (c .before .before .before .before .before .before .before .before .before .before .before .before .args .text)) (omega arith) ∙ bytes-end ((el (c .before .before .before .before .before)) .start) ((el (c .before .before .before .before .before)) .length) (now (c .before .before .before .before .before .before .before .before .before .before .before .before .args .buffer)) (omega arith) (now (c .before .before .before .before .before .before .before .before .before .before .before .before .args .text)) (omega arith) (c .before .loop .k) (omega arith) (c .before .loop .inv .1)))
+returns-3 c = whole (c .before .before .before .before .before .before .before .before .before) true (met (c .before .before .before .before .before .before .before .before .before .before .before .before .args .self .count) (c .before .before .before .before .before .before .before .before .before .before .before .before .args .span .first) (c .before .before .before .before .before .before .before .before .before .slots-in .result) (now (c .before .before .before .before .before .before .before .before .before .before .before .before .args .slots)) (now (c .before .before .before .before .before .before .before .before .before .before .before .before .args .buffer)) (now (c .before .before .before .before .before .before .before .before .before .before .before .before .args .text)) (c .before .before .before .before .before .before .before .before .entries .i) (c .before .before .before .before .before .before .before .before .entries .inv) (omega arith) (omega arith) (seen (c .before .before .before .before .before .before)) (shows-held (el (c .before .before .before .before .before)) (now (c .before .before .before .before .before .before .before .before .before .before .before .before .args .buffer)) (now (c .before .before .before .before .before .before .before .before .before .before .before .before .args .text)) (omega arith) ∙ bytes-none ((el (c .before .before .before .before .before)) .start) ((el (c .before .before .before .before .before)) .length) (now (c .before .before .before .before .before .before .before .before .before .before .before .before .args .buffer)) (omega arith) (now (c .before .before .before .before .before .before .before .before .before .before .before .before .args .text)) (omega arith) (c .before .loop .k) (omega arith) (c .before .loop .inv .1)))
 
 pub is-repeated-spec : {M : Type 1} → statement M
 is-repeated-spec =
@@ -162,12 +162,12 @@ is-repeated-spec =
     entries-less-3
     entries-again-3
     loop-holds
+    sub-k
     add-if6
     shared-slice-read-if6
     shared-slice-read-if6-2
     entries-less-4
     entries-again-4
-    add-k
     loop-less
     loop-again
     returns
