@@ -2,12 +2,14 @@
 
 use super::Script;
 
-const SCRIPTS: [&str; 8] = [
+const SCRIPTS: [&str; 10] = [
     include_str!("../../../scripts/ok-no.txt"),
     include_str!("../../../scripts/empty-body.txt"),
     include_str!("../../../scripts/unknown-tag.txt"),
     include_str!("../../../scripts/one-counter.txt"),
     include_str!("../../../scripts/file-key-unknown.txt"),
+    include_str!("../../../scripts/what-is-wrong.txt"),
+    include_str!("../../../scripts/recipient-twice.txt"),
     include_str!("../../../scripts/conversation-recipient-v1.txt"),
     include_str!("../../../scripts/conversation-identity-v1.txt"),
     include_str!("../../../scripts/conversation-in-chunks.txt"),
