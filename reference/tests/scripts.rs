@@ -29,7 +29,7 @@ fn answers(script: &str) -> String {
 #[test]
 fn every_script_prints_what_is_beside_it() {
     assert_eq!(names(".txt"), names(".out"));
-    assert_eq!(names(".txt").len(), 8);
+    assert_eq!(names(".txt").len(), 10);
     for name in names(".txt") {
         assert_eq!(answers(&text(&name, ".txt")), text(&name, ".out"), "{name}");
     }
