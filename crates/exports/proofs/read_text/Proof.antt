@@ -1,3 +1,4 @@
+-- By the answer: bytes come with a name, which is given out; a refusal gives its number and leaves name and lengths as they were. The place is the reader's.
 use mathlib.Core.Path.{_≡_, sym, ap, _∙_}
 use lib.ListN.{length}
 use denote.Ref.{now}

@@ -1,3 +1,4 @@
+-- By the refusal: each has its number.
 use borrow.Author.Needs.{needs}
 use Rattle.refusal.proofs.number.Statement.{statement}
 use Rattle.refusal.proofs.number.Tie as tie

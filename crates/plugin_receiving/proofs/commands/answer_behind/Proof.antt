@@ -1,3 +1,4 @@
+-- Field by field: the count is one more, the rest is the command's or as it was.
 use borrow.Author.Needs.{needs}
 use Rattle.plugin_receiving.proofs.commands.answer_behind.Statement.{statement}
 use Rattle.plugin_receiving.proofs.commands.answer_behind.Tie as tie

@@ -1,3 +1,4 @@
+-- By the verdict and the phase: nothing behind a refusal or done, else the first stanza of the rest.
 use borrow.Author.Needs.{needs}
 use Rattle.refusal.proofs.Laws.Number.{number-not-zero}
 use Rattle.plugin_receiving.proofs.commands.next_command.Statement.{statement}

@@ -1,3 +1,4 @@
+-- Each entry that does not show the text leaves what those behind it show; the first that does is the answer. Bytes are compared from the last.
 use Prim.Native.Nat.{_+_, _-_, _≤_, _<_}
 use mathlib.Core.Path.{_≡_, refl, sym, ap, _∙_, subst}
 use mathlib.Core.Logic.{inl, inr}
