@@ -37,13 +37,15 @@ pub struct Row {
     pub times: usize,
     /// Whether plain C has these calls.
     pub plain: bool,
+    /// Whether only the plugin's `receive` is counted, and not what the replay program does to lend buffers and to keep the session.
+    pub alone: bool,
     pub aim: Option<Aim>,
 }
 
 impl Row {
     fn new(name: &str, before: &[Call], calls: &[Call]) -> Self {
         let (name, times) = (name.to_owned(), calls.len());
-        Row { name, calls: [before, calls].concat(), before: before.len(), times, plain: false, aim: None }
+        Row { name, calls: [before, calls].concat(), before: before.len(), times, plain: false, alone: false, aim: None }
     }
 
     fn beside_plain_c(self) -> Self {
@@ -160,10 +162,13 @@ fn plugin_rows() -> Vec<Row> {
             ..Row::new("receive 64 of 1,024 characters, the last of them other", &one_long, &last_bytes)
         },
         Row { times: 1, ..Row::new("receive 64,000 bytes of long recipients in one chunk", &one, &[long.clone()]) },
+        Row { times: 1, ..Row::new("receive the same in single bytes", &one, &in_single_bytes(&long)) },
+        Row { times: 1, alone: true, ..Row::new("`receive` alone, in one chunk", &one, &[long.clone()]) },
         Row {
             times: 1,
+            alone: true,
             aim: Some(Aim::TimesBefore(10.0)),
-            ..Row::new("receive the same in single bytes", &one, &in_single_bytes(&long))
+            ..Row::new("`receive` alone, in single bytes", &one, &in_single_bytes(&long))
         },
         Row::new("send msg", &two, &[msg]).beside_plain_c(),
         Row::new("send confirm", &two, &[confirm]),

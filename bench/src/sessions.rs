@@ -14,6 +14,9 @@ const REPLAY: &str = "target/bin/replay";
 const MAKE_CALL: &str = "replay::turns::make_call";
 const FIND_WORD: &str = "script::choices::find_word";
 
+/// What the plugin end does with a chunk.
+const RECEIVE: &str = "plugin_receiving::phases::receive";
+
 /// The C library copies and clears by loops of vector instructions at any length, since callgrind counts a string instruction once for each
 /// byte; and its functions are found before the program starts.
 const SETTINGS: [(&str, &str); 2] = [
@@ -27,7 +30,7 @@ const SETTINGS: [(&str, &str); 2] = [
 /// Prints a line for each row.
 pub fn report() {
     let program = fs::read(REPLAY).expect("the replay program");
-    for name in [MAKE_CALL, FIND_WORD] {
+    for name in [MAKE_CALL, FIND_WORD, RECEIVE] {
         assert!(program.windows(name.len()).any(|part| part == name.as_bytes()), "{REPLAY} has {name}");
     }
     println!("Instructions of a session's call; of several calls one behind the other, the mean. The library's are counted in the replay program");
@@ -93,29 +96,33 @@ fn within(program: Within, number: usize, row: &Row) -> f64 {
 fn library(row: &Row) -> f64 {
     let lines = |calls: &[Call]| calls.iter().map(Call::line).collect::<String>();
     let (before, measured) = row.calls.split_at(row.before);
-    let with = more("#\n".to_owned() + &lines(before), &lines(measured), "ok");
+    if row.alone {
+        return more(&[RECEIVE], "#\n".to_owned() + &lines(before), &lines(measured), "ok") as f64 / row.times as f64;
+    }
+    let functions = [MAKE_CALL, FIND_WORD];
+    let with = more(&functions, "#\n".to_owned() + &lines(before), &lines(measured), "ok");
     let without = match measured[0] {
-        Call::Open { .. } => more(lines(measured), &buffers_line(), "ok"),
-        _ => more("#\n".to_owned(), &lines(measured), "none"),
+        Call::Open { .. } => more(&functions, lines(measured), &buffers_line(), "ok"),
+        _ => more(&functions, "#\n".to_owned(), &lines(measured), "none"),
     };
     (with as f64 - without as f64) / row.times as f64
 }
 
-/// What some lines take behind others, each of them answered so.
-fn more(before: String, lines: &str, answer: &str) -> u64 {
-    let (least, _) = answered(&before);
-    let (all, answers) = answered(&(before + lines));
+/// What some lines take behind others in these functions, each of them answered so.
+fn more(functions: &[&str], before: String, lines: &str, answer: &str) -> u64 {
+    let (least, _) = answered(functions, &before);
+    let (all, answers) = answered(functions, &(before + lines));
     let count = lines.lines().count();
     assert!(answers.lines().rev().take(count).all(|given| given.starts_with(answer)), "{answers}");
     all - least
 }
 
-/// The instructions of the calls of a script, and its answers, which are the second program's.
-fn answered(script: &str) -> (u64, String) {
+/// The instructions of the calls of a script in these functions, and its answers, which are the second program's.
+fn answered(functions: &[&str], script: &str) -> (u64, String) {
     let file = std::env::current_exe().expect("this program's path").with_file_name("script");
     fs::write(&file, script).expect("the script is written");
     let input = File::open(&file).expect("the script is there");
-    let toggles = [MAKE_CALL, FIND_WORD].map(|name| format!("--toggle-collect={name}"));
+    let toggles = functions.iter().map(|name| format!("--toggle-collect={name}"));
     let (count, answers) = callgrind(|command| command.args(toggles).arg(REPLAY).envs(SETTINGS).stdin(input));
     let mut expected = Vec::new();
     replay::run(script.as_bytes(), &mut expected).expect("a script is answered");
