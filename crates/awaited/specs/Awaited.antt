@@ -1,7 +1,7 @@
 -- The stanza that waits for the host's reply, kept whole until then, since no piece of the input need hold it (document 02, No. 1), and what it says: a message in its body, and
 -- for a confirm "one or two base64 labels" behind its word (document 01, "Phase two").
 use Rattle.std.specs.Prelude.{ℕ, ◌+◌, ◌-◌, List, [], ltb, take}
-use Rattle.base64.specs.Code.{decoded}
+use Rattle.strict_base64.specs.Code.{decoded}
 use Rattle.refusal.specs.Pick.{pick}
 use Rattle.stanza.specs.Arguments.{count_of, argument_of}
 use Rattle.stanza.specs.Reading.{read_first}

@@ -1,5 +1,6 @@
 // The stanza that waits for the host's reply at the client end, for the host to show: its whole text, its message, and the labels of a confirm. No chunk need
 // hold it: it lies at the front of the lent input, until the reply.
+#![tactic(auto)]
 ghost use Rattle.std.specs.Prelude.{◌≡◌};
 ghost use Rattle.refusal.specs.Output.{said, answered, filled};
 ghost use Rattle.awaited.specs.Awaited.{awaited_text, line_in, message_in, label_count, label_in};
@@ -62,5 +63,5 @@ pub fn awaited_label(session: Session, input: &[u8], n: usize, out: &mut [u8]) -
     if awaited_labels(session, input) <= n {
         return Written::Bytes(0);
     }
-    base64::decode(stanza::argument(line(session, input), n + 1), out)
+    strict_base64::decode(stanza::argument(line(session, input), n + 1), out)
 }

@@ -15,7 +15,7 @@ use symbols::lowered;
 pub const LONGEST_NAME: usize = 32;
 
 // A plugin's name by value: bytes[..length], zeros behind it. It is empty where there is none.
-#[derive(Drop)]
+#[derive(Clone, Copy)]
 pub struct Name {
     pub bytes: [u8; LONGEST_NAME],
     pub length: usize,

@@ -1,4 +1,5 @@
 // Bech32 recipients and identities (document 01, "Recipients and identities"), over the symbols of the crate `symbols`.
+#![tactic(auto)]
 mod charset;
 mod human;
 mod parsing;
@@ -16,7 +17,7 @@ pub(crate) const CHECKSUM: usize = 6;
 pub(crate) const TAIL: usize = 1 + CHECKSUM;
 
 // The two kinds of text.
-#[derive(Drop)]
+#[derive(Clone, Copy)]
 pub enum TextKind {
     Recipient,
     Identity,

@@ -20,7 +20,7 @@ use symbols::{
 };
 
 // What reading gives: how long the payload at the buffer's front is, or 16, 21, 22 or 15; the place with 16, else 0; and the name, empty where refused.
-#[derive(Drop)]
+#[derive(Clone, Copy)]
 pub struct ReadText {
     pub answer: Written,
     pub place: usize,

@@ -1,5 +1,6 @@
 // A host of the client end, on one conversation of recipient-v1: two file keys are wrapped to one recipient. What the plugin sends is recorded here, cut as a
 // pipe might cut it. Standard output says what goes to the plugin, what the user is shown, and what the files have got.
+#![tactic(auto)]
 mod print;
 
 use client::{Received, Response, Screen, Session, WordOne};

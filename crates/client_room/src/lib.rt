@@ -1,4 +1,5 @@
 // Whether the client's output buffer has room for what a text is answered with, and whether what is kept back has room: decided before anything is written.
+#![tactic(auto)]
 mod fitting;
 mod stanzas;
 

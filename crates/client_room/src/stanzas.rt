@@ -17,13 +17,13 @@ use stanza::{First, Stanza};
 use tables::Coding;
 
 // Which command was received, how many bytes of the text it took and how many were written; or the refusal.
-#[derive(Drop)]
+#[derive(Clone, Copy)]
 pub enum Taking {
     Command(WordTwo, usize, usize),
     Refused(Refusal),
 }
 
-#[derive(Drop)]
+#[derive(Clone, Copy)]
 pub struct Step {
     pub answer: Taking,
     pub session: Session,

@@ -16,7 +16,7 @@ const SHORT: usize = 128;
 
 const SHORT_ARGUMENTS: usize = 112;
 
-#[derive(Drop)]
+#[derive(Clone, Copy)]
 pub struct Sent {
     pub answer: Written,
     pub session: Session,

@@ -1,7 +1,7 @@
 -- Calls of either end, and lists of calls: each call gets the session and the buffers as the one before left them, refused or not, and nobody else writes
 -- there meanwhile (document 01, "Phase two", the paragraph on demand 3).
 use Rattle.std.specs.Prelude.{ℕ, ◌+◌, ◌≡◌, Bool, true, false, List, [], ◌∷◌, ◌++◌, eqb, take, drop}
-use Rattle.base64.specs.Lines.{body_of}
+use Rattle.strict_base64.specs.Lines.{body_of}
 use Rattle.refusal.specs.Output.{Answer, bytes, refused}
 use Rattle.refusal.specs.Pick.{pick}
 use Rattle.stanza.specs.Reading as reading

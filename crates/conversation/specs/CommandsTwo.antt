@@ -2,7 +2,7 @@
 use Rattle.std.specs.Prelude.{ℕ, Bool, ◌&&◌, ◌||◌, List, [], ◌∷◌, ◌++◌, leb, eqb, length}
 use Rattle.refusal.specs.Pick.{pick}
 use Rattle.refusal.specs.Same.{same}
-use Rattle.base64.specs.Code.{is_base64}
+use Rattle.strict_base64.specs.Code.{is_base64}
 use Rattle.stanza.specs.Arguments.{count_of, argument_of, line_with}
 use Rattle.stanza.specs.Index.{read_index, ReadIndex, number, refused}
 use Rattle.session.specs.declared.words.WordTwo.{WordTwo}

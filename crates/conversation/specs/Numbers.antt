@@ -4,7 +4,7 @@ use Rattle.std.specs.Prelude.{ℕ, ◌+◌, ◌<◌, ◌≤◌, ◌≡◌, Bool,
 use Rattle.refusal.specs.Number.{number_of}
 use Rattle.refusal.specs.declared.Refusal.{Refusal}
 use Rattle.refusal.specs.declared.Refusal.TheVariants.{NotStanza, Unfinished, TooLong, BadCommand, BadIndex, NoSuchIndex, FallingIndex, NoSpace, SecondKey, TooManyStanzas, WorkAndError, UnfitResponse, SessionOver, OutOfTurn, ShortOutput, Malformed, Unwritable, NoSuchMachine, HeldBack, Repeated, BadChecksum, LeftoverBits}
-use Rattle.base64.specs.Code.{is_base64}
+use Rattle.strict_base64.specs.Code.{is_base64}
 use Rattle.stanza.specs.Arguments.{words, is_line, argument_of}
 use Rattle.stanza.specs.Grammar.{stanza_text}
 use Rattle.stanza.specs.Index.{decimal}

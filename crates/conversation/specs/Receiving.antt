@@ -1,7 +1,7 @@
 -- Phase one received, at the plugin end (document 01, "Phase one" and "Numbers given back": 13, 14, 1 to 3, then 4, 5, 7, 20, 8; a refusal writes nothing).
 use Rattle.std.specs.Prelude.{ℕ, ◌+◌, List, eqb, take, drop}
 use Rattle.refusal.specs.Pick.{pick}
-use Rattle.base64.specs.Lines.{body_of}
+use Rattle.strict_base64.specs.Lines.{body_of}
 use Rattle.stanza.specs.Reading.{Reading, stanza, refused, read_first}
 use Rattle.phase_one.specs.Commands.{CommandOne, WordOne, word_of}
 use Rattle.phase_one.specs.PhaseOne.{BuffersOne, command_in, number_one, tables_one, buffers_one}

@@ -2,7 +2,7 @@
 use Rattle.std.specs.Prelude.{ℕ, ◌+◌, List, eqb, length, take, drop}
 use Rattle.refusal.specs.Output.{filled}
 use Rattle.refusal.specs.Pick.{pick}
-use Rattle.base64.specs.Lines.{body_of}
+use Rattle.strict_base64.specs.Lines.{body_of}
 use Rattle.stanza.specs.Reading as reading
 use Rattle.stanza.specs.Reading.{Reading, read_first}
 use Rattle.responses.specs.Responses.{fits_whole, ResponseRead, response, nothing, response_of}

@@ -11,8 +11,8 @@ use lib.Pow.{are_bytes}
 use Rattle.refusal.specs.Output as output
 use Rattle.refusal.specs.Output.{answered, filled, WritingJudged}
 use Rattle.refusal.specs.Pick.{pick}
-use Rattle.base64.specs.Code.{encoded, decoded, is_base64}
-use Rattle.base64.specs.Lines.{lines_of, body_of}
+use Rattle.strict_base64.specs.Code.{encoded, decoded, is_base64}
+use Rattle.strict_base64.specs.Lines.{lines_of, body_of}
 use Rattle.stanza.specs.Exact.{Begins, FirstFault, Taken}
 use Rattle.stanza.specs.Grammar.{stanza_text}
 use Rattle.stanza.specs.Index as index
@@ -87,8 +87,8 @@ use Rattle.chunks.specs.Screens.{answer_to, AnsweredAtOnce, NothingWaits}
 use Rattle.chunks.specs.AnyCalls.{number_at, after_any, numbers_any, InTurn, calls_all, ComesTo}
 use Rattle.chunks.specs.Sent.{sent_any, OfBytes, text_sent, stanzas_sent, texts_sent}
 use Rattle.refusal.proofs.Laws.Output as outputs
-use Rattle.base64.proofs.Laws.Lines as lines
-use Rattle.base64.proofs.Laws.RoundTrip as base64_both
+use Rattle.strict_base64.proofs.Laws.Lines as lines
+use Rattle.strict_base64.proofs.Laws.RoundTrip as base64_both
 use Rattle.stanza.proofs.Laws.Exact as exact
 use Rattle.stanza.proofs.Laws.Index as indices
 use Rattle.stanza.proofs.Laws.RoundTrip as stanza_both

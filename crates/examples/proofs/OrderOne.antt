@@ -7,9 +7,9 @@ use mathlib.Core.List.{List, [], ◌∷◌, map}
 use lib.Dec.{lit≤}
 use lib.ListN.{length, replicate}
 use native.Mathlib.Omega.{arith}
-use Rattle.base64.specs.Alphabet.{is_character, value_of, character_of}
-use Rattle.base64.specs.Code.{encoded, decoded, ends_well}
-use Rattle.base64.specs.Lines.{wrapped, unwrapped}
+use Rattle.strict_base64.specs.Alphabet.{is_character, value_of, character_of}
+use Rattle.strict_base64.specs.Code.{encoded, decoded, ends_well}
+use Rattle.strict_base64.specs.Lines.{wrapped, unwrapped}
 use Rattle.refusal.specs.Run.{run, is_graphic}
 use Rattle.refusal.specs.Same.{same}
 use Rattle.stanza.specs.Arguments.{is_word_byte, before, words}

@@ -10,9 +10,9 @@ use lib.Dec.{eqb, lit≤, eqb-zero-suc, eqb-suc-suc}
 use lib.ListN.{length, take, get_or, replicate}
 use native.Mathlib.Omega.{arith}
 use borrow.Author.Tests.{eqb-true, eqb-false}
-use Rattle.base64.specs.Alphabet.{is_character, value_of, character_of}
-use Rattle.base64.specs.Code.{encoded, decoded, ends_well}
-use Rattle.base64.specs.Lines.{wrapped, unwrapped}
+use Rattle.strict_base64.specs.Alphabet.{is_character, value_of, character_of}
+use Rattle.strict_base64.specs.Code.{encoded, decoded, ends_well}
+use Rattle.strict_base64.specs.Lines.{wrapped, unwrapped}
 use Rattle.symbols.specs.Charset.{is_upper, is_lower, lower}
 use Rattle.bech32.specs.Text.{is_name, is_name_byte, separator, has_tail, is_closed, is_formed, parse}
 use Rattle.refusal.proofs.Laws.Booleans.{cases}

@@ -1,8 +1,8 @@
 -- Every row of the table holds, by computation of the definitions.
 use mathlib.Core.Path.{refl}
-use Rattle.base64.specs.Alphabet.{is_character, value_of, character_of}
-use Rattle.base64.specs.Code.{encoded, decoded, ends_well}
-use Rattle.base64.specs.Lines.{wrapped, unwrapped}
+use Rattle.strict_base64.specs.Alphabet.{is_character, value_of, character_of}
+use Rattle.strict_base64.specs.Code.{encoded, decoded, ends_well}
+use Rattle.strict_base64.specs.Lines.{wrapped, unwrapped}
 use Rattle.refusal.specs.Run.{run, is_graphic}
 use Rattle.refusal.specs.Same.{same}
 use Rattle.stanza.specs.Arguments.{words, before}

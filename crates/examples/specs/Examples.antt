@@ -1,7 +1,7 @@
 -- The worked examples of document 01 marked * (the paper's classroom pieces), and two of document 02, No. 7: one table, and what it is for a row to hold.
 -- Texts are lists of bytes: 45 62 32 is "-> ", 10 is LF, 48 to 57 are the digits.
 use Rattle.std.specs.Prelude.{ℕ, ◌≡◌, false, List, [], ◌∷◌, ◌++◌, map, length, replicate}
-use Rattle.base64.specs.Lines.{lines_of}
+use Rattle.strict_base64.specs.Lines.{lines_of}
 use Rattle.stanza.specs.Grammar.{stanza_text}
 use Rattle.stanza.specs.Index as index
 use Rattle.stanza.specs.Reading.{Reading, stanza, refused, read_first}

@@ -3,7 +3,7 @@
 use Rattle.std.specs.Prelude.{ℕ, ◌+◌, List, eqb, length, take, drop}
 use Rattle.refusal.specs.Pick.{pick}
 use Rattle.refusal.specs.Output.{Answer, bytes, refused, overflows}
-use Rattle.base64.specs.Lines.{body_of}
+use Rattle.strict_base64.specs.Lines.{body_of}
 use Rattle.stanza.specs.Index as index
 use Rattle.stanza.specs.Reading as reading
 use Rattle.bech32.specs.Text.{Parsed}

@@ -1,5 +1,6 @@
 // Reads an old identity file from standard input and writes its identities to standard output as commands of phase one, ended by done. What was skipped, and each
 // invalid line with its number and what that means, goes to standard error.
+#![tactic(auto)]
 ghost use Rattle.std.specs.Prelude.{◌≡◌, length};
 
 mod report;

@@ -39,7 +39,7 @@ pub(crate) fn next_line(text: &[u8], end: usize) -> usize
 }
 
 // What a line is: skipped, a secret key, invalid with the refusal's number, or valid.
-#[derive(Drop)]
+#[derive(Clone, Copy)]
 pub(crate) enum LineKind {
     Skipped,
     SecretKey,

@@ -10,7 +10,7 @@ use refusal::{Refusal, Written};
 
 // What a file gives: how many bytes the commands at the buffer's front have, or 8 or 15; how many secret keys were skipped, and how many lines
 // are invalid; none where refused.
-#[derive(Drop)]
+#[derive(Clone, Copy)]
 pub struct Reading {
     pub answer: Written,
     pub keys: usize,

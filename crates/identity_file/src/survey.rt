@@ -7,7 +7,7 @@ use crate::lines::{LineKind, judge_line, line_end, next_line};
 use crate::{MOST_FAULTS, MOST_IDENTITIES};
 
 // How many lines of each kind there are, but for those that are skipped.
-#[derive(Drop)]
+#[derive(Clone, Copy)]
 pub(crate) struct Tally {
     pub(crate) keys: usize,
     pub(crate) invalid: usize,

@@ -15,7 +15,7 @@ use session::{Phase, Session, WordTwo};
 use stanza::Place;
 
 // The last stanza that was taken: a command of either phase, a response, or none.
-#[derive(Drop)]
+#[derive(Clone, Copy)]
 pub enum Last {
     Nothing,
     CommandOne(WordOne),
@@ -24,7 +24,7 @@ pub enum Last {
 }
 
 // Accepted or refused; how many stanzas were taken all the same, which was the last, and how many bytes were written; and the session.
-#[derive(Drop)]
+#[derive(Clone, Copy)]
 pub struct Received {
     pub verdict: Verdict,
     pub count: usize,

@@ -58,7 +58,7 @@ fn is_between(reading: Place, kept: usize) -> bool
 }
 
 // What a byte does to an unfinished stanza: it goes on, or anything else.
-#[derive(Drop)]
+#[derive(Clone, Copy)]
 pub enum OneByte {
     GoesOn(Place),
     Else,
@@ -85,7 +85,7 @@ fn read_within(reading: Place, b: u8) -> OneByte
             OneByte::Else
         }
         Place::Line(k, _) => {
-            if k < base64::LINE_CHARACTERS && base64::is_character(b) {
+            if k < strict_base64::LINE_CHARACTERS && strict_base64::is_character(b) {
                 return OneByte::GoesOn(Place::Line(k + 1, b));
             }
             OneByte::Else

@@ -10,7 +10,7 @@ use refusal::{Refusal, Verdict};
 use session::{Phase, Session, WordTwo};
 
 // Whether an answer is due: the command that awaits it; or 13 where the session is closed or has ended, 14 where nothing is awaited.
-#[derive(Drop)]
+#[derive(Clone, Copy)]
 pub enum Due {
     Command(WordTwo),
     Refused(Refusal),
@@ -29,7 +29,7 @@ pub fn answer_due(phase: Phase) -> Due
 }
 
 // Bytes that are left are read; they are dropped and refused, if there are any; or they are kept back.
-#[derive(Drop)]
+#[derive(Clone, Copy)]
 pub enum Turn {
     Reads,
     Drops(Refusal),

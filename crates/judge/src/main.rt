@@ -1,5 +1,6 @@
 // Judges the phase one of recipient-v1 on standard input and writes its five numbers. The input may be of any length: it is read in chunks, up to done or a
 // refusal.
+#![tactic(auto)]
 mod input;
 mod output;
 
@@ -10,7 +11,7 @@ use output::print;
 use session::Session;
 
 // Where the run stands, and whether it goes on.
-#[derive(Drop)]
+#[derive(Clone, Copy)]
 struct State {
     judging: Judging,
     more: bool,

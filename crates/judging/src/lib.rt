@@ -1,4 +1,5 @@
 // Judging a recorded phase one of recipient-v1: chunk after chunk up to done, a refusal or the end of the input. How the input is cut does not show.
+#![tactic(auto)]
 ghost use Rattle.std.specs.Prelude.{◌≡◌, List, ℕ};
 ghost use Rattle.refusal.specs.Verdict.{verdict_said};
 ghost use Rattle.session.specs.Opening.{held};
@@ -14,7 +15,7 @@ use refusal::{Refusal, Verdict};
 use session::{Phase, Session, Tables};
 
 // What the judging program writes: how many entries each kind has, and the answer, 0 behind done, else the number of the refusal.
-#[derive(Drop)]
+#[derive(Clone, Copy)]
 pub struct Judged {
     pub recipients: usize,
     pub identities: usize,
@@ -24,14 +25,14 @@ pub struct Judged {
 }
 
 // Judging goes on, or has stopped at done or a refusal.
-#[derive(Drop)]
+#[derive(Clone, Copy)]
 pub enum Progress {
     GoesOn,
     Stopped(Judged),
 }
 
 // Where judging stands.
-#[derive(Drop)]
+#[derive(Clone, Copy)]
 pub struct Judging {
     pub session: Session,
     pub progress: Progress,

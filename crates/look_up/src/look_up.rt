@@ -58,7 +58,7 @@ pub fn entry<'a>(
 }
 
 // What awaits an answer: a command, or nothing.
-#[derive(Drop)]
+#[derive(Clone, Copy)]
 pub enum Awaited {
     Command(WordTwo),
     Nothing,
@@ -78,7 +78,7 @@ pub fn awaited_command(phase: Phase) -> Awaited
 }
 
 // What an error names: nothing, an identity, a recipient, or of a file a header stanza; or there is no such error.
-#[derive(Drop)]
+#[derive(Clone, Copy)]
 pub enum ErrorNamed {
     Internal,
     Identity(usize),

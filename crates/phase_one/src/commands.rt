@@ -21,7 +21,7 @@ const RECIPIENT_STANZA: [u8; 16] = *b"recipient-stanza";
 const DONE: [u8; 4] = *b"done";
 
 // The words of phase one.
-#[derive(Drop)]
+#[derive(Clone, Copy)]
 pub enum WordOne {
     AddRecipient,
     AddIdentity,
@@ -32,7 +32,7 @@ pub enum WordOne {
 }
 
 // A command of phase one: an entry, for a header stanza with its index; done; any other, which is ignored; or 4 or 5. An entry's mark is made when it is kept.
-#[derive(Drop)]
+#[derive(Clone, Copy)]
 pub enum CommandOne {
     Recipient,
     Identity,

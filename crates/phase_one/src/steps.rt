@@ -187,7 +187,7 @@ fn keep_header(
 }
 
 // What a command of phase one came to: the command, the number if it is refused, and the tables.
-#[derive(Drop)]
+#[derive(Clone, Copy)]
 pub struct StepOne {
     pub command: CommandOne,
     pub verdict: Verdict,

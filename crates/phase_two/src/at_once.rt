@@ -9,7 +9,7 @@ use phase_two_commands::CommandTwo;
 use responses::Response;
 
 // A response, or none.
-#[derive(Drop)]
+#[derive(Clone, Copy)]
 pub enum AtOnce {
     Writes(Response),
     Silent,

@@ -44,7 +44,7 @@ pub(crate) fn index_of(named: Named) -> usize
 }
 
 // What a command of phase two came to: the number if it is refused, and the tables.
-#[derive(Drop)]
+#[derive(Clone, Copy)]
 pub struct StepTwo {
     pub verdict: Verdict,
     pub tables: Tables,

@@ -3,14 +3,14 @@ ghost use Rattle.std.specs.Prelude.{◌≡◌, ◌&&◌, leb, eqb};
 ghost use Rattle.refusal.specs.Output.{said, answered, filled};
 ghost use Rattle.refusal.specs.Pick.{pick};
 ghost use Rattle.refusal.specs.Same.{same};
-ghost use Rattle.base64.specs.Code.{is_base64};
+ghost use Rattle.strict_base64.specs.Code.{is_base64};
 ghost use Rattle.stanza.specs.Arguments.{count_of, argument_of};
 ghost use Rattle.stanza.specs.Index.{read_index};
 ghost use Rattle.phase_one.specs.Commands.{is_bare};
 ghost use Rattle.conversation.specs.CommandsTwo.{work_word, word_two, are_labels, stanza_at, key_at, error_at, header_at, error_of, error_command, ask, done, bad, word_of, line_sent};
 ghost use Rattle.phase_two_commands.specs.Commands.{named_said, command_said, command_of, late_word, name_of};
 
-use base64::Size;
+use strict_base64::Size;
 use bech32::TextKind;
 use refusal::{Refusal, Written};
 use session::{Machine, WordTwo};
@@ -43,7 +43,7 @@ const RECIPIENT: [u8; 9] = *b"recipient";
 const STANZA: [u8; 6] = *b"stanza";
 
 // What an error names: nothing, an identity, a recipient, or of a file a header stanza.
-#[derive(Drop)]
+#[derive(Clone, Copy)]
 pub enum Named {
     Internal,
     Identity(u32),
@@ -52,7 +52,7 @@ pub enum Named {
 }
 
 // A command of phase two: msg, confirm or a request; a stanza or a key for a file; an error; done; any other; or 4 or 5.
-#[derive(Drop)]
+#[derive(Clone, Copy)]
 pub enum CommandTwo {
     Ask(WordTwo),
     Stanza(u32),
@@ -119,7 +119,7 @@ fn word_two(machine: Machine, word: &[u8]) -> WordTwo
 fn is_base64(text: &[u8]) -> bool
     ensures { result ≡ is_base64 text.now }
 {
-    let size = base64::measure(text);
+    let size = strict_base64::measure(text);
     match size {
         Size::Bytes(_) => true,
         Size::NotBase64 => false,

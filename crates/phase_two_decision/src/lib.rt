@@ -1,4 +1,5 @@
 // What the tables say of a command of phase two, at both ends.
+#![tactic(auto)]
 mod decision;
 mod questions;
 

@@ -1,5 +1,6 @@
 // A host of the plugin end, on one conversation of recipient-v1: two file keys are wrapped to one recipient. What the client sends is recorded here, cut as a
 // pipe might cut it. Standard output says what goes to the client, and what the client said.
+#![tactic(auto)]
 mod print;
 
 use plugin::{Last, Response, Session, TextKind, WordTwo};

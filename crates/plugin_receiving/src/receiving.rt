@@ -15,13 +15,13 @@ use stanza::Stanza;
 use tables::Coding;
 
 // Which command was received and how many bytes of the text it took; or the refusal.
-#[derive(Drop)]
+#[derive(Clone, Copy)]
 pub(crate) enum Taking {
     Command(WordOne, usize),
     Refused(Refusal),
 }
 
-#[derive(Drop)]
+#[derive(Clone, Copy)]
 pub(crate) struct Receipt {
     pub answer: Taking,
     pub session: Session,

@@ -25,13 +25,13 @@ use session::{Phase, Session, WordTwo, front};
 use stanza::{First, Place, Stanza};
 
 // Which response was received, how many bytes of the text it took and how many its body has; or the refusal.
-#[derive(Drop)]
+#[derive(Clone, Copy)]
 pub(crate) enum Answering {
     Response(Response, usize, usize),
     Refused(Refusal),
 }
 
-#[derive(Drop)]
+#[derive(Clone, Copy)]
 pub(crate) struct Responded {
     pub answer: Answering,
     pub session: Session,

@@ -2,7 +2,7 @@
 use Rattle.std.specs.Prelude.{ℕ, Bool, false, ◌&&◌, List, [], ◌∷◌, map, leb, eqb, length, drop}
 use Rattle.refusal.specs.Pick.{pick}
 use Rattle.refusal.specs.Same.{same}
-use Rattle.base64.specs.Code.{is_base64, decoded}
+use Rattle.strict_base64.specs.Code.{is_base64, decoded}
 use Rattle.stanza.specs.Arguments.{words, argument_of}
 use Rattle.symbols.specs.Charset.{lower}
 use Rattle.profile.specs.declared.Conformity.{Conformity}

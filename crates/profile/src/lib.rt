@@ -1,11 +1,12 @@
 // The stanza check of one plugin, fido2-hmac: whether a stanza is conforming, nonconforming or unknown (document 01, "Phase two").
+#![tactic(auto)]
 ghost use Rattle.std.specs.Prelude.{◌≡◌, ◌&&◌, drop};
 ghost use Rattle.stanza.specs.Arguments.{words, argument_of};
 ghost use Rattle.profile.specs.Profile.{is_bytes, is_some, are_arguments, is_known, found, checked};
 
-use base64::Size;
+use strict_base64::Size;
 
-#[derive(Drop)]
+#[derive(Clone, Copy)]
 pub enum Conformity {
     Conforming,
     Nonconforming,
@@ -23,7 +24,7 @@ const BODY: usize = 32;
 fn is_bytes(n: usize, text: &[u8]) -> bool
     ensures { result ≡ is_bytes n text.now }
 {
-    let size = base64::measure(text);
+    let size = strict_base64::measure(text);
     match size {
         Size::Bytes(m) => m == n,
         Size::NotBase64 => false,
@@ -34,7 +35,7 @@ fn is_bytes(n: usize, text: &[u8]) -> bool
 fn is_some(text: &[u8]) -> bool
     ensures { result ≡ is_some text.now }
 {
-    let size = base64::measure(text);
+    let size = strict_base64::measure(text);
     match size {
         Size::Bytes(m) => 1 <= m,
         Size::NotBase64 => false,

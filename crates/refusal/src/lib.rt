@@ -1,10 +1,11 @@
 // The faults of document 01, "Numbers given back", and of document 02, each under a name of its own, and the number that the papers give it.
 // No crate of the library knows a refusal by anything but this enum; 0, no refusal, is no variant of it.
+#![tactic(auto)]
 ghost use Rattle.std.specs.Prelude.{◌≡◌};
 ghost use Rattle.refusal.specs.Number.{number_of};
 ghost use Rattle.refusal.specs.Verdict.{verdict_said};
 
-#[derive(Drop)]
+#[derive(Clone, Copy)]
 pub enum Refusal {
     // 1: not a stanza
     NotStanza,
@@ -53,14 +54,14 @@ pub enum Refusal {
 }
 
 // What a call that writes to a lent buffer answers: how many bytes it wrote at its front, or the refusal, nothing written.
-#[derive(Drop)]
+#[derive(Clone, Copy)]
 pub enum Written {
     Bytes(usize),
     Refused(Refusal),
 }
 
 // What is decided: accepted, or the refusal.
-#[derive(Drop)]
+#[derive(Clone, Copy)]
 pub enum Verdict {
     Accepted,
     Refused(Refusal),

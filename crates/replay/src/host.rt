@@ -7,7 +7,7 @@ use session::Session;
 pub type PluginInput = [u8; Session::PLUGIN_INPUT];
 
 // Behind its length a buffer has zeros.
-#[derive(Drop)]
+#[derive(Clone, Copy)]
 pub struct Host {
     pub end: End,
     pub lengths: Lengths,
@@ -15,7 +15,7 @@ pub struct Host {
 }
 
 // What a call came to, and what is open afterwards.
-#[derive(Drop)]
+#[derive(Clone, Copy)]
 pub struct Turn {
     pub answer: Answer,
     pub host: Host,

@@ -8,7 +8,7 @@ pub type Line = [u8; 65537];
 
 // Where the run stands: whether more input may come, the part of the chunk that is not taken yet, how many bytes of the current line have
 // come, as far as the line buffer takes them, whether it has ended, how many lines have, and how many bytes of the output buffer are in use.
-#[derive(Drop)]
+#[derive(Clone, Copy)]
 pub struct State {
     pub more: bool,
     pub from: usize,

@@ -1,5 +1,6 @@
 // Reads a script from standard input, makes the call of each line and prints its answer on standard output. A line that is no call is
 // answered by its number, and the run goes on.
+#![tactic(auto)]
 mod host;
 mod lines;
 mod settings;

@@ -7,7 +7,7 @@ use script::ScreenChoice;
 use session::{Opening, Screen, Session};
 
 // What such a line comes to, and how many bytes each buffer keeps; zeros stand behind them.
-#[derive(Drop)]
+#[derive(Clone, Copy)]
 struct Setup {
     answer: Answer,
     host: Host,

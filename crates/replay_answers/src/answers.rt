@@ -18,7 +18,7 @@ pub const NO_NAME: usize = 17;
 // does not have it; it is refused; or it is accepted: with nothing to tell, one of a few words, a number, a text of some bytes at the front of
 // the buffer lent. Of what was received: the refusal's number, 0 where there is none, how many stanzas were taken, the number of
 // the last one's word, and how many bytes stand at the front of the buffer lent.
-#[derive(Drop)]
+#[derive(Clone, Copy)]
 pub enum Answer {
     Printed(usize),
     Bad,

@@ -1,4 +1,5 @@
 // The calls that need no session, a function for each: it judges the words of the line and makes the call.
+#![tactic(auto)]
 mod identity_files;
 
 use bech32::{ReadText, TextKind};

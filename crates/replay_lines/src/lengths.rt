@@ -4,7 +4,7 @@ use crate::words::{Words, word};
 use script::Number;
 
 // The lengths of the session's buffers.
-#[derive(Drop)]
+#[derive(Clone, Copy)]
 pub struct Lengths {
     pub recipients: usize,
     pub identities: usize,
@@ -16,7 +16,7 @@ pub struct Lengths {
 }
 
 // The lengths of a line, if they are given.
-#[derive(Drop)]
+#[derive(Clone, Copy)]
 pub enum Given {
     Lengths(Lengths),
     Bad,

@@ -7,7 +7,7 @@ use responses::Response;
 use script::{Call, EndChoice, KindChoice, Number, ReplyChoice, ScreenChoice};
 
 // Which end is open.
-#[derive(Drop)]
+#[derive(Clone, Copy)]
 pub enum End {
     Nothing,
     Client,
@@ -15,7 +15,7 @@ pub enum End {
 }
 
 // A call that needs no session; one that may change a session; one that looks into it; one that no open session takes; or no call.
-#[derive(Drop)]
+#[derive(Clone, Copy)]
 pub enum Request {
     Plain(Call),
     Change(Change),
@@ -25,7 +25,7 @@ pub enum Request {
 }
 
 // A session is opened or its buffers get other lengths; or the call keeps what phase one or phase two says, lent an output buffer of some length.
-#[derive(Drop)]
+#[derive(Clone, Copy)]
 pub enum Change {
     Setting(Setting, Lengths),
     PhaseOne(TalkOne, usize),
@@ -33,7 +33,7 @@ pub enum Change {
 }
 
 // The client end is opened with what the line says of its screen, or the plugin end; or the buffers of the session get other lengths.
-#[derive(Drop)]
+#[derive(Clone, Copy)]
 pub enum Setting {
     Client(ScreenChoice),
     Plugin,
@@ -41,7 +41,7 @@ pub enum Setting {
 }
 
 // An entry by kind and number, all tables, the text that awaits an answer, or the end of the input.
-#[derive(Drop)]
+#[derive(Clone, Copy)]
 pub enum Look {
     Entry(TextKind, usize),
     Show,
@@ -50,14 +50,14 @@ pub enum Look {
 }
 
 // The client end sends, or the plugin end receives a chunk.
-#[derive(Drop)]
+#[derive(Clone, Copy)]
 pub enum TalkOne {
     Send,
     Receive,
 }
 
 // The plugin end sends, the client end receives a chunk, or its host replies.
-#[derive(Drop)]
+#[derive(Clone, Copy)]
 pub enum TalkTwo {
     Send,
     Receive,

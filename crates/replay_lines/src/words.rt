@@ -10,7 +10,7 @@ const LONGEST: usize = 65536;
 const MOST: usize = 16;
 
 // Whether the line is skipped, how many words there are, none where the line is bad, and where each starts and ends in the buffer.
-#[derive(Drop)]
+#[derive(Clone, Copy)]
 pub struct Words {
     pub skipped: bool,
     pub count: usize,
@@ -19,7 +19,7 @@ pub struct Words {
 }
 
 // Where a word ends in the buffer, if it is one.
-#[derive(Drop)]
+#[derive(Clone, Copy)]
 enum WordEnd {
     At(usize),
     Bad,

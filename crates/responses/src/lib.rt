@@ -1,4 +1,5 @@
 // The commands of phase two, the responses to them, which response fits which command, and responses read and written.
+#![tactic(auto)]
 ghost use Rattle.std.specs.Prelude.{◌≡◌, ◌&&◌, ◌||◌, ◌<◌, eqb};
 ghost use Rattle.refusal.specs.Output.{said};
 ghost use Rattle.stanza.specs.Writing.{sized, written, buffer_after};
@@ -19,7 +20,7 @@ const FAIL: [u8; 4] = *b"fail";
 const UNSUPPORTED: [u8; 11] = *b"unsupported";
 
 // The responses: ok, ok yes, ok no, fail, unsupported.
-#[derive(Drop)]
+#[derive(Clone, Copy)]
 pub enum Response {
     Ok,
     Yes,
@@ -29,7 +30,7 @@ pub enum Response {
 }
 
 // What an arguments' text is read as: a response, or nothing.
-#[derive(Drop)]
+#[derive(Clone, Copy)]
 pub enum ReadResponse {
     Response(Response),
     Nothing,

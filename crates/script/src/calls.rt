@@ -6,7 +6,7 @@ ghost use Rattle.script.specs.Call.{call_said, call_words};
 use crate::choices::find_word;
 
 // The calls; any other word is none.
-#[derive(Drop)]
+#[derive(Clone, Copy)]
 pub enum Call {
     Stanza,
     Write,

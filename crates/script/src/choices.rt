@@ -4,7 +4,7 @@ ghost use Rattle.stanza.specs.Arguments.{words};
 ghost use Rattle.script.specs.Choice.{place, end_said, end_words, screen_said, screen_words, kind_said, kind_words, command_said, command_words, command_two_said, command_two_words, reply_said, reply_words};
 
 // The end that a line opens.
-#[derive(Drop)]
+#[derive(Clone, Copy)]
 pub enum EndChoice {
     Client,
     Plugin,
@@ -12,7 +12,7 @@ pub enum EndChoice {
 }
 
 // What a line says of the client's screen: there is one, there is none, or it is left to the default.
-#[derive(Drop)]
+#[derive(Clone, Copy)]
 pub enum ScreenChoice {
     Shown,
     Missing,
@@ -21,7 +21,7 @@ pub enum ScreenChoice {
 }
 
 // The kind that a line looks up.
-#[derive(Drop)]
+#[derive(Clone, Copy)]
 pub enum KindChoice {
     Recipient,
     Identity,
@@ -29,7 +29,7 @@ pub enum KindChoice {
 }
 
 // The command of phase one that a line sends; any other word can be sent too.
-#[derive(Drop)]
+#[derive(Clone, Copy)]
 pub enum CommandChoice {
     AddRecipient,
     AddIdentity,
@@ -40,7 +40,7 @@ pub enum CommandChoice {
 }
 
 // The command of phase two that a line sends; any other word can be sent too.
-#[derive(Drop)]
+#[derive(Clone, Copy)]
 pub enum CommandTwoChoice {
     Msg,
     Confirm,
@@ -54,7 +54,7 @@ pub enum CommandTwoChoice {
 }
 
 // What the client's host replies.
-#[derive(Drop)]
+#[derive(Clone, Copy)]
 pub enum ReplyChoice {
     Ok,
     Yes,

@@ -7,7 +7,7 @@ use crate::escaping::LETTER_OVER;
 use refusal::{Refusal, Written};
 
 // What a byte does to a reader: it takes it to a state, it completes a byte of the string, or no word goes on so.
-#[derive(Drop)]
+#[derive(Clone, Copy)]
 enum Step {
     Moves(u8),
     Gives(u8),
@@ -15,14 +15,14 @@ enum Step {
 }
 
 // How many bytes a word stands for, if it is one.
-#[derive(Drop)]
+#[derive(Clone, Copy)]
 enum Size {
     Bytes(usize),
     Bad,
 }
 
 // What reading a word into a buffer came to: how many bytes were written or 15, or that it is no word.
-#[derive(Drop)]
+#[derive(Clone, Copy)]
 pub enum Unescaped {
     Word(Written),
     Bad,

@@ -6,7 +6,7 @@ ghost use Rattle.session.specs.Tables.{span_of, opened_slots, opened_header_slot
 use crate::sessions::Session;
 use tables::{EMPTY, Span, Table};
 
-#[derive(Drop)]
+#[derive(Clone, Copy)]
 pub enum Kind {
     Recipients,
     Identities,
@@ -18,7 +18,7 @@ pub enum Kind {
 }
 
 // How many entries each kind has, and how many bytes they take.
-#[derive(Drop)]
+#[derive(Clone, Copy)]
 pub struct Tables {
     pub recipients: Table,
     pub identities: Table,

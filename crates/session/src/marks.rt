@@ -1,5 +1,5 @@
 // The marks of entries: of a recipient or an identity, valid or the reader's number; of a header stanza, what the profile finds; of an error, what it names.
-#[derive(Drop)]
+#[derive(Clone, Copy)]
 pub struct Mark {}
 
 impl Mark {

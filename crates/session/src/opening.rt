@@ -9,14 +9,14 @@ const RECIPIENT_V1: [u8; 12] = *b"recipient-v1";
 
 const IDENTITY_V1: [u8; 11] = *b"identity-v1";
 
-#[derive(Drop)]
+#[derive(Clone, Copy)]
 pub enum Machine {
     RecipientV1,
     IdentityV1,
 }
 
 // Whether the client's host can show what the plugin asks.
-#[derive(Drop)]
+#[derive(Clone, Copy)]
 pub enum Screen {
     Shown,
     Absent,
@@ -32,7 +32,7 @@ pub(crate) fn is_shown(screen: Screen) -> bool
 }
 
 // The machine of a name, or none.
-#[derive(Drop)]
+#[derive(Clone, Copy)]
 pub(crate) enum MachineFound {
     Machine(Machine),
     Nothing,
@@ -51,7 +51,7 @@ fn machine_named(name: &[u8]) -> MachineFound
 }
 
 // What an opening is given, judged: accepted with the machine and the plugin's name, or 18 or 17 with no name.
-#[derive(Drop)]
+#[derive(Clone, Copy)]
 pub(crate) struct Settings {
     pub verdict: Verdict,
     pub machine: Machine,

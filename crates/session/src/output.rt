@@ -42,7 +42,7 @@ pub fn front<'a>(bytes: &'a [u8], length: usize) -> &'a [u8]
 }
 
 // The line of a command that is sent, in a store: how many bytes it has, and how many its stanza; or 17.
-#[derive(Drop)]
+#[derive(Clone, Copy)]
 pub enum Composed {
     Line(usize, usize),
     Refused(Refusal),

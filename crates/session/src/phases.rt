@@ -9,7 +9,7 @@ use refusal::{Refusal, Verdict};
 
 // Phase one is the client's to speak, phase two the plugin's. In phase two a command may await its response. A session ends with the second done, or is closed
 // by a refusal.
-#[derive(Drop)]
+#[derive(Clone, Copy)]
 pub enum Phase {
     One,
     Two,

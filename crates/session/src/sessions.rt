@@ -12,7 +12,7 @@ use stanza::Place;
 
 // The machine, the plugin's name, whether there is a screen (the client's alone), the phase, and the tables. Of the input: where the reading of an unfinished
 // stanza stands, how many bytes are kept, and how many the stanza has that waits for the host's reply; the bytes lie in an array that each call is lent.
-#[derive(Drop)]
+#[derive(Clone, Copy)]
 pub struct Session {
     pub machine: Machine,
     pub phase: Phase,
@@ -25,7 +25,7 @@ pub struct Session {
 }
 
 // An opening: accepted, or 18 or 17 with a closed session.
-#[derive(Drop)]
+#[derive(Clone, Copy)]
 pub struct Opening {
     pub verdict: Verdict,
     pub session: Session,

@@ -2,8 +2,8 @@
 use Rattle.std.specs.Prelude.{ℕ, ◌+◌, List, [], ◌∷◌, ltb, eqb}
 use Rattle.refusal.specs.Run.{is_graphic}
 use Rattle.refusal.specs.Pick.{pick}
-use Rattle.base64.specs.Alphabet.{is_character, value_of}
-use Rattle.base64.specs.Code.{ends_well}
+use Rattle.strict_base64.specs.Alphabet.{is_character, value_of}
+use Rattle.strict_base64.specs.Code.{ends_well}
 
 -- where a reader stands
 pub data State : Type 0 where

@@ -2,7 +2,7 @@
 -- of 64 characters. The limit of 8,192 bytes is no part of the grammar.
 use Rattle.std.specs.Prelude.{ℕ, ◌≡◌, true, List, [], ◌∷◌, ◌++◌}
 use Rattle.std.proofs.Math.Pow.{are_bytes}
-use Rattle.base64.specs.Lines.{lines_of}
+use Rattle.strict_base64.specs.Lines.{lines_of}
 use Rattle.stanza.specs.Arguments.{is_line}
 
 -- "-> ", the arguments and LF

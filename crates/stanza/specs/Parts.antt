@@ -1,6 +1,6 @@
 -- The parts of a stanza that was read at the front of a text.
 use Rattle.std.specs.Prelude.{ℕ, ◌+◌, List, take, drop}
-use Rattle.base64.specs.Lines.{body_of}
+use Rattle.strict_base64.specs.Lines.{body_of}
 use Rattle.stanza.specs.declared.reading.Stanza.{Stanza}
 
 -- the text of the arguments: behind "-> ", before the first LF

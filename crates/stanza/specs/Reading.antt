@@ -4,7 +4,7 @@ use Rattle.std.specs.Prelude.{ℕ, ◌+◌, Bool, not, List, ltb, eqb, length, t
 use Rattle.refusal.specs.Number.{number_of}
 use Rattle.refusal.specs.Pick.{pick}
 use Rattle.refusal.specs.Run.{run}
-use Rattle.base64.specs.Lines.{body_of}
+use Rattle.strict_base64.specs.Lines.{body_of}
 use Rattle.stanza.specs.Automaton.{Scan, bad, short, whole, scan, start}
 use Rattle.stanza.specs.declared.reading.First.{First}
 use Rattle.stanza.specs.declared.reading.First.TheVariants as first

@@ -4,7 +4,7 @@
 use Rattle.std.specs.Prelude.{ℕ, ◌+◌, List, [], ◌∷◌, ltb, eqb}
 use Rattle.refusal.specs.Number.{number_of}
 use Rattle.refusal.specs.Pick.{pick}
-use Rattle.base64.specs.Alphabet.{value_of}
+use Rattle.strict_base64.specs.Alphabet.{value_of}
 use Rattle.stanza.specs.Automaton.{State, start, hyphen, arrow, gap, word, line, ended, dead, next}
 use Rattle.stanza.specs.Reading.{Reading, stanza}
 use Rattle.stanza.specs.Reading as reading

@@ -1,7 +1,7 @@
 -- "What is written reads back, and what is read would be written so again" (demand 2), of stanza text.
 use Rattle.std.specs.Prelude.{ℕ, ◌+◌, ◌≡◌, true, List, length, take, drop}
 use Rattle.std.proofs.Math.Pow.{are_bytes}
-use Rattle.base64.specs.Lines.{body_of}
+use Rattle.strict_base64.specs.Lines.{body_of}
 use Rattle.stanza.specs.Grammar.{stanza_text}
 use Rattle.stanza.specs.Reading.{read_first, stanza}
 use Rattle.stanza.specs.Writing.{is_writable}

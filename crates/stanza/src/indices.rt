@@ -8,7 +8,7 @@ use refusal::Refusal;
 const LARGEST: u64 = 4294967295;
 
 // What reading an index gives: its number, or 5.
-#[derive(Drop)]
+#[derive(Clone, Copy)]
 pub enum Index {
     Number(u32),
     Refused(Refusal),

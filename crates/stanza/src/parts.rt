@@ -23,7 +23,7 @@ pub fn body_of(text: &[u8], s: Stanza, out: &mut [u8]) -> Written
     ensures answer { said result ≡ answered (body_in text.now s) out.old }
     ensures buffer { out.new ≡ filled (body_in text.now s) out.old }
 {
-    base64::decode_lines(lines(text, s.line, s.taken), out)
+    strict_base64::decode_lines(lines(text, s.line, s.taken), out)
 }
 
 // The lines of base64 that the body is, a part of the stanza's text.

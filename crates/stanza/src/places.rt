@@ -1,7 +1,7 @@
 // Reading a stanza that comes in pieces: where the reading stands between two of them, and reading on from there, so that no byte is read twice.
 ghost use Rattle.std.specs.Prelude.{◌≡◌};
 ghost use Rattle.refusal.specs.Pick.{pick};
-ghost use Rattle.base64.specs.Alphabet.{value_of};
+ghost use Rattle.strict_base64.specs.Alphabet.{value_of};
 ghost use Rattle.stanza.specs.Automaton.{word, line, dead, next};
 ghost use Rattle.stanza.specs.Resuming.{place_said, continued_said, continued};
 
@@ -11,7 +11,7 @@ use crate::parts::least;
 use refusal::Refusal;
 
 // Where the reading of a stanza stands.
-#[derive(Drop)]
+#[derive(Clone, Copy)]
 pub enum Place {
     // before "-", before ">" and before the space of "-> "
     Start,
@@ -29,7 +29,7 @@ pub enum Place {
 }
 
 // What reading on gives: the stanza has ended behind so many of the bytes, where the reading stands, or 1 or 3.
-#[derive(Drop)]
+#[derive(Clone, Copy)]
 pub enum Continued {
     Whole(usize),
     Unfinished(Place),
@@ -102,8 +102,8 @@ fn next_in_word(b: u8) -> Place
 fn next_in_line(k: usize, last: u8, b: u8) -> Place
     ensures { place_said result ≡ next (line k (value_of last)) b }
 {
-    if base64::is_character(b) {
-        if k < base64::LINE_CHARACTERS {
+    if strict_base64::is_character(b) {
+        if k < strict_base64::LINE_CHARACTERS {
             return Place::Line(k + 1, b);
         }
         return Place::Dead;
@@ -111,10 +111,10 @@ fn next_in_line(k: usize, last: u8, b: u8) -> Place
     if b != b'\n' {
         return Place::Dead;
     }
-    if k == base64::LINE_CHARACTERS {
+    if k == strict_base64::LINE_CHARACTERS {
         return Place::Line(0, 0);
     }
-    if base64::ends_well(k, last) {
+    if strict_base64::ends_well(k, last) {
         return Place::Ended;
     }
     Place::Dead

@@ -2,7 +2,7 @@
 ghost use Rattle.std.specs.Prelude.{◌≡◌, false, ◌+◌, ◌<◌, ◌≤◌, min, ltb, length, drop};
 ghost use Rattle.refusal.specs.Number.{number_of};
 ghost use Rattle.refusal.specs.Pick.{pick};
-ghost use Rattle.base64.specs.Lines.{is_full};
+ghost use Rattle.strict_base64.specs.Lines.{is_full};
 ghost use Rattle.stanza.specs.Automaton.{scan, start, gap, line};
 ghost use Rattle.stanza.specs.Reading.{read_said, read_first, found, line_end};
 ghost use Rattle.stanza.specs.Steps.{goes_on, EndsAt, body_said};
@@ -13,7 +13,7 @@ use refusal::Refusal;
 
 // A stanza at the front of a text: its arguments are text[3..line], text[line] is the LF behind them, its body has `body` bytes in the
 // lines text[line + 1..taken].
-#[derive(Drop)]
+#[derive(Clone, Copy)]
 pub struct Stanza {
     pub line: usize,
     pub body: usize,
@@ -21,14 +21,14 @@ pub struct Stanza {
 }
 
 // What reading gives: the first stanza, or 1, 2 or 3.
-#[derive(Drop)]
+#[derive(Clone, Copy)]
 pub enum First {
     Stanza(Stanza),
     Refused(Refusal),
 }
 
 // The first line: where its LF stands.
-#[derive(Drop)]
+#[derive(Clone, Copy)]
 enum FirstLine {
     Bad,
     Short,
@@ -36,7 +36,7 @@ enum FirstLine {
 }
 
 // The body: where it ends, behind its last LF.
-#[derive(Drop)]
+#[derive(Clone, Copy)]
 enum Body {
     Bad,
     Short,
@@ -68,7 +68,7 @@ fn read_body(w: &[u8], e: usize) -> First
         Body::Bad => First::Refused(Refusal::NotStanza),
         Body::Short => First::Refused(unfinished(w.len())),
         Body::Ends(taken) => {
-            let size = base64::body_length(taken - e - 1);
+            let size = strict_base64::body_length(taken - e - 1);
             First::Stanza(Stanza {
                 line: e,
                 body: size,
@@ -154,8 +154,8 @@ fn body_end(text: &[u8], from: usize) -> Body
     ensures { scan (line 0 0) from (drop from text.now) ≡ body_said result }
 {
     let mut i = from;
-    while base64::full_line(text, i) {
-        i += base64::LINE_LENGTH;
+    while strict_base64::full_line(text, i) {
+        i += strict_base64::LINE_LENGTH;
     }
     last_line(text, i)
 }
@@ -166,9 +166,9 @@ fn last_line(text: &[u8], from: usize) -> Body
     requires text_value { is_full (drop from text.now) ≡ false }
     ensures { scan (line 0 0) from (drop from text.now) ≡ body_said result }
 {
-    let e = base64::characters(text, from);
+    let e = strict_base64::characters(text, from);
     let k = e - from;
-    if base64::LINE_CHARACTERS < k {
+    if strict_base64::LINE_CHARACTERS < k {
         return Body::Bad;
     }
     if e == text.len() {
@@ -180,7 +180,7 @@ fn last_line(text: &[u8], from: usize) -> Body
     if k == 0 {
         return Body::Ends(e + 1);
     }
-    if base64::ends_well(k, text[e - 1]) {
+    if strict_base64::ends_well(k, text[e - 1]) {
         return Body::Ends(e + 1);
     }
     Body::Bad

@@ -23,7 +23,7 @@ pub fn size(line: &[u8], body: &[u8]) -> Written
     if LONGEST < body.len() {
         return Written::Refused(Refusal::Unwritable);
     }
-    let n = line.len() + AROUND + base64::lines_length(body);
+    let n = line.len() + AROUND + strict_base64::lines_length(body);
     if LONGEST < n {
         return Written::Refused(Refusal::Unwritable);
     }
@@ -56,7 +56,7 @@ fn write_into(line: &[u8], body: &[u8], out: &mut [u8])
 {
     write_line(line, out);
     let at = line.len() + AROUND;
-    base64::encode_lines(body, &mut out[at..]);
+    strict_base64::encode_lines(body, &mut out[at..]);
 }
 
 // "-> ", the arguments and LF.

@@ -1,6 +1,6 @@
 -- A body as a call is given it: its bytes, or the lines of base64 that a stanza has of it.
 use Rattle.std.specs.Prelude.{ℕ, List}
-use Rattle.base64.specs.Lines.{body_of}
+use Rattle.strict_base64.specs.Lines.{body_of}
 use Rattle.tables.specs.declared.copying.Coding.{Coding}
 use Rattle.tables.specs.declared.copying.Coding.TheVariants as the
 

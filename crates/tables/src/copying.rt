@@ -3,7 +3,7 @@ ghost use Rattle.std.specs.Prelude.{◌≡◌, ◌∷◌, ◌++◌, ◌+◌, ◌
 ghost use Rattle.tables.specs.Bodies.{body_from};
 
 // How a body is given.
-#[derive(Drop)]
+#[derive(Clone, Copy)]
 pub enum Coding {
     Bytes,
     Lines,
@@ -15,7 +15,7 @@ pub fn body_size(coding: Coding, source: &[u8]) -> usize
 {
     match coding {
         Coding::Bytes => source.len(),
-        Coding::Lines => base64::body_length(source.len()),
+        Coding::Lines => strict_base64::body_length(source.len()),
     }
 }
 
@@ -27,7 +27,7 @@ pub(crate) fn put_body(coding: Coding, source: &[u8], out: &mut [u8])
     match coding {
         Coding::Bytes => stanza::copy(source, out),
         Coding::Lines => {
-            base64::decode_lines(source, out);
+            strict_base64::decode_lines(source, out);
         }
     }
 }

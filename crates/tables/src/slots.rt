@@ -4,7 +4,7 @@ ghost use Rattle.tables.specs.Slots.{slots_of};
 ghost use Rattle.tables.specs.Tables.{empty};
 
 // A slot's four numbers: where the payload starts and how long it is, the index that the command gave, and a mark.
-#[derive(Drop)]
+#[derive(Clone, Copy)]
 pub struct Entry {
     pub start: usize,
     pub length: usize,
@@ -13,7 +13,7 @@ pub struct Entry {
 }
 
 // Where a kind's slots lie: `width` of them from `first` on.
-#[derive(Drop)]
+#[derive(Clone, Copy)]
 pub struct Span {
     pub first: usize,
     pub width: usize,

@@ -14,21 +14,21 @@ use crate::slots::{Entry, Span, entry_at, put_entry, slots_in};
 use refusal::{Refusal, Verdict};
 
 // What stands at a number of a table.
-#[derive(Drop)]
+#[derive(Clone, Copy)]
 pub enum Found {
     Entry(Entry),
     Nothing,
 }
 
 // What a session keeps of a kind: the first `count` of its slots are entries, whose payloads take the first `used` bytes of the buffer.
-#[derive(Drop)]
+#[derive(Clone, Copy)]
 pub struct Table {
     pub count: usize,
     pub used: usize,
 }
 
 // What storing came to: the number if it is refused, and the table.
-#[derive(Drop)]
+#[derive(Clone, Copy)]
 pub struct Stored {
     pub verdict: Verdict,
     pub table: Table,

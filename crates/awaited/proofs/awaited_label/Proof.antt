@@ -6,7 +6,7 @@ use Prim.Native.Nat.{◌+◌}
 use lib.Dec.{ltb}
 use borrow.Author.Tests.{lt-ltb, le-ltb}
 use native.Mathlib.Omega.{arith}
-use Rattle.base64.specs.Code.{decoded}
+use Rattle.strict_base64.specs.Code.{decoded}
 use Rattle.refusal.specs.Output.{answered, filled}
 use Rattle.stanza.specs.Arguments.{argument_of}
 use Rattle.awaited.specs.Awaited.{awaited_text, label_count, label_in, line_in}

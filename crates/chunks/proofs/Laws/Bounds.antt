@@ -9,8 +9,8 @@ use lib.Seq.{length-take-le}
 use native.Mathlib.Omega.{arith}
 use borrow.Author.Tests.{eqb-true, eqb-false}
 use Rattle.refusal.proofs.Laws.Booleans.{cases, and_true}
-use Rattle.base64.specs.Lines.{body_of}
-use Rattle.base64.proofs.Laws.Lines.{lines_length}
+use Rattle.strict_base64.specs.Lines.{body_of}
+use Rattle.strict_base64.proofs.Laws.Lines.{lines_length}
 use Rattle.stanza.specs.Arguments.{is_line}
 use Rattle.stanza.specs.Automaton.{State, start, next}
 use Rattle.stanza.specs.Grammar.{stanza_text}

@@ -9,7 +9,7 @@ use lib.ListN.{length, length-replicate}
 use native.Mathlib.Omega.{arith}
 use Rattle.refusal.specs.Pick.{pick}
 use Rattle.refusal.specs.Verdict.{first_of}
-use Rattle.base64.proofs.Laws.Lines.{lines_length}
+use Rattle.strict_base64.proofs.Laws.Lines.{lines_length}
 use Rattle.stanza.specs.Grammar.{stanza_text}
 use Rattle.stanza.specs.Reading.{Reading, stanza, refused, read_first}
 use Rattle.stanza.proofs.Laws.RoundTrip.{body_limit}

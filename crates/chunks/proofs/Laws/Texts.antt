@@ -11,7 +11,7 @@ use native.Mathlib.Omega.{arith}
 use borrow.Author.Tests.{eqb-true, ne_eqb}
 use Rattle.refusal.specs.Pick.{pick}
 use Rattle.refusal.proofs.Laws.Booleans.{and_true}
-use Rattle.base64.specs.Lines.{body_of}
+use Rattle.strict_base64.specs.Lines.{body_of}
 use Rattle.stanza.specs.Arguments.{is_line}
 use Rattle.stanza.specs.Automaton.{State, start, next, after}
 use Rattle.stanza.specs.Exact as exact

@@ -12,7 +12,7 @@ use Rattle.refusal.specs.Output.{filled}
 use Rattle.refusal.specs.Pick.{pick}
 use Rattle.refusal.specs.Verdict.{first_of}
 use Rattle.refusal.proofs.Laws.Lists.{part-rest, put_rest}
-use Rattle.base64.specs.Lines.{body_of}
+use Rattle.strict_base64.specs.Lines.{body_of}
 use Rattle.stanza.specs.Reading.{stanza, refused, read_first}
 use Rattle.session.specs.declared.opening.Machine.{Machine}
 use Rattle.session.specs.Phases.{closes}

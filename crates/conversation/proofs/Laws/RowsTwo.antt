@@ -12,7 +12,7 @@ use Rattle.refusal.specs.Pick.{pick}
 use Rattle.refusal.specs.Same.{same}
 use Rattle.refusal.proofs.Laws.Booleans.{and_true, cases}
 use Rattle.refusal.proofs.Laws.Same.{same_refl, same_eq}
-use Rattle.base64.specs.Code.{is_base64}
+use Rattle.strict_base64.specs.Code.{is_base64}
 use Rattle.stanza.specs.Arguments.{words, count_of, argument_of}
 use Rattle.stanza.specs.Index.{read_index, ReadIndex, number, refused, decimal}
 use Rattle.stanza.proofs.Laws.Index.{read_index_lem, read_decimal, read_number}

@@ -11,7 +11,7 @@ use borrow.Author.Tests.{eqb-true, eq-eqb}
 use Rattle.refusal.specs.Pick.{pick}
 use Rattle.refusal.specs.Same.{same}
 use Rattle.refusal.proofs.Laws.Booleans.{and_true, cases}
-use Rattle.base64.specs.Lines.{body_of}
+use Rattle.strict_base64.specs.Lines.{body_of}
 use Rattle.stanza.specs.Arguments.{is_line, count_of, argument_of}
 use Rattle.stanza.specs.Grammar.{stanza_text}
 use Rattle.stanza.specs.Index.{read_index}

@@ -8,8 +8,8 @@ use lib.Pow.{are_bytes}
 use lib.Seq.{take-append_seam}
 use Rattle.refusal.specs.Pick.{pick}
 use Rattle.refusal.specs.Run.{all, is_graphic}
-use Rattle.base64.specs.Code.{encoded}
-use Rattle.base64.specs.Lines.{wrapped}
+use Rattle.strict_base64.specs.Code.{encoded}
+use Rattle.strict_base64.specs.Lines.{wrapped}
 use Rattle.stanza.specs.Arguments.{is_argument, are_arguments, words, before}
 use Rattle.stanza.specs.Grammar.{stanza_text}
 use Rattle.stanza.specs.Reading.{stanza, read_first}

@@ -7,8 +7,8 @@ use native.Mathlib.Omega.{arith}
 use borrow.Author.Tests.{le-ltb}
 use Rattle.refusal.specs.Output.{filled}
 use Rattle.refusal.proofs.Laws.Lists.{take-one, put_rest, part-rest, overwrite-part}
-use Rattle.base64.specs.Code.{encoded}
-use Rattle.base64.specs.Lines.{wrapped}
+use Rattle.strict_base64.specs.Code.{encoded}
+use Rattle.strict_base64.specs.Lines.{wrapped}
 use Rattle.stanza.specs.Grammar.{stanza_text}
 use Rattle.identity_file.specs.Files.{add_identity_text, done_word, command_of, commands_of, transcript}
 use Rattle.identity_file.specs.Steps.{text_at, texts_at, Place}

@@ -12,8 +12,8 @@ use Rattle.refusal.specs.Run.{all, is_graphic}
 use Rattle.refusal.proofs.Laws.Below.{below}
 use Rattle.refusal.proofs.Laws.Booleans.{T_true, and_true, true_and, cases}
 use Rattle.refusal.proofs.Laws.Run.{all_append, all-wider}
-use Rattle.base64.specs.Code.{encoded}
-use Rattle.base64.specs.Lines.{wrapped}
+use Rattle.strict_base64.specs.Code.{encoded}
+use Rattle.strict_base64.specs.Lines.{wrapped}
 use Rattle.stanza.specs.Arguments.{words, before, is_argument, are_arguments, is_line}
 use Rattle.stanza.specs.Grammar.{stanza_text}
 use Rattle.stanza.specs.Writing.{is_writable}

@@ -10,7 +10,7 @@ use borrow.Author.Tests.{eqb-true, lt-ltb}
 use Rattle.refusal.specs.Output.{filled}
 use Rattle.refusal.specs.Pick.{pick}
 use Rattle.refusal.proofs.Laws.Booleans.{cases}
-use Rattle.base64.specs.Alphabet.{is_character, value_of}
+use Rattle.strict_base64.specs.Alphabet.{is_character, value_of}
 use Rattle.refusal.specs.Run.{is_graphic}
 use Rattle.stanza.specs.Automaton.{State, start, gap, word, line, next}
 use Rattle.stanza.specs.Resuming.{Continued, whole, continued, place_said, led, behind}

@@ -3,9 +3,9 @@ use Prim.Native.Nat.{ℕ}
 use mathlib.Core.Path.{◌≡◌, refl}
 use mathlib.Core.List.{List, [], ◌∷◌, ◌++◌}
 use lib.ListN.{replicate}
-use Rattle.base64.specs.Alphabet.{is_character, value_of}
-use Rattle.base64.specs.Code.{decoded, ends_well}
-use Rattle.base64.specs.Lines.{unwrapped}
+use Rattle.strict_base64.specs.Alphabet.{is_character, value_of}
+use Rattle.strict_base64.specs.Code.{decoded, ends_well}
+use Rattle.strict_base64.specs.Lines.{unwrapped}
 use Rattle.refusal.specs.Run.{run, is_graphic}
 use Rattle.refusal.specs.Same.{same}
 use Rattle.stanza.specs.Arguments.{before, words}

@@ -6,8 +6,8 @@ use lib.ListN.{length}
 use native.Mathlib.Omega.{arith}
 use borrow.Author.Tests.{le-ltb}
 use Rattle.refusal.specs.Output.{filled}
-use Rattle.base64.specs.Code.{encoded}
-use Rattle.base64.specs.Lines.{wrapped}
+use Rattle.strict_base64.specs.Code.{encoded}
+use Rattle.strict_base64.specs.Lines.{wrapped}
 use Rattle.responses.specs.declared.Response.{Response}
 use Rattle.responses.specs.declared.Response.TheVariants.{Ok, Yes, No, Fail, Unsupported}
 use Rattle.conversation.specs.ReceivingTwo.{text_of, writes}

@@ -14,7 +14,7 @@ use Rattle.refusal.specs.Verdict.{verdict_said}
 use Rattle.refusal.specs.declared.Refusal.{Refusal}
 use Rattle.refusal.specs.declared.Verdict.TheVariants as the_verdict
 use Rattle.refusal.proofs.Laws.Number.{number_not_zero}
-use Rattle.base64.specs.Lines.{body_of}
+use Rattle.strict_base64.specs.Lines.{body_of}
 use Rattle.stanza.specs.Reading.{Reading, stanza, refused, read_first}
 use Rattle.stanza.specs.Parts.{arguments_in, body_in}
 use Rattle.stanza.specs.Automaton.{start}

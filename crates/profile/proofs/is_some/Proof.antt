@@ -1,7 +1,7 @@
 -- A text is base64 exactly if measuring it gives a size, which is compared.
 use mathlib.Core.Path.{sym, ap, ◌∙◌}
-use Rattle.base64.specs.Code.{size_said}
-use Rattle.base64.proofs.Laws.Code.{measured_is, measured_not}
+use Rattle.strict_base64.specs.Code.{size_said}
+use Rattle.strict_base64.proofs.Laws.Code.{measured_is, measured_not}
 use borrow.Author.Rules.{rules}
 use Rattle.profile.proofs.is_some.Statement.{statement}
 use Rattle.profile.proofs.is_some.Tie as tie

@@ -8,8 +8,8 @@ use Rattle.refusal.specs.Pick.{pick}
 use Rattle.refusal.specs.Same.{same}
 use Rattle.refusal.specs.Run.{all, is_graphic}
 use Rattle.refusal.proofs.Laws.Same.{same_eq}
-use Rattle.base64.specs.Code.{encoded}
-use Rattle.base64.specs.Lines.{wrapped}
+use Rattle.strict_base64.specs.Code.{encoded}
+use Rattle.strict_base64.specs.Lines.{wrapped}
 use Rattle.stanza.specs.Arguments.{is_argument, are_arguments, words as words_of, before}
 use Rattle.stanza.specs.Writing.{is_writable}
 use Rattle.responses.specs.declared.Response.{Response}

@@ -14,9 +14,9 @@ use Rattle.refusal.specs.Run.{all, run, is_graphic}
 use Rattle.refusal.proofs.Laws.Booleans.{and_true, cases}
 use Rattle.refusal.proofs.Laws.Lists.{drop-one}
 use Rattle.refusal.proofs.Laws.Run.{run-stop, run-in-class, run_take, run-le, run_more, run_in, all-wider}
-use Rattle.base64.specs.Alphabet.{is_character, value_of}
-use Rattle.base64.specs.Code.{ends_well}
-use Rattle.base64.specs.Lines.{is_full}
+use Rattle.strict_base64.specs.Alphabet.{is_character, value_of}
+use Rattle.strict_base64.specs.Code.{ends_well}
+use Rattle.strict_base64.specs.Lines.{is_full}
 use Rattle.stanza.specs.Automaton.{State, start, hyphen, arrow, gap, word, line, ended, dead, next, bad, short, whole, verdict, scan}
 use Rattle.stanza.specs.Reading.{is_not_lf, line_end}
 

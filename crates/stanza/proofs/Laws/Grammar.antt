@@ -14,10 +14,10 @@ use borrow.Author.Tests.{lt-ltb, eq-eqb, ne_eqb, ltb-true, eqb-true, eqb-false}
 use Rattle.refusal.specs.Pick.{pick}
 use Rattle.refusal.specs.Run.{all, is_graphic}
 use Rattle.refusal.proofs.Laws.Booleans.{and_true, true_and, cases}
-use Rattle.base64.specs.Alphabet.{is_character, value_of}
-use Rattle.base64.specs.Code.{encoded, decoded, ends_well, is_base64, last}
-use Rattle.base64.specs.Lines.{wrapped, lines_of}
-use Rattle.base64.proofs.Laws.RoundTrip.{decoded_bytes, encoded_decoded, encoded_is}
+use Rattle.strict_base64.specs.Alphabet.{is_character, value_of}
+use Rattle.strict_base64.specs.Code.{encoded, decoded, ends_well, is_base64, last}
+use Rattle.strict_base64.specs.Lines.{wrapped, lines_of}
+use Rattle.strict_base64.proofs.Laws.RoundTrip.{decoded_bytes, encoded_decoded, encoded_is}
 use Rattle.stanza.specs.Arguments.{is_line}
 use Rattle.stanza.specs.Automaton.{State, start, hyphen, arrow, gap, word, line, ended, dead, next, after}
 use Rattle.stanza.specs.Grammar.{first_line, stanza_text, IsStanza}

@@ -11,8 +11,8 @@ use native.Mathlib.Decide.{dec_le, dec_lt}
 use borrow.Author.Tests.{lt-ltb, le-ltb}
 use Rattle.refusal.specs.Pick.{pick}
 use Rattle.refusal.proofs.Laws.Run.{run-front}
-use Rattle.base64.specs.Tables.{body_size}
-use Rattle.base64.proofs.Laws.Lines.{body_length}
+use Rattle.strict_base64.specs.Tables.{body_size}
+use Rattle.strict_base64.proofs.Laws.Lines.{body_length}
 use Rattle.stanza.specs.Automaton.{Scan, bad, short, whole}
 use Rattle.stanza.specs.Reading.{stanza, refused, found, is_not_lf, line_end}
 

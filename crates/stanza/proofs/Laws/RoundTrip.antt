@@ -12,9 +12,9 @@ use borrow.Author.Tests.{le-leb, leb-true, eqb-true}
 use Rattle.refusal.specs.Run.{all, run, is_graphic}
 use Rattle.refusal.proofs.Laws.Run.{run-back, run-stop-append}
 use Rattle.refusal.proofs.Laws.Booleans.{and_true, true_and, cases}
-use Rattle.base64.specs.Lines.{lines_of, body_of}
-use Rattle.base64.proofs.Laws.RoundTrip.{body_lines}
-use Rattle.base64.proofs.Laws.Lines.{lines_length}
+use Rattle.strict_base64.specs.Lines.{lines_of, body_of}
+use Rattle.strict_base64.proofs.Laws.RoundTrip.{body_lines}
+use Rattle.strict_base64.proofs.Laws.Lines.{lines_length}
 use Rattle.stanza.specs.Arguments.{is_line}
 use Rattle.stanza.specs.Automaton.{whole}
 use Rattle.stanza.specs.Exact.{Taken}

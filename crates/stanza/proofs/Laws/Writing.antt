@@ -13,7 +13,7 @@ use Rattle.refusal.specs.Output.{bytes, refused, answered, filled, WritingJudged
 use Rattle.refusal.proofs.Laws.Booleans.{cases, and_false_right}
 use Rattle.refusal.proofs.Laws.Output.{test_judged}
 use Rattle.refusal.proofs.Laws.Lists.{part-rest, put_rest, overwrite-part, front-part, front-store, front_whole}
-use Rattle.base64.specs.Lines.{lines_of}
+use Rattle.strict_base64.specs.Lines.{lines_of}
 use Rattle.stanza.specs.Arguments.{is_line, line_with}
 use Rattle.stanza.specs.Grammar.{first_line, stanza_text}
 use Rattle.stanza.specs.Writing.{is_writable, sized, written, buffer_after}

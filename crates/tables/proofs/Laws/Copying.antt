@@ -7,7 +7,7 @@ use lib.ListN.{length, take, drop, length-append}
 use lib.Seq.{drop-drop}
 use native.Mathlib.Omega.{arith}
 use Rattle.refusal.proofs.Laws.Lists.{part-rest, put_rest}
-use Rattle.base64.specs.Tables.{body_size}
+use Rattle.strict_base64.specs.Tables.{body_size}
 use Rattle.refusal.specs.Pick.{pick}
 use Rattle.tables.specs.Tables.{Table, storing, placed, kept}
 use Rattle.tables.proofs.Laws.Tables.{storing-fits}

@@ -2,7 +2,7 @@
 use mathlib.Core.Path.{ap, ap₂, ◌∙◌}
 use borrow.Author.Rules.{rules}
 use Rattle.refusal.specs.Verdict.{verdict_said}
-use Rattle.base64.specs.Lines.{body_of}
+use Rattle.strict_base64.specs.Lines.{body_of}
 use Rattle.session.specs.Opening.{name_of}
 use Rattle.session.specs.Tables.{tables_in}
 use Rattle.session.specs.Session.{session_of, carried_by}

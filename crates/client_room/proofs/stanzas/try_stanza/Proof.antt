@@ -1,7 +1,7 @@
 -- Each step of the code is a part of the definition, for all buffers of these lengths.
 use mathlib.Core.Path.{sym, ap, ◌∙◌}
 use Rattle.refusal.specs.Verdict.{verdict_said}
-use Rattle.base64.specs.Lines.{body_of}
+use Rattle.strict_base64.specs.Lines.{body_of}
 use Rattle.session.specs.Opening.{name_of}
 use Rattle.session.specs.Tables.{tables_in}
 use Rattle.conversation.specs.CommandsTwo.{payload_of}

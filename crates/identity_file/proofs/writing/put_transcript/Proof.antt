@@ -4,8 +4,8 @@ use native.Mathlib.Omega.{arith}
 use lib.ListN.{take}
 use Rattle.identity_file.specs.Steps.{texts_at}
 use Rattle.identity_file.proofs.Laws.Writing.{transcript_length, done_placed}
-use Rattle.base64.specs.Code.{encoded}
-use Rattle.base64.specs.Lines.{wrapped}
+use Rattle.strict_base64.specs.Code.{encoded}
+use Rattle.strict_base64.specs.Lines.{wrapped}
 use Rattle.identity_file.proofs.writing.put_transcript.Statement.{statement}
 use Rattle.identity_file.proofs.writing.put_transcript.Tie as tie
 

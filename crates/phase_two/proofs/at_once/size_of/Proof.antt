@@ -1,7 +1,7 @@
 -- By the response: its text is a closed list.
 use mathlib.Core.Path.{refl}
-use Rattle.base64.specs.Code.{encoded}
-use Rattle.base64.specs.Lines.{wrapped}
+use Rattle.strict_base64.specs.Code.{encoded}
+use Rattle.strict_base64.specs.Lines.{wrapped}
 use borrow.Author.Rules.{rules}
 use Rattle.phase_two.proofs.at_once.size_of.Statement.{statement}
 use Rattle.phase_two.proofs.at_once.size_of.Tie as tie

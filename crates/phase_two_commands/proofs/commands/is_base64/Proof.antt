@@ -1,7 +1,7 @@
 -- A text is base64 exactly if measuring it gives a size.
 use mathlib.Core.Path.{sym, ap, ◌∙◌}
-use Rattle.base64.specs.Code.{size_said}
-use Rattle.base64.proofs.Laws.Code.{measured_is, measured_not}
+use Rattle.strict_base64.specs.Code.{size_said}
+use Rattle.strict_base64.proofs.Laws.Code.{measured_is, measured_not}
 use borrow.Author.Rules.{rules}
 use Rattle.phase_two_commands.proofs.commands.is_base64.Statement.{statement}
 use Rattle.phase_two_commands.proofs.commands.is_base64.Tie as tie

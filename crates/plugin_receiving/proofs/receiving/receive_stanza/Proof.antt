@@ -4,7 +4,7 @@ use Rattle.session.specs.Session.{carried_by}
 use Rattle.plugin_receiving.proofs.receiving.receive_stanza.Statement.{statement}
 use Rattle.plugin_receiving.proofs.receiving.receive_stanza.Tie as tie
 use mathlib.Core.Path.{ap}
-use Rattle.base64.specs.Lines.{body_of}
+use Rattle.strict_base64.specs.Lines.{body_of}
 use lib.ListN.{length}
 use Rattle.refusal.specs.Verdict.{verdict_said}
 use Rattle.stanza.specs.Parts.{arguments_in, body_in}

@@ -1,5 +1,5 @@
 -- By the definition's tests, in its order; before the first character of a line the last has the value 0.
-use Rattle.base64.specs.Alphabet.{value_of}
+use Rattle.strict_base64.specs.Alphabet.{value_of}
 use Rattle.stanza.specs.Automaton.{next}
 use borrow.Author.Tests.{lt-ltb, le-ltb, eq-eqb, ne_eqb}
 use borrow.Author.Rules.{rules}

@@ -1,5 +1,5 @@
 -- By the definition's tests, in its order.
-use Rattle.base64.specs.Alphabet.{value_of}
+use Rattle.strict_base64.specs.Alphabet.{value_of}
 use Rattle.stanza.specs.Automaton.{next}
 use borrow.Author.Tests.{eq-eqb, ne_eqb}
 use borrow.Author.Rules.{rules}

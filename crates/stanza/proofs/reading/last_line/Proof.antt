@@ -4,8 +4,8 @@ use mathlib.Core.Path.{sym, ◌∙◌}
 use lib.ListN.{length}
 use native.Mathlib.Omega.{arith}
 use Rattle.refusal.proofs.Laws.Run.{end_le}
-use Rattle.base64.specs.Alphabet.{is_character}
-use Rattle.base64.specs.Code.{ends_well}
+use Rattle.strict_base64.specs.Alphabet.{is_character}
+use Rattle.strict_base64.specs.Code.{ends_well}
 use Rattle.stanza.proofs.Laws.Automaton.{line-long, line_short, line-bad, line-lf, line-last, line-not-full}
 use borrow.Author.Rules.{rules}
 use Rattle.stanza.proofs.reading.last_line.Statement.{statement}

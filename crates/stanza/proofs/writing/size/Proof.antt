@@ -4,7 +4,7 @@ use mathlib.Core.Path.{◌≡◌, sym, ◌∙◌}
 use lib.ListN.{length}
 use native.Mathlib.Omega.{arith}
 use borrow.Author.Tests.{lt-leb, le-leb, not-true, not-false}
-use Rattle.base64.proofs.Laws.Lines.{lines_length}
+use Rattle.strict_base64.proofs.Laws.Lines.{lines_length}
 use Rattle.stanza.specs.Grammar.{stanza_text}
 use Rattle.stanza.proofs.Laws.Writing.{text_length}
 use borrow.Author.Rules.{rules}

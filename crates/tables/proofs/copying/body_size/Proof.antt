@@ -5,7 +5,7 @@ use lib.ListN.{length}
 use Rattle.tables.proofs.Laws.Copying.{body_less}
 use mathlib.Core.Path.{refl, sym, ◌∙◌}
 use native.Mathlib.Omega.{arith}
-use Rattle.base64.proofs.Laws.Lines.{body_length}
+use Rattle.strict_base64.proofs.Laws.Lines.{body_length}
 use borrow.Author.Rules.{rules}
 use Rattle.tables.proofs.copying.body_size.Statement.{statement}
 use Rattle.tables.proofs.copying.body_size.Tie as tie

@@ -1,0 +1,10 @@
+-- The table holds the value of each byte, and every value is below 64.
+use Rattle.strict_base64.proofs.Laws.Alphabet.{value_lt}
+use borrow.Author.Rules.{rules}
+use Rattle.strict_base64.proofs.decoding.look_up.Goals as goal
+
+
+pub returns : goal.returns
+returns c = let whole = let e = c.requires c.args.b (search rules) in
+    rw c.wide.ensures (e, rw e (value_lt c.args.b)) in
+    record { value = whole.0; small = whole.1 }
