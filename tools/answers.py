@@ -29,9 +29,9 @@ def decls(text):
     return out
 
 def goaltype(b):
-    for l in b['lines']:
-        m=re.match(r'^(?:pub |abbrev )*'+re.escape(b['name'])+r'\s*:\s*(tie\.\S+)(.*)$',l) if b['name'] else None
-        if m: return m.group(1)[4:], m.group(2).split()
+    if not b['name']: return None
+    m=re.search(r'^(?:pub |abbrev )*'+re.escape(b['name'])+r'\s*:\s*(tie ?\.\S+)([^\n]*)',"\n".join(b['lines']),re.M)
+    if m: return m.group(1).replace('tie .','tie.')[4:], m.group(2).split()
     return None
 
 def split_top(s):
@@ -78,7 +78,24 @@ def to_record(term,fields):
         for m in ms:
             b=t[m.end():].strip()
             if is_tuple(b) and tuple_parts(b,len(fields)): head,body=t[:m.end()],b; break
-        if body is None: return None
+        if body is None:
+            m=None
+            k=t.rfind(' in\n'); k2=t.rfind(' in ')
+            start=max(k,k2); start=start+3 if start>=0 else 0
+            b=t[start:].strip()
+            if re.match(r'^(rw|simp)\b',b) and b.endswith(')'):
+                d=0
+                for i in range(len(b)-1,-1,-1):
+                    if b[i] in ')]}': d+=1
+                    if b[i] in '([{':
+                        d-=1
+                        if d==0: break
+                tup=b[i:]; headrw=b[:i].rstrip()
+                parts=tuple_parts(tup,len(fields))
+                if parts:
+                    inner=';\n        '.join(f'{f} = {headrw} ({x})' if not re.match(r"^[\w.']+$",x) else f'{f} = {headrw} {x}' for f,x in zip(fields,parts))
+                    return (t[:start].rstrip()+'\n    ' if start else '')+'record {\n        '+inner+';\n    }'
+            return None
     p=tuple_parts(body,len(fields))
     if p is None: return None
     inner=';\n        '.join(f'{f} = {x}' for f,x in zip(fields,p))
@@ -174,7 +191,7 @@ class Fn:
             elif n==2 and r[0]=='1': k,used=1,1
             else:
                 # right nested or n-ary
-                if all(x=='1' for x in r[:1]) and len(r)>1 and r[1] in('0','1') and os.environ.get('NESTED','0')=='1':
+                if all(x=='1' for x in r[:1]) and len(r)>1 and r[1] in('0','1') and True:
                     j=0
                     while j<len(r) and r[j]=='1' and j<n-1: j+=1
                     k=j; used=j
@@ -216,7 +233,7 @@ def convert(crate,only=()):
                 helpers.append(b); continue
         for (lname,lt),b in zip(lg,og):
             t=lt
-            txt=[l for l in b['lines']]
+            txt=re.sub(r':\s*\n\s+(tie)',r': \1',"\n".join(b['lines'])).split('\n')
             sig=[l for l in txt if re.match(r'^(?:pub |abbrev )*'+re.escape(b['name'])+r'\s*:',l)][0]
             body=txt[txt.index(sig)+1:]
             pre=txt[:txt.index(sig)]
@@ -311,10 +328,8 @@ def convert(crate,only=()):
 
 def goaltype_l(b):
     if not b['name']: return None
-    for l in b['lines']:
-        m=re.match(r'^(?:pub |abbrev )*'+re.escape(b['name'])+r'\s*:\s*(tie ?\.\S+)(.*)$',l)
-        if m: return m.group(1).replace('tie .','tie.')[4:]
-    return None
+    g=goaltype(b)
+    return g[0] if g else None
 
 if __name__=='__main__':
     for r in convert(sys.argv[1],sys.argv[2:]): print(*r)
