@@ -34,6 +34,7 @@ def goaltype(b):
     if m: return m.group(1).replace('tie .','tie.')[4:], m.group(2).split()
     return None
 
+CL={}
 def split_top(s):
     """split a tuple's inside at top-level commas"""
     out=[];d=0;cur='';q=False
@@ -95,6 +96,13 @@ def to_record(term,fields):
                 if parts:
                     inner=';\n        '.join(f'{f} = {headrw} ({x})' if not re.match(r"^[\w.']+$",x) else f'{f} = {headrw} {x}' for f,x in zip(fields,parts))
                     return (t[:start].rstrip()+'\n    ' if start else '')+'record {\n        '+inner+';\n    }'
+            m=re.match(r'^((?:rw|simp) .*?)\s(c\.[\w.\'-]+\.ensures)$',b,re.S)
+            if m and CL.get(m.group(2)) and len(CL[m.group(2)])==len(fields):
+                inner=';\n        '.join(f'{f} = {m.group(1)} {m.group(2)}.{g}' for f,g in zip(fields,CL[m.group(2)]))
+                return (t[:start].rstrip()+'\n    ' if start else '')+'record {\n        '+inner+';\n    }'
+            if re.match(r"^c\.[\w.'-]+\.ensures$",b) and CL.get(b) and len(CL[b])==len(fields):
+                inner='; '.join(f'{f} = {b}.{g}' for f,g in zip(fields,CL[b]))
+                return (t[:start].rstrip()+'\n    ' if start else '')+'record { '+inner+' }'
             return None
     p=tuple_parts(body,len(fields))
     if p is None: return None
@@ -140,6 +148,11 @@ class Fn:
         """rest: list of fields after the befores; returns new path string behind 'c'"""
         ch=s.chain(place)
         if not rest: return None
+        BACK={'first_line_same':'first_line','is_done_command':'is_done','machine_is_named':'machine_named','of_one_file':'of_file','stanzas_for_file':'stanzas_for','one_word_laws':'words_one','two_words_laws':'words_two','given_command_two':'command_two','done_command':'done_word'}
+        rest=list(rest)
+        m0=re.match(r'^(.*?)(\d*)$',rest[0])
+        if m0.group(1) in BACK: rest[0]=BACK[m0.group(1)]+m0.group(2)
+        elif m0.group(1).endswith('_lem'): rest[0]=m0.group(1)[:-4]+m0.group(2)
         f=rest[0]
         cand=ch[n:] if n<len(ch) else ch
         # allow the field anywhere in the chain, nearest to n first
@@ -158,11 +171,12 @@ class Fn:
                 for it in fields:
                     nf,of,op=it
                     if norm(of)==norm(f) and [str(x) for x in rest[1:1+len(op)]]==[str(x) for x in op]:
-                        return '.'.join([new,nf]+list(rest[1+len(op):])) if nf!=f'{new}-own' else new+'.'+'.'.join(rest[1:])
+                        return '.'.join([new,nf]+list(rest[1+len(op):])) if not nf.endswith('-own') else '.'.join([new,nf]+list(rest[1:]))
             if norm(p[2][0])==norm(f):
                 r=list(rest[1:])
                 new=p[2][1]
                 cl=s.J['clauses'][s.index[ch[i]]]
+                if cl and cl.get('fields') and len(cl['fields'])>1: CL['c.'+new+'.ensures']=cl['fields']
                 if r and r[0]=='ensures' and cl and cl.get('fields') and len(cl['fields'])>1:
                     r=['ensures']+s.clause(r[1:],cl['fields'])
                 if r and r[0] in('new','auto') and p[3] and p[3] in s.J['params']:
