@@ -2,12 +2,8 @@
 use Rattle.refusal.proofs.Laws.Below.{tabulated_at}
 use Rattle.symbols.specs.Checksum.{folded, taken}
 use Rattle.symbols.specs.Steps.{chosen}
-use Rattle.symbols.proofs.charset.folds.Statement.{statement}
-use Rattle.symbols.proofs.charset.folds.Tie as tie
+use Rattle.symbols.proofs.charset.folds.Goals as goal
 
-returns : tie.Need-returns
+pub returns : goal.returns
 unfolding folded taken
 returns c = tabulated_at chosen 32
-
-pub folds-spec : {M : Type 1} → statement M
-folds-spec = tie.close (tie.spec returns)

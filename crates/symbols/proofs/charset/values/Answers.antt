@@ -2,12 +2,8 @@
 use Rattle.refusal.proofs.Laws.Below.{tabulated_at}
 use Rattle.symbols.specs.Charset.{place_of, lower, is_upper}
 use Rattle.symbols.specs.Calls.{value_at}
-use Rattle.symbols.proofs.charset.values.Statement.{statement}
-use Rattle.symbols.proofs.charset.values.Tie as tie
+use Rattle.symbols.proofs.charset.values.Goals as goal
 
-returns : tie.Need-returns
+pub returns : goal.returns
 unfolding place_of lower is_upper
 returns c = tabulated_at value_at 256
-
-pub values-spec : {M : Type 1} → statement M
-values-spec = tie.close (tie.spec returns)
