@@ -31,7 +31,7 @@ def decls(text):
 def goaltype(b):
     if not b['name']: return None
     m=re.search(r'^(?:pub |abbrev )*'+re.escape(b['name'])+r'\s*:\s*(tie ?\.\S+)([^\n]*)',"\n".join(b['lines']),re.M)
-    if m: return m.group(1).replace('tie .','tie.')[4:], m.group(2).split()
+    if m and re.match(r'(Need|Inv|Measure|inv|decr)',m.group(1).replace('tie .','tie.')[4:]): return m.group(1).replace('tie .','tie.')[4:], m.group(2).split()
     return None
 
 CL={}
@@ -214,6 +214,53 @@ class Fn:
         if k is None or k>=n: return r
         return [fields[k]]+r[used:]
 
+def atoms(s,i,n):
+    """n atoms of s from i on: their texts and the end"""
+    out=[]
+    for _ in range(n):
+        while i<len(s) and s[i] in ' \n': i+=1
+        if i>=len(s): return None
+        j=i
+        if s[i] in '([{':
+            d=0
+            while j<len(s):
+                if s[j] in '([{': d+=1
+                if s[j] in ')]}':
+                    d-=1
+                    if d==0: j+=1; break
+                j+=1
+            while j<len(s) and s[j]=='.' : # a projection
+                k=re.match(r'\.[\w\'-]+',s[j:])
+                if not k: break
+                j+=k.end()
+        else:
+            k=re.match(r"[^\s(){};,\[\]]+",s[i:])
+            if not k: return None
+            j=i+k.end()
+        out.append(s[i:j]); i=j
+    return out,i
+
+def inline(text,macros):
+    """puts the bodies of helpers over a step's record in place of their calls"""
+    for _ in range(4):
+        changed=False
+        for name,(ps,body) in macros.items():
+            k=0
+            while True:
+                m=re.compile(r"(?<![\w.'-])"+re.escape(name)+r"(?![\w'-])").search(text,k)
+                if not m: break
+                a=atoms(text,m.end(),len(ps))
+                if a is None: k=m.end(); continue
+                args,e=a
+                b=body
+                # c first: prefix its paths
+                for p,x in zip(ps,args):
+                    b=re.sub(r"(?<![\w.'-])"+re.escape(p)+r"(?![\w'₀-])",lambda _: x,b)
+                text=text[:m.start()]+'('+b+')'+text[e:]
+                k=m.start()+1; changed=True
+        if not changed: break
+    return text
+
 PATH=re.compile(r"(?<![\w.'-])c((?:\.(?:«[^»]+»|[^\s(){}.;,@\"«»\[\]\\]+))+)")
 
 def convert(crate,only=()):
@@ -229,7 +276,7 @@ def convert(crate,only=()):
         op=f'{OLD}/{crate}/proofs/{rel}/Proof.antt'; lp=f'{LAND}/{ocrate}/proofs/{rel}/Proof.antt'
         if not os.path.exists(op): continue
         old=decls(open(op).read()); land=decls(open(lp).read())
-        F=Fn(crate,key,J)
+        F=Fn(crate,key,J); CL.clear()
         lg=[(b['name'],goaltype_l(b)) for b in land if goaltype_l(b)]
         og=[b for b in old if goaltype(b)]
         if len(lg)!=len(og): report.append((fn,'decl count differs',len(lg),len(og)))
@@ -245,6 +292,16 @@ def convert(crate,only=()):
             g=goaltype(b)
             if not g:
                 helpers.append(b); continue
+        macros={}
+        for b in list(helpers):
+            full='\n'.join(b['lines'])
+            if b['name'] and re.search(r'\btie\.[A-Z]',full.split('=')[0]) and not goaltype_need(full,b['name']):
+                ls=full.split('\n')
+                k=[x for x,l in enumerate(ls) if re.match(re.escape(b['name'])+r'(\s+[^\s:=]+)+\s*=',l)]
+                if not k: continue
+                rest='\n'.join(ls[k[0]:])
+                m=re.match(re.escape(b['name'])+r'((?:\s+[^\s=]+)+)\s*=\s*(.*)$',rest,re.S)
+                macros[b['name']]=(m.group(1).split(),m.group(2).strip()); helpers.remove(b)
         for (lname,lt),b in zip(lg,og):
             t=lt
             txt=re.sub(r':\s*\n\s+(tie)',r': \1',"\n".join(b['lines'])).split('\n')
@@ -269,8 +326,8 @@ def convert(crate,only=()):
                 rhs=re.sub(r"(?<![\w.'₀-])("+'|'.join(re.escape(x) for x in sorted(mp,key=len,reverse=True))+r")(?![\w'₀-])",lambda m:mp[m.group(1)],rhs) if mp else rhs
                 inv.append('\n'.join(pre+[f'abbrev pub {kind}-{new} : goal.{kind}-{new}']+unf+[f'{kind}-{new} l = {rhs}'])); continue
             t=t[len('Need-'):]
-            mm=re.match(r'^(.*)-(holds|less|again)$',t)
-            if mm and norm(t) not in needs: t=mm.group(1)+'-'+LT[mm.group(2)]
+            mm=re.match(r'^(.*)-(holds|less|again)(-\d+)?$',t)
+            if mm and norm(t) not in needs: t=mm.group(1)+'-'+LT[mm.group(2)]+(mm.group(3) or '')
             if norm(t) not in needs and t.startswith('same-length'): continue
             if norm(t) not in needs:
                 # maybe settled
@@ -280,6 +337,7 @@ def convert(crate,only=()):
             m=re.match(r'^'+re.escape(b['name'])+r'((?:\s+[^\s=]+)*)\s*=\s*(.*)$',body,re.S)
             if not m: report.append((fn,'no body',t)); continue
             rhs=m.group(2).strip()
+            if macros: rhs=inline(rhs,macros)
             if rhs in('search rules','omega arith'): continue
             F.miss=set()
             def sub(mm):
@@ -291,6 +349,13 @@ def convert(crate,only=()):
                 return 'c.'+(r if r is not None else '.'.join(fields))
             rhs2=PATH.sub(sub,rhs)
             for x in F.miss: report.append((fn,new,'path',x))
+            for mm in list(re.finditer(r"let ([\w']+) = (?:(?:rw|simp) .*? at )?(c\.[\w.'-]+\.ensures) in",rhs2)):
+                if mm.group(2) in CL:
+                    nm=mm.group(1)
+                    def fx(m3,fs=CL[mm.group(2)]):
+                        r=m3.group(1)[1:].split('.')
+                        return nm+'.'+'.'.join(F.clause(r,fs))
+                    rhs2=re.sub(r"(?<![\w.'-])"+re.escape(nm)+r"((?:\.[0-9]+)+)",fx,rhs2)
             fields=None
             if new.endswith('-requires') or '-requires-' in new:
                 fields=J['asked'].get(new)
@@ -339,6 +404,9 @@ def convert(crate,only=()):
         if ans:
             open(d+'/Answers.antt','w').write('\n'.join(head+ulines2+[f'use Rattle.{crate}.proofs.{fn}.Goals as goal',''])+'\n'+'\n\n'.join(hl2+ans)+'\n')
     return report
+
+def goaltype_need(full,name):
+    return re.search(r'^(?:pub |abbrev )*'+re.escape(name)+r'\s*:\s*tie\.(Need-|invariant-|decreases-|InvT|MeasureT)',full,re.M)
 
 def goaltype_l(b):
     if not b['name']: return None
