@@ -277,6 +277,9 @@ def convert(crate,only=()):
         if not os.path.exists(op): continue
         old=decls(open(op).read()); land=decls(open(lp).read())
         F=Fn(crate,key,J); CL.clear()
+        for pi,pp in enumerate(J['places']):
+            cl=J['clauses'][pi]
+            if cl and cl.get('fields') and len(cl['fields'])>1: CL['c.'+pp[2][1]+'.ensures']=cl['fields']
         lg=[(b['name'],goaltype_l(b)) for b in land if goaltype_l(b)]
         og=[b for b in old if goaltype(b)]
         if len(lg)!=len(og): report.append((fn,'decl count differs',len(lg),len(og)))
@@ -341,7 +344,7 @@ def convert(crate,only=()):
             if rhs in('search rules','omega arith'): continue
             F.miss=set()
             def sub(mm):
-                fields=mm.group(1)[1:].split('.')
+                fields=mm.group(1)[1:].replace('«','').replace('»','').split('.')
                 n=0
                 while fields and fields[0]=='before': n+=1; fields=fields[1:]
                 # a path inside names of fields
@@ -356,6 +359,13 @@ def convert(crate,only=()):
                         r=m3.group(1)[1:].split('.')
                         return nm+'.'+'.'.join(F.clause(r,fs))
                     rhs2=re.sub(r"(?<![\w.'-])"+re.escape(nm)+r"((?:\.[0-9]+)+)",fx,rhs2)
+            for mm in list(re.finditer(r"let ([\w']+) = (c\.[\w.'«»-]+) in",rhs2)):
+                if mm.group(2)+'.ensures' in CL:
+                    nm=mm.group(1)
+                    def fx2(m3,fs=CL[mm.group(2)+'.ensures']):
+                        r=m3.group(1)[1:].split('.')
+                        return nm+'.ensures.'+'.'.join(F.clause(r,fs))
+                    rhs2=re.sub(r"(?<![\w.'-])"+re.escape(nm)+r"\.ensures((?:\.[0-9]+)+)",fx2,rhs2)
             fields=None
             if new.endswith('-requires') or '-requires-' in new:
                 fields=J['asked'].get(new)
