@@ -78,7 +78,7 @@ def to_record(term,fields):
         head=body=None
         for m in ms:
             b=t[m.end():].strip()
-            if is_tuple(b) and tuple_parts(b,len(fields)): head,body=t[:m.end()],b; break
+            if is_tuple(b) and (tuple_parts(b,len(fields)) or len(split_top(b[1:-1]))>1): head,body=t[:m.end()],b; break
         if body is None:
             m=None
             k=t.rfind(' in\n'); k2=t.rfind(' in ')
@@ -105,6 +105,12 @@ def to_record(term,fields):
                 return (t[:start].rstrip()+'\n    ' if start else '')+'record { '+inner+' }'
             return None
     p=tuple_parts(body,len(fields))
+    if p is None:
+        q=split_top(body.strip()[1:-1])
+        if 1<len(q)<len(fields):
+            k=len(fields)-len(q)
+            last=q[-1]; at=last if re.match(r"^[\w.'«»-]+$",last) else '('+last+')'
+            p=q[:-1]+[at+'.1'*j+'.0' for j in range(k)]+[at+'.1'*k]
     if p is None: return None
     inner=';\n        '.join(f'{f} = {x}' for f,x in zip(fields,p))
     return (head.rstrip()+'\n    ' if head else '')+'record {\n        '+inner+';\n    }'
@@ -366,6 +372,8 @@ def convert(crate,only=()):
                         r=m3.group(1)[1:].split('.')
                         return nm+'.ensures.'+'.'.join(F.clause(r,fs))
                     rhs2=re.sub(r"(?<![\w.'-])"+re.escape(nm)+r"\.ensures((?:\.[0-9]+)+)",fx2,rhs2)
+            for mm in list(re.finditer(r"let ([\w']+) = c\.args in",rhs2)):
+                rhs2=re.sub(r"(?<![\w.'-])"+re.escape(mm.group(1))+r"\.([A-Za-z]\w*(?:-[a-z]\w*)+)",lambda m3: mm.group(1)+'.'+m3.group(1).replace('-','_'),rhs2)
             fields=None
             if new.endswith('-requires') or '-requires-' in new:
                 fields=J['asked'].get(new)
@@ -377,7 +385,7 @@ def convert(crate,only=()):
                 r=to_record(rhs2,fields)
                 if r is None:
                     report.append((fn,new,'no tuple',fields))
-                    rhs2='let whole = '+rhs2+' in\n    record { '+'; '.join(f'{f} = whole.{k}' for k,f in enumerate(fields))+' }'
+                    rhs2='let whole = '+rhs2+' in\n    record { '+'; '.join(f'{f} = whole'+'.1'*k+('.0' if k<len(fields)-1 else '') for k,f in enumerate(fields))+' }'
                 else: rhs2=r
             ans.append('\n'.join(pre+[f'pub {new} : goal.{new}']+unf+[f'{new} c = {rhs2}']))
         d=f'{NEW}/{crate}/proofs/{rel}'
