@@ -200,6 +200,12 @@ class Fn:
                 if norm(f) in names:
                     # another field of the arm: .given.0.0 the payload
                     s.miss.add('arm '+'.'.join(rest)+' '+json.dumps(a))
+        m9=re.match(r'^(.*[a-z_])(\d+)$',rest[0])
+        if m9 and not getattr(s,'again',False):
+            s.again=True
+            try: r=s.path(place,n,[m9.group(1)]+list(rest[1:]))
+            finally: s.again=False
+            if r is not None: return r
         s.miss.add('.'.join(rest))
         return None
     def clause(s,r,fields):
