@@ -1,4 +1,4 @@
--- A closed session keeps nothing, and nothing waits in it: what the chunk comes to is `chunk-fault`.
+-- A closed session keeps nothing, and nothing waits in it: what the chunk comes to is `chunk_fault`.
 use mathlib.Core.Path.{refl, sym, ap, ◌∙◌}
 use mathlib.Core.List.{[]}
 use Rattle.refusal.specs.Number.{number_of}
@@ -9,7 +9,7 @@ use Rattle.intake.specs.Intake.{intake_of}
 use Rattle.intake.specs.Settling.{Says}
 use Rattle.intake.specs.declared.answers.Last.TheVariants.{Nothing}
 use Rattle.intake.specs.declared.answers.Received.{Received as CodeReceived}
-use Rattle.intake.proofs.Laws.Fronts.{chunk-fault, silent_answer}
+use Rattle.intake.proofs.Laws.Fronts.{chunk_fault, silent_answer}
 use Rattle.intake.proofs.Laws.Keeping.{filled_empty}
 use borrow.Author.Rules.{rules}
 use Rattle.intake.proofs.answers.close.Statement.{statement}
@@ -27,7 +27,7 @@ returns c =
     let r : CodeReceived = record { verdict = Refused a.refusal; count = 0; last = Nothing; written = 0; session = c.keeping.result } in (
       (λ e xs hs o chunk b out t m h.
           let says : Says e r xs hs o o [] b (taken e (intake_of e a.session xs hs o) b chunk) = record {
-            taken = rw (c.keeping.ensures, c.before.moved.ensures, closed_waits e) (sym (chunk-fault e a.session xs hs o t m chunk b (number_of a.refusal) h));
+            taken = rw (c.keeping.ensures, c.before.moved.ensures, closed_waits e) (sym (chunk_fault e a.session xs hs o t m chunk b (number_of a.refusal) h));
             input = rw (c.keeping.ensures, c.before.moved.ensures, closed_waits e) (filled_empty o);
           } in
           record { outcome = silent_answer e r xs hs o o b b _ chunk out (turn_reads e a.session.phase t) refl says; input = says.input }),

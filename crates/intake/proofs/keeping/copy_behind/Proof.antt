@@ -3,7 +3,7 @@ use mathlib.Core.Path.{ap, ◌∙◌}
 use mathlib.Core.List.{◌++◌}
 use lib.ListN.{length, take, drop}
 use Rattle.refusal.specs.Output.{filled}
-use Rattle.refusal.proofs.Laws.Lists.{part-rest, put_rest}
+use Rattle.refusal.proofs.Laws.Lists.{part_rest, put_rest}
 use Rattle.intake.proofs.Laws.Keeping.{none_behind}
 use borrow.Author.Rules.{rules}
 use Rattle.intake.proofs.keeping.copy_behind.Statement.{statement}
@@ -31,7 +31,7 @@ returns-2 : tie.Need-returns-2
 returns-2 c =
     let o = c.before.before.before.before.before.before.before.args.out.now in
     let k = c.before.before.before.before.before.before.before.args.at in
-    put_rest k o _ ∙ ap (λ p. take k o ++ p) (c.before.before.copy.ensures ∙ ap (λ x. filled c.before.before.before.before.before.before.before.args.part.now x) (part-rest k o))
+    put_rest k o _ ∙ ap (λ p. take k o ++ p) (c.before.before.copy.ensures ∙ ap (λ x. filled c.before.before.before.before.before.before.before.args.part.now x) (part_rest k o))
 
 pub copy-behind-spec : {M : Type 1} → statement M
 copy-behind-spec =

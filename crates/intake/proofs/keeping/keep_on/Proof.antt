@@ -1,4 +1,4 @@
--- The chunk stands behind the bytes that are kept, and is read back from there: what it comes to is `chunk-goes-on`.
+-- The chunk stands behind the bytes that are kept, and is read back from there: what it comes to is `chunk_goes_on`.
 use Prim.Native.Nat.{◌+◌, min}
 use mathlib.Core.Path.{◌≡◌, refl, sym, ap, ◌∙◌}
 use mathlib.Core.List.{[], ◌++◌}
@@ -16,7 +16,7 @@ use Rattle.intake.specs.Intake.{intake_of}
 use Rattle.intake.specs.Settling.{Says}
 use Rattle.intake.specs.declared.answers.Last.TheVariants.{Nothing}
 use Rattle.intake.specs.declared.answers.Received.{Received as CodeReceived}
-use Rattle.intake.proofs.Laws.Fronts.{chunk-goes-on, silent_answer}
+use Rattle.intake.proofs.Laws.Fronts.{chunk_goes_on, silent_answer}
 use Rattle.intake.proofs.Laws.Keeping.{part_behind, front_back}
 use Rattle.intake.proofs.Laws.Settling.{reads_waits}
 use borrow.Author.Rules.{rules}
@@ -41,7 +41,7 @@ returns c =
     let r : CodeReceived = record { verdict = Accepted; count = 0; last = Nothing; written = 0; session = c.keeping.result } in
     let kept : n ≡ k = c.before.kept_of.ensures in (
       (λ e xs hs o b out t m h.
-          let g = chunk-goes-on e a.session xs hs o t m p b (place_said a.place) h in
+          let g = chunk_goes_on e a.session xs hs o t m p b (place_said a.place) h in
           let l = g.1 in
           let size : length (take k o ++ p) ≡ k + length p = length-append (take k o) p ∙ ap (λ n. n + length p) (length-take-le k o (omega arith)) in
           let y : take k o ++ filled p (drop k o) ≡ filled (take k o ++ p) o = part_behind p o k (omega arith) in

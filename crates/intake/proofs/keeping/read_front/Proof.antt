@@ -21,14 +21,14 @@ module _ (t : Turn) (p : Place) (k : ℕ) (x : List ℕ) where
 
   module _ (read : is_reading t ≡ true) (n : ℕ) (e : n ≡ k) where
     -- by whether one is unfinished
-    by-between : (r : Continued) → pick (is_between p n) (whole 0) (continued (place_said p) n x) ≡ r → front_in t p k x ≡ r
-    by-between r h = ap (λ f. pick f (front_of p k x) (whole 0)) read ∙ ap (λ n. front_of p n x) (sym e) ∙ h
+    by_between : (r : Continued) → pick (is_between p n) (whole 0) (continued (place_said p) n x) ≡ r → front_in t p k x ≡ r
+    by_between r h = ap (λ f. pick f (front_of p k x) (whole 0)) read ∙ ap (λ n. front_of p n x) (sym e) ∙ h
 
-    none-unfinished : is_between p n ≡ true → whole 0 ≡ front_in t p k x
-    none-unfinished h = sym (by-between (whole 0) (ap (λ f. pick f (whole 0) (continued (place_said p) n x)) h))
+    none_unfinished : is_between p n ≡ true → whole 0 ≡ front_in t p k x
+    none_unfinished h = sym (by_between (whole 0) (ap (λ f. pick f (whole 0) (continued (place_said p) n x)) h))
 
-    one-unfinished : (r : Continued) → is_between p n ≡ false → r ≡ continued (place_said p) n x → r ≡ front_in t p k x
-    one-unfinished r h q = q ∙ sym (by-between (continued (place_said p) n x) (ap (λ f. pick f (whole 0) (continued (place_said p) n x)) h))
+    one_unfinished : (r : Continued) → is_between p n ≡ false → r ≡ continued (place_said p) n x → r ≡ front_in t p k x
+    one_unfinished r h q = q ∙ sym (by_between (continued (place_said p) n x) (ap (λ f. pick f (whole 0) (continued (place_said p) n x)) h))
 
 is-reading-requires : tie.Need-is-reading-requires
 is-reading-requires c κs = search rules
@@ -47,7 +47,7 @@ is-between-requires c κs = search rules
 returns-2 : tie.Need-returns-2
 returns-2 c =
     let a = c.before.before.before.before.before.before.before.args in
-    (none-unfinished (turn_said a.turn) a.reading (min a.kept 8191) a.chunk.now (sym c.before.before.before.before.is-reading.ensures ∙ not-false c.before.before.before.before.is-reading.result c.before.before.before.if1.false) _ c.before.before.kept_of.ensures (sym c.before.is-between.ensures ∙ c.if2.true), refl)
+    (none_unfinished (turn_said a.turn) a.reading (min a.kept 8191) a.chunk.now (sym c.before.before.before.before.is-reading.ensures ∙ not-false c.before.before.before.before.is-reading.result c.before.before.before.if1.false) _ c.before.before.kept_of.ensures (sym c.before.is-between.ensures ∙ c.if2.true), refl)
 
 read-more-requires : tie.Need-read-more-requires
 read-more-requires c κs = search rules
@@ -59,7 +59,7 @@ returns-3 : tie.Need-returns-3
 returns-3 c =
     let a = c.before.before.before.before.before.before.before.before.before.before.before.args in
     let f = c.before.before.read_more in (
-      one-unfinished (turn_said a.turn) a.reading (min a.kept 8191) a.chunk.now (sym c.before.before.before.before.before.before.before.before.is-reading.ensures ∙ not-false c.before.before.before.before.before.before.before.before.is-reading.result c.before.before.before.before.before.before.before.if1.false) _ c.before.before.before.before.before.before.kept_of.ensures (continued_said f.result) (sym c.before.before.before.before.before.is-between.ensures ∙ c.before.before.before.before.if2.false) f.ensures.0,
+      one_unfinished (turn_said a.turn) a.reading (min a.kept 8191) a.chunk.now (sym c.before.before.before.before.before.before.before.before.is-reading.ensures ∙ not-false c.before.before.before.before.before.before.before.before.is-reading.result c.before.before.before.before.before.before.before.if1.false) _ c.before.before.before.before.before.before.kept_of.ensures (continued_said f.result) (sym c.before.before.before.before.before.is-between.ensures ∙ c.before.before.before.before.if2.false) f.ensures.0,
       f.ensures.1 ∙ ap (λ n. input_behind (continued_said f.result) n a.chunk.now a.input.now) c.before.before.before.before.before.before.kept_of.ensures,
     )
 

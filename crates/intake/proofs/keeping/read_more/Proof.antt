@@ -24,7 +24,7 @@ enum-told-3 c = search rules
 returns : tie.Need-returns
 returns c =
     let a = c.before.before.before.before.before.args in
-    (c.before.before.read-on.ensures, ap (λ q. input_behind (continued_said q) a.at a.chunk.now a.input.now) (sym c.enum_told.given.1))
+    (c.before.before.read_on.ensures, ap (λ q. input_behind (continued_said q) a.at a.chunk.now a.input.now) (sym c.enum_told.given.1))
 
 same_length : tie.Need-same-length
 same_length c = search rules
@@ -32,14 +32,14 @@ same_length c = search rules
 returns-2 : tie.Need-returns-2
 returns-2 c =
     let a = c.before.before.before.before.before.before.before.before.before.args in (
-      c.before.before.before.before.before.before.read-on.ensures,
+      c.before.before.before.before.before.before.read_on.ensures,
       c.before.before.copy-behind.ensures ∙ ap (λ q. input_behind (continued_said q) a.at a.chunk.now a.input.now) (sym c.before.before.before.before.enum-told2.given.1),
     )
 
 returns-3 : tie.Need-returns-3
 returns-3 c =
     let a = c.before.before.before.before.before.args in
-    (c.before.before.read-on.ensures, ap (λ q. input_behind (continued_said q) a.at a.chunk.now a.input.now) (sym c.enum-told3.given.1))
+    (c.before.before.read_on.ensures, ap (λ q. input_behind (continued_said q) a.at a.chunk.now a.input.now) (sym c.enum-told3.given.1))
 
 pub read-more-spec : {M : Type 1} → statement M
 read-more-spec =

@@ -7,7 +7,7 @@ use Rattle.refusal.specs.Output.{filled}
 use Rattle.stanza.specs.Automaton.{start}
 use Rattle.session.specs.Session.{session_of}
 use Rattle.chunks.specs.Taking.{no_more, keeping, behind}
-use Rattle.chunks.proofs.Laws.Texts.{text-kept-back}
+use Rattle.chunks.proofs.Laws.Texts.{text_kept_back}
 use Rattle.intake.specs.Intake.{last_said}
 use Rattle.intake.proofs.Laws.Keeping.{both, awaited_back, kept_back}
 use Rattle.intake.proofs.Laws.Settling.{behind_last}
@@ -46,7 +46,7 @@ returns c =
           let v = awaited_back t rest o l.0 l.1 l.2 in
           let z = kept_back t rest o l.0 l.1 l.2 in
           record {
-            taken = rw (c.settled.ensures, c.before.keeping.ensures, turn_waits e f.session.phase m.turn, y, v, z) (sym (ap (behind f.count (last_said f.last) w) (text-kept-back e s b t m.turn rest) ∙ behind_last f.count (last_said f.last) w 0 (keeping s start rest t) b));
+            taken = rw (c.settled.ensures, c.before.keeping.ensures, turn_waits e f.session.phase m.turn, y, v, z) (sym (ap (behind f.count (last_said f.last) w) (text_kept_back e s b t m.turn rest) ∙ behind_last f.count (last_said f.last) w 0 (keeping s start rest t) b));
             input = rw (c.settled.ensures, c.before.keeping.ensures, turn_waits e f.session.phase m.turn, y, v, z);
           }),
       (ap (λ r. r.written) c.settled.ensures, ap (λ r. r.session.name) c.settled.ensures ∙ ap (λ s. s.name) c.before.keeping.ensures),

@@ -13,7 +13,7 @@ use Rattle.session.specs.Session.{closed}
 use Rattle.intake.specs.Fronts.{input_behind}
 use Rattle.intake.specs.Intake.{last_said}
 use Rattle.intake.proofs.Laws.Keeping.{front_back, filled_empty}
-use Rattle.intake.proofs.Laws.Settling.{reads_waits, behind_last, rest_kept, rest_over, rest-closes}
+use Rattle.intake.proofs.Laws.Settling.{reads_waits, behind_last, rest_kept, rest_over, rest_closes}
 use Rattle.refusal.specs.Output.{filled}
 use borrow.Author.Rules.{rules}
 use Rattle.intake.proofs.keeping.settle_read.Statement.{statement}
@@ -118,7 +118,7 @@ returns-4 c =
       (λ e xs hs w b m.
           let s = session_of f.session xs hs in
           record {
-            taken = rw (c.settled4.ensures, c.before.keeping4.ensures, c.before.before.moved.ensures, closed_waits e) (sym (ap (behind f.count (last_said f.last) w) (rest-closes e s b rest m.turn (number_of r) g) ∙ behind_last f.count (last_said f.last) w (number_of r) (emptied (closed s) []) b));
+            taken = rw (c.settled4.ensures, c.before.keeping4.ensures, c.before.before.moved.ensures, closed_waits e) (sym (ap (behind f.count (last_said f.last) w) (rest_closes e s b rest m.turn (number_of r) g) ∙ behind_last f.count (last_said f.last) w (number_of r) (emptied (closed s) []) b));
             input = rw (c.settled4.ensures, c.before.keeping4.ensures, c.before.before.moved.ensures, closed_waits e) (x ∙ filled_empty o);
           }),
       (ap (λ r. r.written) c.settled4.ensures, ap (λ r. r.session.name) c.settled4.ensures ∙ ap (λ s. s.name) c.before.keeping4.ensures ∙ ap (λ s. s.name) c.before.before.moved.ensures),

@@ -11,7 +11,7 @@ use Rattle.phase_one.specs.PhaseOne as one
 use Rattle.conversation.specs.Kinds.{buffers_of}
 use Rattle.conversation.specs.PhaseTwo.{BuffersTwo}
 use Rattle.plugin_receiving.specs.Commands.{comes_to, NoneDue}
-use Rattle.plugin_receiving.proofs.Laws.Commands.{says_same, stanza_not_refused, part_is, stanza-within, advanced}
+use Rattle.plugin_receiving.proofs.Laws.Commands.{says_same, stanza_not_refused, part_is, stanza_within, advanced}
 use Rattle.plugin_receiving.proofs.commands.receive_text.Statement.{statement}
 use Rattle.plugin_receiving.proofs.commands.receive_text.Tie as tie
 
@@ -99,7 +99,7 @@ add_at : tie.Need-overflow-add-at invariant-loop decreases-loop
 add_at c =
     let a = c.before.before.before.before.before.before.before.before.before.before.before.before.before.before.before.before.before.before.before.before.before.before.before.before.before.before.before.before.before.before.args in
     let l = c.before.before.before.before.before.before.before.before.before.before.before.before.before.before.before.before.before.before.before.before.before.before.before.before.loop in
-    omega (arith, c.before.before.before.before.before.before.before.before.before.before.before.before.before.before.before.before.before.before.before.before.before.before.before.before.before.before.before.before.before.before.well-formed, stanza-within l.answer a.text.now l.at l.invariant.0 c.before.before.before.before.before.before.before.before.before.before.before.before.before.before.before.before.before.before.before.next.given.0.0 (sym (ap read_said c.before.before.before.before.before.before.before.before.before.before.before.before.before.before.before.before.before.before.before.next.given.1) ∙ c.before.before.before.before.before.before.before.before.before.before.before.before.before.before.before.before.before.before.before.before.before.next-command.ensures))
+    omega (arith, c.before.before.before.before.before.before.before.before.before.before.before.before.before.before.before.before.before.before.before.before.before.before.before.before.before.before.before.before.before.before.well-formed, stanza_within l.answer a.text.now l.at l.invariant.0 c.before.before.before.before.before.before.before.before.before.before.before.before.before.before.before.before.before.before.before.next.given.0.0 (sym (ap read_said c.before.before.before.before.before.before.before.before.before.before.before.before.before.before.before.before.before.before.before.next.given.1) ∙ c.before.before.before.before.before.before.before.before.before.before.before.before.before.before.before.before.before.before.before.before.before.next-command.ensures))
 
 loop-less : tie.Need-loop-smaller invariant-loop decreases-loop
 loop-less c =

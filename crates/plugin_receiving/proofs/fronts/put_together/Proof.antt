@@ -6,7 +6,7 @@ use lib.ListN.{length, take, drop, length-append}
 use lib.Seq.{length-take-le, take_at}
 use native.Mathlib.Omega.{arith}
 use Rattle.refusal.specs.Output.{filled}
-use Rattle.refusal.proofs.Laws.Lists.{part-rest, put_rest}
+use Rattle.refusal.proofs.Laws.Lists.{part_rest, put_rest}
 use Rattle.intake.proofs.Laws.Keeping.{filled_whole, both}
 use borrow.Author.Rules.{rules}
 use Rattle.plugin_receiving.proofs.fronts.put_together.Statement.{statement}
@@ -55,7 +55,7 @@ returns c =
     let o = c.before.before.before.before.before.before.before.copy.new.1.0 in
     let one = c.before.before.before.before.before.before.before.before.before.front.result.now in
     let two = c.before.before.before.before.front2.result.now in
-    ap (take (a.kept + a.k)) (put_rest a.kept o _ ∙ ap (λ z. take a.kept o ++ z) (c.before.before.copy2.ensures ∙ ap (filled two) (part-rest a.kept o)))
+    ap (take (a.kept + a.k)) (put_rest a.kept o _ ∙ ap (λ z. take a.kept o ++ z) (c.before.before.copy2.ensures ∙ ap (filled two) (part_rest a.kept o)))
     ∙ together one two a.store.now o a.kept a.k c.before.before.before.before.before.before.before.copy.ensures (ap length c.before.before.before.before.before.before.before.before.before.front.ensures ∙ length-take-le a.kept a.input.now p.0) (ap length c.before.before.before.before.front2.ensures ∙ length-take-le a.k a.chunk.now p.1.0) p.1.1
     ∙ ap₂ (λ x y. x ++ y) c.before.before.before.before.before.before.before.before.before.front.ensures c.before.before.before.before.front2.ensures
 

@@ -9,7 +9,7 @@ use Rattle.refusal.specs.Verdict.{verdict_said}
 use Rattle.stanza.specs.Resuming.{place_said}
 use Rattle.session.specs.Session.{session_of}
 use Rattle.chunks.specs.Taking.{plugin, turn_at, no_more, emptied}
-use Rattle.chunks.proofs.Laws.Texts.{front-dropped}
+use Rattle.chunks.proofs.Laws.Texts.{front_dropped}
 use Rattle.plugin_receiving.proofs.Laws.Commands.{says_emptied, says_same}
 use Rattle.plugin_receiving.proofs.Laws.Drops.{dropped_is}
 use borrow.Author.Rules.{rules}
@@ -39,7 +39,7 @@ returns c =
     c.dropped.ensures ∙ ap (λ m. pick (eqb m 0) 0 14) (ap (λ m. m + length x) f ∙ sym (length-append k x)) in (
       (λ xs hs b.
           let s = session_of a.session xs hs in
-          let q = front-dropped plugin s b [] 14 (ap (turn_at plugin) c.before.before.before.before.before.before.requires) x (place_said a.session.reading) k in
+          let q = front_dropped plugin s b [] 14 (ap (turn_at plugin) c.before.before.before.before.before.before.requires) x (place_said a.session.reading) k in
           says_same _ xs hs o o o b _ _ refl (dropped_is s b (k ++ x) ∙ sym q) (says_emptied _ xs hs o b _ s (rw (c.before.keeping.ensures, n)))),
       (refl, ap (λ s. s.name) c.before.keeping.ensures),
     )

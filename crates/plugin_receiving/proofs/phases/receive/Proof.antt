@@ -12,13 +12,13 @@ use Rattle.conversation.specs.Kinds.{buffers_of}
 use Rattle.conversation.specs.PhaseTwo as two
 use Rattle.chunks.specs.Taking.{plugin, turn_at}
 use Rattle.chunks.specs.Chunks.{Outcome, untaken, judged, taken, turn_of}
-use Rattle.chunks.proofs.Laws.Cut.{chunk-refused}
-use Rattle.chunks.proofs.Laws.Taking.{chunked-read}
+use Rattle.chunks.proofs.Laws.Cut.{chunk_refused}
+use Rattle.chunks.proofs.Laws.Taking.{chunked_read}
 use Rattle.intake.specs.Fronts.{front_in, input_behind, OneByteSays, Answered}
 use Rattle.intake.specs.Intake.{intake_of, stored_in}
 use Rattle.intake.specs.Settling.{Says}
 use Rattle.intake.specs.Turns.{turn_said}
-use Rattle.intake.proofs.Laws.Fronts.{reading_on, not-unfinished, not-refused, silent_answer}
+use Rattle.intake.proofs.Laws.Fronts.{reading_on, not_unfinished, not_refused, silent_answer}
 use Rattle.intake.proofs.Laws.Keeping.{stored_own}
 use borrow.Author.Rules.{rules}
 use Rattle.plugin_receiving.proofs.phases.receive.Statement.{statement}
@@ -79,7 +79,7 @@ returns-2 c =
     let front = sym f.ensures.0 ∙ ap continued_said q.1 in
     let input = f.ensures.1 ∙ ap (λ r. input_behind (continued_said r) k x g.new.1.1.1.1.0) q.1 in
     let long : 8192 ≤ length o = omega (arith, c.before.before.before.before.before.before.before.before.before.read-one-arg.given) in
-    let r = reading_on a.session.reading k x (turn_said u.result) (unfinished (place_said q.0.0)) front (not-unfinished a.session.reading k x (place_said q.0.0)) in
+    let r = reading_on a.session.reading k x (turn_said u.result) (unfinished (place_said q.0.0)) front (not_unfinished a.session.reading k x (place_said q.0.0)) in
     let after = input ∙ ap (input_behind (unfinished (place_said q.0.0)) k x) same in
     let answered : (d : two.BuffersTwo) → Answered plugin a.session x c.keep-on2.result a.slots.now a.header-slots.now o f.new.1.1.1.1.0 (buffers_of (one.buffers_of a.recipients.now a.identities.now a.keys.now a.headers.now) d) a.out.now = λ d. subst (λ i. Answered plugin a.session x c.keep-on2.result a.slots.now a.header-slots.now o i (buffers_of (one.buffers_of a.recipients.now a.identities.now a.keys.now a.headers.now) d) a.out.now) (sym after) (c.keep-on2.ensures.0 plugin a.slots.now a.header-slots.now o (buffers_of (one.buffers_of a.recipients.now a.identities.now a.keys.now a.headers.now) d) a.out.now (sym u.ensures ∙ r.0) long r.1) in
     (λ d. (answered d).outcome, ((answered none).input, c.keep-on2.ensures.1))
@@ -104,7 +104,7 @@ returns-3 c =
     let front = sym f.ensures.0 ∙ ap continued_said q.1 in
     let input = f.ensures.1 ∙ ap (λ r. input_behind (continued_said r) k x g.new.1.1.1.1.0) q.1 in
     let long : 8192 ≤ length o = omega (arith, c.before.before.before.before.before.before.before.before.before.read-one-arg.given) in
-    let r = reading_on a.session.reading k x (turn_said u.result) (resuming.refused (number_of q.0.0)) front (not-refused a.session.reading k x (number_of q.0.0)) in
+    let r = reading_on a.session.reading k x (turn_said u.result) (resuming.refused (number_of q.0.0)) front (not_refused a.session.reading k x (number_of q.0.0)) in
     let after = input ∙ same in
     let answered : (d : two.BuffersTwo) → Answered plugin a.session x c.close.result a.slots.now a.header-slots.now o f.new.1.1.1.1.0 (buffers_of (one.buffers_of a.recipients.now a.identities.now a.keys.now a.headers.now) d) a.out.now = λ d. subst (λ i. Answered plugin a.session x c.close.result a.slots.now a.header-slots.now o i (buffers_of (one.buffers_of a.recipients.now a.identities.now a.keys.now a.headers.now) d) a.out.now) (sym after) (c.close.ensures.0 plugin a.slots.now a.header-slots.now o x (buffers_of (one.buffers_of a.recipients.now a.identities.now a.keys.now a.headers.now) d) a.out.now (sym u.ensures ∙ r.0) long r.1) in
     (λ d. (answered d).outcome, ((answered none).input, c.close.ensures.1))
@@ -232,7 +232,7 @@ returns-6 c =
     let hs = a.header-slots.now in (
       λ d. e.0 xs hs (buffers_of (one.buffers_of a.recipients.now a.identities.now a.keys.now a.headers.now) d)
           ∙ ap (λ i. judged (intake_of plugin a.session xs hs i) (buffers_of (one.buffers_of a.recipients.now a.identities.now a.keys.now a.headers.now) d) a.out.now (taken plugin (intake_of plugin a.session xs hs i) (buffers_of (one.buffers_of a.recipients.now a.identities.now a.keys.now a.headers.now) d) x)) (input ∙ same)
-          ∙ sym (chunked-read plugin (intake_of plugin a.session xs hs o) (buffers_of (one.buffers_of a.recipients.now a.identities.now a.keys.now a.headers.now) d) x a.out.now (ap (turn_of plugin) c.before.before.before.before.before.before.phase.given.1)),
+          ∙ sym (chunked_read plugin (intake_of plugin a.session xs hs o) (buffers_of (one.buffers_of a.recipients.now a.identities.now a.keys.now a.headers.now) d) x a.out.now (ap (turn_of plugin) c.before.before.before.before.before.before.phase.given.1)),
       (e.1.0 xs hs ∙ ap (stored_in (intake_of plugin r.session xs hs c.before.before.receive-due.new.1.1.1.1.0)) (input ∙ same), e.1.1),
     )
 
@@ -254,7 +254,7 @@ returns-7 c =
     let i = f.new.1.1.1.1.0 in (
       λ d. e.0 plugin xs hs i (buffers_of (one.buffers_of a.recipients.now a.identities.now a.keys.now a.headers.now) d) a.out.now
           ∙ ap (λ i. untaken 13 (intake_of plugin a.session xs hs i) (buffers_of (one.buffers_of a.recipients.now a.identities.now a.keys.now a.headers.now) d) a.out.now) (input ∙ same)
-          ∙ sym (chunk-refused plugin (intake_of plugin a.session xs hs o) (buffers_of (one.buffers_of a.recipients.now a.identities.now a.keys.now a.headers.now) d) 13 x a.out.now (ap (turn_of plugin) c.before.enum-told4.given.1) refl),
+          ∙ sym (chunk_refused plugin (intake_of plugin a.session xs hs o) (buffers_of (one.buffers_of a.recipients.now a.identities.now a.keys.now a.headers.now) d) 13 x a.out.now (ap (turn_of plugin) c.before.enum-told4.given.1) refl),
       (
         sym (stored_own plugin a.session xs hs i)
             ∙ sym (ap (λ (o : Outcome). stored_in o.intake i) (e.0 plugin xs hs i (buffers_of (one.buffers_of [] [] [] []) none) a.out.now))
@@ -281,7 +281,7 @@ returns-8 c =
     let i = f.new.1.1.1.1.0 in (
       λ d. e.0 plugin xs hs i (buffers_of (one.buffers_of a.recipients.now a.identities.now a.keys.now a.headers.now) d) a.out.now
           ∙ ap (λ i. untaken 13 (intake_of plugin a.session xs hs i) (buffers_of (one.buffers_of a.recipients.now a.identities.now a.keys.now a.headers.now) d) a.out.now) (input ∙ same)
-          ∙ sym (chunk-refused plugin (intake_of plugin a.session xs hs o) (buffers_of (one.buffers_of a.recipients.now a.identities.now a.keys.now a.headers.now) d) 13 x a.out.now (ap (turn_of plugin) c.before.enum-told5.given.1) refl),
+          ∙ sym (chunk_refused plugin (intake_of plugin a.session xs hs o) (buffers_of (one.buffers_of a.recipients.now a.identities.now a.keys.now a.headers.now) d) 13 x a.out.now (ap (turn_of plugin) c.before.enum-told5.given.1) refl),
       (
         sym (stored_own plugin a.session xs hs i)
             ∙ sym (ap (λ (o : Outcome). stored_in o.intake i) (e.0 plugin xs hs i (buffers_of (one.buffers_of [] [] [] []) none) a.out.now))

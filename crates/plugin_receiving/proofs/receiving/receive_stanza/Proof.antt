@@ -14,7 +14,7 @@ use Rattle.session.specs.Opening.{name_of}
 use Rattle.session.specs.Tables.{tables_in}
 use Rattle.phase_one.specs.Commands.{command_said}
 use Rattle.phase_one.specs.PhaseOne.{buffers_of}
-use Rattle.conversation.proofs.Laws.Receiving.{received-from}
+use Rattle.conversation.proofs.Laws.Receiving.{received_from}
 use Rattle.plugin_receiving.specs.Receiving.{taking_said}
 
 slice-aggregate-front : tie.Need-slice-aggregate-front
@@ -70,7 +70,7 @@ returns c =
     let e = step.ensures in
     let n = length body in (
       rw c.moved.ensures
-          (received-from a.session.machine (name_of a.session.name) a.session.screen a.session.phase (tables_in a.session.tables a.slots.now a.header-slots.now) (buffers_of a.recipients.now a.identities.now a.keys.now a.headers.now)
+          (received_from a.session.machine (name_of a.session.name) a.session.screen a.session.phase (tables_in a.session.tables a.slots.now a.header-slots.now) (buffers_of a.recipients.now a.identities.now a.keys.now a.headers.now)
           (arguments_in text a.s) (body_in text a.s) a.s.taken name line body
           (verdict_said step.result.verdict) (command_said name line n step.result.command) (taking_said c.before.before.answer-to.result) c.before.phase-received.result _ _
           c.before.before.before.before.before.before.before.before.before.before.before.before.before.before.before.before.before.before.before.before.before.before.before.front.ensures c.before.before.before.before.before.before.before.before.before.before.before.before.before.before.before.before.before.before.before.before.before.before.arguments-of.ensures (ap body_of c.before.before.before.before.before.before.before.before.before.before.before.before.before.before.before.before.before.before.before.before.before.lines_of.ensures) e.1.0 e.0 (c.before.before.answer-to.ensures name line n) (c.before.phase-received.ensures name line n) e.1.1.0 e.1.1.1),

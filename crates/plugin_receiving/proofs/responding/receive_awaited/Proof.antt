@@ -9,7 +9,7 @@ use Rattle.session.specs.Opening.{name_of}
 use Rattle.session.specs.Tables.{tables_in}
 use Rattle.session.specs.Session.{session_of, carried_by}
 use Rattle.conversation.specs.Responding.{responded_text}
-use Rattle.conversation.proofs.Laws.Responding.{response-refused}
+use Rattle.conversation.proofs.Laws.Responding.{response_refused}
 
 read-requires : tie.Need-read-requires
 read-requires c κs = search rules
@@ -33,7 +33,7 @@ returns : tie.Need-returns
 returns c = (
   λ xs hs.
       let a = c.before.before.before.before.before.before.before.before.args in
-      rw (c.moved.ensures, c.before.phase-refused.ensures, sym c.before.before.before.before.before.read.ensures, c.before.before.before.first.given.1) (response-refused a.session.machine (name_of a.session.name) a.session.screen a.session.phase (tables_in a.session.tables xs hs) a.word (number_of c.before.before.before.first.given.0.0) a.out.now),
+      rw (c.moved.ensures, c.before.phase-refused.ensures, sym c.before.before.before.before.before.read.ensures, c.before.before.before.first.given.1) (response_refused a.session.machine (name_of a.session.name) a.session.screen a.session.phase (tables_in a.session.tables xs hs) a.word (number_of c.before.before.before.first.given.0.0) a.out.now),
   ap carried_by c.moved.ensures,
 )
 

@@ -14,7 +14,7 @@ use Rattle.intake.specs.declared.answers.Received.{Received}
 use Rattle.intake.proofs.Laws.Keeping.{stored_own}
 use Rattle.intake.proofs.Laws.Fronts.{says_judged}
 use Rattle.plugin_receiving.proofs.Laws.Commands.{says_same, chunk_begun}
-use Rattle.plugin_receiving.proofs.Laws.Responses.{no_buffers, may-settle-due, begun-settled}
+use Rattle.plugin_receiving.proofs.Laws.Responses.{no_buffers, may_settle_due, begun_settled}
 use borrow.Author.Rules.{rules}
 use Rattle.plugin_receiving.proofs.responding.receive_begun.Statement.{statement}
 use Rattle.plugin_receiving.proofs.responding.receive_begun.Tie as tie
@@ -59,7 +59,7 @@ returns c =
     let n = c.before.before.settle in
     let e = c.before.before.before.before.before.begin.ensures in
     let reading : read_first a.chunk.now ≡ refused (number_of c.before.before.before.before.before.before.enum_told.given.0.0) = sym c.before.before.before.before.before.before.before.before.read.ensures ∙ ap read_said c.before.before.before.before.before.before.enum_told.given.1 in
-    let may = subst (λ (r : Received). MaySettle plugin r.session.phase reads [] a.chunk.now a.input.now) (sym e) (may-settle-due a.session a.word p.0 a.input.now p.1.0 a.chunk.now _ reading) in (
+    let may = subst (λ (r : Received). MaySettle plugin r.session.phase reads [] a.chunk.now a.input.now) (sym e) (may_settle_due a.session a.word p.0 a.input.now p.1.0 a.chunk.now _ reading) in (
       λ xs hs b.
           let i = intake_of plugin a.session xs hs a.input.now in
           says_judged plugin n.result xs hs a.input.now n.new.1.1.1.1.0 a.out.now b i b (taken plugin i b a.chunk.now)
@@ -80,7 +80,7 @@ returns-2 c =
     let v = c.before.before.before.before.before.before.before.first.given.0.0 in
     let n = c.before.before.before.before.receive-stanza in
     let reading : read_first a.chunk.now ≡ stanza v.line v.body v.taken = sym c.before.before.before.before.before.before.before.before.before.read.ensures ∙ ap read_said c.before.before.before.before.before.before.before.first.given.1 in (
-      λ xs hs b. c.settle-response.ensures.0 xs hs a.input.now b _ ∙ begun-settled a.session a.word p.0 a.input.now p.1.0 a.chunk.now xs hs b n.result a.out.now _ p.1.1 v.line v.body v.taken reading (n.ensures.0 xs hs),
+      λ xs hs b. c.settle-response.ensures.0 xs hs a.input.now b _ ∙ begun_settled a.session a.word p.0 a.input.now p.1.0 a.chunk.now xs hs b n.result a.out.now _ p.1.1 v.line v.body v.taken reading (n.ensures.0 xs hs),
       (λ xs hs. sym (stored_own plugin c.settle-response.result.session xs hs a.input.now), c.settle-response.ensures.1),
     )
 

@@ -6,7 +6,7 @@ use lib.ListN.{take}
 use native.Mathlib.Omega.{arith}
 use Rattle.session.specs.Session.{Carried}
 use Rattle.intake.proofs.Laws.Fronts.{front_within}
-use Rattle.plugin_receiving.proofs.Laws.Responses.{ended-settled}
+use Rattle.plugin_receiving.proofs.Laws.Responses.{ended_settled}
 use borrow.Author.Rules.{rules}
 use Rattle.plugin_receiving.proofs.responding.receive_ended.Statement.{statement}
 use Rattle.plugin_receiving.proofs.responding.receive_ended.Tie as tie
@@ -51,7 +51,7 @@ returns c =
     let p = c.before.before.before.before.before.before.before.before.before.before.before.before.before.before.requires in
     let n = c.before.before.before.receive-awaited in
     let at = c.before.before.before.before.before.front.ensures ∙ c.before.before.before.before.before.before.before.before.put-together.ensures ∙ ap (λ j. take j a.input.now ++ take a.k a.chunk.now) c.before.before.before.before.before.before.before.before.before.before.kept_of.ensures in (
-      λ xs hs b. c.settle-response.ensures.0 xs hs a.input.now b _ ∙ ended-settled a.session a.word p.0 a.input.now p.1.0 a.chunk.now xs hs b n.result a.out.now _ a.k p.1.1.0 (λ z. omega (arith, p.1.1.1)) c.before.before.before.before.before.front.result.now at (n.ensures.0 xs hs),
+      λ xs hs b. c.settle-response.ensures.0 xs hs a.input.now b _ ∙ ended_settled a.session a.word p.0 a.input.now p.1.0 a.chunk.now xs hs b n.result a.out.now _ a.k p.1.1.0 (λ z. omega (arith, p.1.1.1)) c.before.before.before.before.before.front.result.now at (n.ensures.0 xs hs),
       c.settle-response.ensures.1,
     )
 

@@ -14,7 +14,7 @@ use Rattle.stanza.proofs.Laws.RoundTrip.{written_read}
 use Rattle.responses.specs.Responses.{fitting, may_have_body, fits_whole}
 use Rattle.session.specs.Opening.{name_of}
 use Rattle.session.specs.Tables.{tables_in}
-use Rattle.conversation.proofs.Laws.Responding.{responded-unfit, responded-whole, responded-short}
+use Rattle.conversation.proofs.Laws.Responding.{responded_unfit, responded_whole, responded_short}
 
 fits-whole-requires : tie.Need-fits-whole-requires
 fits-whole-requires c κs = search rules
@@ -28,7 +28,7 @@ returns c = (
       let a = c.before.before.before.before.before.args in
       let y = body_in a.text.now a.s in
       let e : fits_whole a.word a.found y ≡ false = ap (λ n. fitting a.word a.found && (eqb n 0 || may_have_body a.word a.found)) (written_read a.text.now a.s.line a.s.body a.s.taken c.before.before.before.before.before.requires).body ∙ sym c.before.before.fits_whole.ensures ∙ not-true c.before.before.fits_whole.result c.before.if1.true in
-      c.unfit.ensures.0 xs hs a.out.now ∙ responded-unfit a.session.machine (name_of a.session.name) a.session.screen a.session.phase (tables_in a.session.tables xs hs) a.word a.found y a.s.taken a.out.now e,
+      c.unfit.ensures.0 xs hs a.out.now ∙ responded_unfit a.session.machine (name_of a.session.name) a.session.screen a.session.phase (tables_in a.session.tables xs hs) a.word a.found y a.s.taken a.out.now e,
   c.unfit.ensures.1,
 )
 
@@ -53,7 +53,7 @@ returns-2 c = (
       let a = c.before.before.before.before.before.before.before.before.before.before.before.before.args in
       let y = body_in a.text.now a.s in
       let e : fits_whole a.word a.found y ≡ true = ap (λ n. fitting a.word a.found && (eqb n 0 || may_have_body a.word a.found)) (written_read a.text.now a.s.line a.s.body a.s.taken c.before.before.before.before.before.before.before.before.before.before.before.before.requires).body ∙ sym c.before.before.before.before.before.before.before.before.before.fits_whole.ensures ∙ not-false c.before.before.before.before.before.before.before.before.before.fits_whole.result c.before.before.before.before.before.before.before.before.if1.false in
-      rw c.moved.ensures (responded-whole a.session.machine (name_of a.session.name) a.session.screen a.session.phase (tables_in a.session.tables xs hs) a.word a.found y a.s.taken a.out.now c.before.before.written.given.0.0 _ e (sym (ap said c.before.before.written.given.1) ∙ c.before.before.before.before.before.before.write-body.ensures.0) c.before.before.before.before.before.before.write-body.ensures.1),
+      rw c.moved.ensures (responded_whole a.session.machine (name_of a.session.name) a.session.screen a.session.phase (tables_in a.session.tables xs hs) a.word a.found y a.s.taken a.out.now c.before.before.written.given.0.0 _ e (sym (ap said c.before.before.written.given.1) ∙ c.before.before.before.before.before.before.write-body.ensures.0) c.before.before.before.before.before.before.write-body.ensures.1),
   ap carried_by c.moved.ensures,
 )
 
@@ -66,7 +66,7 @@ returns-3 c = (
       let a = c.before.before.before.before.before.before.before.before.before.before.before.args in
       let y = body_in a.text.now a.s in
       let e : fits_whole a.word a.found y ≡ true = ap (λ n. fitting a.word a.found && (eqb n 0 || may_have_body a.word a.found)) (written_read a.text.now a.s.line a.s.body a.s.taken c.before.before.before.before.before.before.before.before.before.before.before.requires).body ∙ sym c.before.before.before.before.before.before.before.before.fits_whole.ensures ∙ not-false c.before.before.before.before.before.before.before.before.fits_whole.result c.before.before.before.before.before.before.before.if1.false in
-      responded-short a.session.machine (name_of a.session.name) a.session.screen a.session.phase (tables_in a.session.tables xs hs) a.word a.found y a.s.taken a.out.now (number_of c.before.written2.given.0.0) _ e (sym (ap said c.before.written2.given.1) ∙ c.before.before.before.before.before.write-body.ensures.0) c.before.before.before.before.before.write-body.ensures.1,
+      responded_short a.session.machine (name_of a.session.name) a.session.screen a.session.phase (tables_in a.session.tables xs hs) a.word a.found y a.s.taken a.out.now (number_of c.before.written2.given.0.0) _ e (sym (ap said c.before.written2.given.1) ∙ c.before.before.before.before.before.write-body.ensures.0) c.before.before.before.before.before.write-body.ensures.1,
   refl,
 )
 

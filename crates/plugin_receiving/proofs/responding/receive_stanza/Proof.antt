@@ -9,7 +9,7 @@ use Rattle.session.specs.Opening.{name_of}
 use Rattle.session.specs.Tables.{tables_in}
 use Rattle.session.specs.Session.{session_of}
 use Rattle.conversation.specs.Responding.{responded_as}
-use Rattle.conversation.proofs.Laws.Responding.{responded-nothing}
+use Rattle.conversation.proofs.Laws.Responding.{responded_nothing}
 
 arguments-of-requires : tie.Need-arguments-of-requires
 arguments-of-requires c κs = search rules
@@ -48,7 +48,7 @@ returns-2 c = (
       let a = c.before.before.before.before.before.before.before.args in
       let e : reading_said c.before.before.before.read_line.result ≡ response_of (arguments_in a.text.now a.s) = c.before.before.before.read_line.ensures ∙ ap response_of c.before.before.before.before.arguments-of.ensures in
       c.unfit.ensures.0 xs hs a.out.now
-      ∙ responded-nothing a.session.machine (name_of a.session.name) a.session.screen a.session.phase (tables_in a.session.tables xs hs) a.word (body_in a.text.now a.s) a.s.taken a.out.now
+      ∙ responded_nothing a.session.machine (name_of a.session.name) a.session.screen a.session.phase (tables_in a.session.tables xs hs) a.word (body_in a.text.now a.s) a.s.taken a.out.now
       ∙ ap (λ r. responded_as a.word (session_of a.session xs hs) r (body_in a.text.now a.s) a.s.taken a.out.now) (sym (ap reading_said c.before.enum_told.given.1) ∙ e),
   c.unfit.ensures.1,
 )

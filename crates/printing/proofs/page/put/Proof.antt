@@ -4,14 +4,14 @@ use mathlib.Core.List.{◌++◌}
 use native.Mathlib.Omega.{arith}
 use lib.ListN.{length, take, drop}
 use Rattle.refusal.specs.Output.{filled}
-use Rattle.refusal.proofs.Laws.Lists.{part-rest, put_rest}
-use Rattle.printing.proofs.Laws.Page.{put-none, put-over, put_whole}
+use Rattle.refusal.proofs.Laws.Lists.{part_rest, put_rest}
+use Rattle.printing.proofs.Laws.Page.{put_none, put_over, put_whole}
 use borrow.Author.Rules.{rules}
 use Rattle.printing.proofs.page.put.Statement.{statement}
 use Rattle.printing.proofs.page.put.Tie as tie
 
 returns : tie.Need-returns
-returns c = put-none c.before.before.before.args.bytes.now c.before.before.before.args.out.now c.before.before.before.args.at c.if1.true
+returns c = put_none c.before.before.before.args.bytes.now c.before.before.before.args.out.now c.before.before.before.args.at c.if1.true
 
 sub-left : tie.Need-overflow-sub-left
 sub-left c = search rules
@@ -36,7 +36,7 @@ returns-2 c =
     let o = c.before.before.before.before.before.before.before.before.args.out.now in
     let t = c.before.before.before.before.before.before.before.before.args.bytes.now in
     let n = c.before.before.before.before.before.before.before.before.args.at in
-    put-over t o n _ (put_rest n o _ ∙ ap (λ p. take n o ++ p) (c.before.before.before.copy.ensures ∙ ap (λ x. filled t x) (part-rest n o))) c.if2.true
+    put_over t o n _ (put_rest n o _ ∙ ap (λ p. take n o ++ p) (c.before.before.before.copy.ensures ∙ ap (λ x. filled t x) (part_rest n o))) c.if2.true
 
 add-result : tie.Need-overflow-add-result
 add-result c = search rules
@@ -49,7 +49,7 @@ returns-3 c =
     let o = c.before.before.before.before.before.before.before.before.args.out.now in
     let t = c.before.before.before.before.before.before.before.before.args.bytes.now in
     let n = c.before.before.before.before.before.before.before.before.args.at in
-    put_whole t o n _ _ (put_rest n o _ ∙ ap (λ p. take n o ++ p) (c.before.before.before.copy.ensures ∙ ap (λ x. filled t x) (part-rest n o))) refl (omega (arith, c.if2.false))
+    put_whole t o n _ _ (put_rest n o _ ∙ ap (λ p. take n o ++ p) (c.before.before.before.copy.ensures ∙ ap (λ x. filled t x) (part_rest n o))) refl (omega (arith, c.if2.false))
 
 pub put_spec : {M : Type 1} → statement M
 put_spec =

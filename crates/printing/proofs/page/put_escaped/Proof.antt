@@ -5,16 +5,16 @@ use mathlib.Core.List.{◌++◌}
 use native.Mathlib.Omega.{arith}
 use lib.ListN.{length, take, drop, length-drop}
 use Rattle.refusal.specs.Output.{said, answered, filled}
-use Rattle.refusal.proofs.Laws.Lists.{part-rest, put_rest}
-use Rattle.refusal.proofs.Laws.Output.{written-front, refused_over}
+use Rattle.refusal.proofs.Laws.Lists.{part_rest, put_rest}
+use Rattle.refusal.proofs.Laws.Output.{written_front, refused_over}
 use Rattle.script.specs.Escape.{escaped}
-use Rattle.printing.proofs.Laws.Page.{put-none, put-over, put_whole}
+use Rattle.printing.proofs.Laws.Page.{put_none, put_over, put_whole}
 use borrow.Author.Rules.{rules}
 use Rattle.printing.proofs.page.put_escaped.Statement.{statement}
 use Rattle.printing.proofs.page.put_escaped.Tie as tie
 
 returns : tie.Need-returns
-returns c = put-none (escaped c.before.before.before.args.bytes.now) c.before.before.before.args.out.now c.before.before.before.args.at c.if1.true
+returns c = put_none (escaped c.before.before.before.args.bytes.now) c.before.before.before.args.out.now c.before.before.before.args.at c.if1.true
 
 sub-escape : tie.Need-overflow-sub-escape
 sub-escape c = search rules
@@ -36,7 +36,7 @@ add-result c =
     let o = c.before.before.before.before.before.before.before.before.before.before.args.out.now in
     let t = escaped c.before.before.before.before.before.before.before.before.before.before.args.bytes.now in
     let n = c.before.before.before.before.before.before.before.before.before.before.args.at in
-    let w = written-front t (drop n o) c.before.w.given.0.0 _ (sym (ap said c.before.w.given.1) ∙ c.before.before.before.before.before.escape.ensures.0 ∙ ap (λ x. answered t x) (part-rest n o)) (c.before.before.before.before.before.escape.ensures.1 ∙ ap (λ x. filled t x) (part-rest n o)) in
+    let w = written_front t (drop n o) c.before.w.given.0.0 _ (sym (ap said c.before.w.given.1) ∙ c.before.before.before.before.before.escape.ensures.0 ∙ ap (λ x. answered t x) (part_rest n o)) (c.before.before.before.before.before.escape.ensures.1 ∙ ap (λ x. filled t x) (part_rest n o)) in
     omega (arith, w.size, simp length-drop at w.fits)
 
 enum_told : tie.Need-enum-told
@@ -50,8 +50,8 @@ returns-2 c =
     let o = c.before.before.before.before.before.before.before.before.before.before.args.out.now in
     let t = escaped c.before.before.before.before.before.before.before.before.before.before.args.bytes.now in
     let n = c.before.before.before.before.before.before.before.before.before.before.args.at in
-    let f = c.before.before.before.before.before.escape.ensures.1 ∙ ap (λ x. filled t x) (part-rest n o) in
-    let w = written-front t (drop n o) c.before.w.given.0.0 _ (sym (ap said c.before.w.given.1) ∙ c.before.before.before.before.before.escape.ensures.0 ∙ ap (λ x. answered t x) (part-rest n o)) f in
+    let f = c.before.before.before.before.before.escape.ensures.1 ∙ ap (λ x. filled t x) (part_rest n o) in
+    let w = written_front t (drop n o) c.before.w.given.0.0 _ (sym (ap said c.before.w.given.1) ∙ c.before.before.before.before.before.escape.ensures.0 ∙ ap (λ x. answered t x) (part_rest n o)) f in
     put_whole t o n _ _ (put_rest n o _ ∙ ap (λ p. take n o ++ p) f) (ap (λ k. n + k) w.size) (simp length-drop at w.fits)
 
 same-length-2 : tie.Need-same-length-2
@@ -62,7 +62,7 @@ returns-3 c =
     let o = c.before.before.before.before.before.before.before.before.before.args.out.now in
     let t = escaped c.before.before.before.before.before.before.before.before.before.args.bytes.now in
     let n = c.before.before.before.before.before.before.before.before.before.args.at in
-    put-over t o n _ (put_rest n o _ ∙ ap (λ p. take n o ++ p) (c.before.before.before.before.escape.ensures.1 ∙ ap (λ x. filled t x) (part-rest n o))) (simp length-drop at (refused_over t (drop n o) _ (sym (ap said c.enum_told.given.1) ∙ c.before.before.before.before.escape.ensures.0 ∙ ap (λ x. answered t x) (part-rest n o))))
+    put_over t o n _ (put_rest n o _ ∙ ap (λ p. take n o ++ p) (c.before.before.before.before.escape.ensures.1 ∙ ap (λ x. filled t x) (part_rest n o))) (simp length-drop at (refused_over t (drop n o) _ (sym (ap said c.enum_told.given.1) ∙ c.before.before.before.before.escape.ensures.0 ∙ ap (λ x. answered t x) (part_rest n o))))
 
 pub put-escaped-spec : {M : Type 1} → statement M
 put-escaped-spec =

@@ -7,7 +7,7 @@ use borrow.Author.Rules.{rules}
 use Rattle.refusal.specs.Same.{same}
 use Rattle.stanza.specs.Arguments.{words}
 use Rattle.script.specs.Choice.{place}
-use Rattle.script.proofs.Laws.Choice.{place_here, place-later, place_none}
+use Rattle.script.proofs.Laws.Choice.{place_here, place_later, place_none}
 use Rattle.script.proofs.choices.find_word.Goals as goal
 
 
@@ -24,7 +24,7 @@ returns-then-is_same c = let word = c.args.word.now in
 pub loop-k-preserved : goal.loop-k-preserved
 loop-k-preserved c = let word = c.args.word.now in
     let text = c.args.text.now in
-    (search rules, omega (arith, place-later word (words text) c.loop-k.k (omega (arith, c.loop-k-test.true, c.count-n.ensures)) (sym (ap (same word) c.argument.ensures) ∙ (sym c.is_same.ensures ∙ c.if-is_same.false))))
+    (search rules, omega (arith, place_later word (words text) c.loop-k.k (omega (arith, c.loop-k-test.true, c.count-n.ensures)) (sym (ap (same word) c.argument.ensures) ∙ (sym c.is_same.ensures ∙ c.if-is_same.false))))
 
 
 pub returns : goal.returns

@@ -7,7 +7,7 @@ use borrow.Author.Rules.{rules}
 use Rattle.refusal.specs.Same.{same}
 use Rattle.stanza.specs.Arguments.{words}
 use Rattle.script.specs.Choice.{place}
-use Rattle.script.proofs.Laws.Choice.{place_here, place-later, place_none}
+use Rattle.script.proofs.Laws.Choice.{place_here, place_later, place_none}
 use Rattle.script.proofs.choices.find_word.Given as goal
 
 

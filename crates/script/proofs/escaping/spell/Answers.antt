@@ -6,7 +6,7 @@ use lib.ListN.{length, take, drop, get_or}
 use native.Mathlib.Omega.{arith}
 use borrow.Author.Rules.{rules}
 use Rattle.script.specs.Escape.{printed, spelled}
-use Rattle.script.proofs.Laws.Escape.{spell-space, spell-kept, spell-more, spell_whole}
+use Rattle.script.proofs.Laws.Escape.{spell_space, spell_kept, spell_more, spell_whole}
 use lib.Seq.{length-sets}
 use Rattle.script.proofs.escaping.spell.Goals as goal
 
@@ -21,7 +21,7 @@ put-n-requires c = let bytes = c.args.bytes.now in
     let out' = c.loop-i.out in
     let n = c.loop-i.n in
     let i = c.loop-i.i in
-    omega (arith, spell-space bytes out' out n i c.loop-i-test.true c.loop-i.invariant.2)
+    omega (arith, spell_space bytes out' out n i c.loop-i-test.true c.loop-i.invariant.2)
 
 
 pub loop-i-preserved : goal.loop-i-preserved
@@ -32,9 +32,9 @@ loop-i-preserved c = let bytes = c.args.bytes.now in
     let i = c.loop-i.i in (
       search rules,
       rw c.put-n.ensures.buffer (length-sets out' n (printed (get_or bytes i 0)) ∙ c.loop-i.invariant.1),
-      rw (c.put-n.ensures.buffer, c.put-n.ensures.next, length-sets) (spell-space bytes out' out n i c.loop-i-test.true c.loop-i.invariant.2),
-      rw (c.put-n.ensures.buffer, c.put-n.ensures.next) (spell-kept bytes out' out n i c.loop-i-test.true c.loop-i.invariant.2 c.loop-i.invariant.3),
-      rw (c.put-n.ensures.buffer, c.put-n.ensures.next) (spell-more bytes out' out n i c.loop-i-test.true c.loop-i.invariant.2 c.loop-i.invariant.4),
+      rw (c.put-n.ensures.buffer, c.put-n.ensures.next, length-sets) (spell_space bytes out' out n i c.loop-i-test.true c.loop-i.invariant.2),
+      rw (c.put-n.ensures.buffer, c.put-n.ensures.next) (spell_kept bytes out' out n i c.loop-i-test.true c.loop-i.invariant.2 c.loop-i.invariant.3),
+      rw (c.put-n.ensures.buffer, c.put-n.ensures.next) (spell_more bytes out' out n i c.loop-i-test.true c.loop-i.invariant.2 c.loop-i.invariant.4),
     )
 
 

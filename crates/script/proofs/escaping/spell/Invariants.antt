@@ -6,7 +6,7 @@ use lib.ListN.{length, take, drop, get_or}
 use native.Mathlib.Omega.{arith}
 use borrow.Author.Rules.{rules}
 use Rattle.script.specs.Escape.{printed, spelled}
-use Rattle.script.proofs.Laws.Escape.{spell-space, spell-kept, spell-more, spell_whole}
+use Rattle.script.proofs.Laws.Escape.{spell_space, spell_kept, spell_more, spell_whole}
 use lib.Seq.{length-sets}
 use Rattle.script.proofs.escaping.spell.Given as goal
 

@@ -6,7 +6,7 @@ use lib.ListN.{length, drop}
 use native.Mathlib.Omega.{arith}
 use borrow.Author.Rules.{rules}
 use Rattle.script.specs.Escape.{spelled}
-use Rattle.script.proofs.Laws.Escape.{spelled-ends, spelled-length}
+use Rattle.script.proofs.Laws.Escape.{spelled_ends, spelled_length_lem}
 use Rattle.script.proofs.escaping.spelled_length.Given as goal
 
 

@@ -6,7 +6,7 @@ use native.Mathlib.Omega.{arith}
 use borrow.Author.Rules.{rules}
 use borrow.Author.Tests.{le-leb, lt-leb}
 use Rattle.script.specs.Number.{read_number}
-use Rattle.script.proofs.Laws.Number.{rest_number, number_none, number_some, rest-ends, rest-other, rest-digit, rest_above}
+use Rattle.script.proofs.Laws.Number.{rest_number, number_none, number_some, rest_ends, rest_other, rest_digit, rest_above}
 use Rattle.script.proofs.numbers.read_number.Given as goal
 
 

@@ -7,7 +7,7 @@ use lib.ListN.{length, drop}
 use native.Mathlib.Omega.{arith}
 use borrow.Author.Rules.{rules}
 use borrow.Author.Tests.{eq-eqb, ne_eqb}
-use Rattle.script.proofs.Laws.Escape.{plus, plus_zero, plus_one, rest-ends, rest-moves, rest_gives, rest-stops}
+use Rattle.script.proofs.Laws.Escape.{plus, plus_zero, plus_one, rest_ends, rest_moves, rest_gives, rest_stops}
 use Rattle.script.proofs.unescaping.measure.Goals as goal
 
 
@@ -22,7 +22,7 @@ loop-i-preserved-in-Moves c = let word = c.args.word.now in
     let i = c.loop-i.i in (
       search rules,
       search rules,
-      c.loop-i.invariant.2 ∙ ap (λ (m : Meaning (List ℕ)). plus n (measured m)) (rest-moves word state i c.in-Moves.next c.loop-i-test.true (sym (ap step_said c.in-Moves.is) ∙ c.read_byte-s.ensures)),
+      c.loop-i.invariant.2 ∙ ap (λ (m : Meaning (List ℕ)). plus n (measured m)) (rest_moves word state i c.in-Moves.next c.loop-i-test.true (sym (ap step_said c.in-Moves.is) ∙ c.read_byte-s.ensures)),
     )
 
 
@@ -42,7 +42,7 @@ returns-in-Stops c = let word = c.args.word.now in
     let n = c.loop-i.n in
     let state = c.loop-i.state in
     let i = c.loop-i.i in
-    sym (c.loop-i.invariant.2 ∙ ap (λ (m : Meaning (List ℕ)). plus n (measured m)) (rest-stops word state i c.loop-i-test.true (sym (ap step_said c.in-Stops.is) ∙ c.read_byte-s.ensures)))
+    sym (c.loop-i.invariant.2 ∙ ap (λ (m : Meaning (List ℕ)). plus n (measured m)) (rest_stops word state i c.loop-i-test.true (sym (ap step_said c.in-Stops.is) ∙ c.read_byte-s.ensures)))
 
 
 pub returns-then-state-eq-PLAIN : goal.returns-then-state-eq-PLAIN
@@ -50,7 +50,7 @@ returns-then-state-eq-PLAIN c = let word' = c.args.word.now in
     let n = c.loop-i.n in
     let state = c.loop-i.state in
     let i = c.loop-i.i in
-    sym (c.loop-i.invariant.2 ∙ ap (λ (m : Meaning (List ℕ)). plus n (measured m)) (rest-ends word' state i c.loop-i-test.false) ∙ rw (eq-eqb state 0 (omega arith)) (ap word (omega arith)))
+    sym (c.loop-i.invariant.2 ∙ ap (λ (m : Meaning (List ℕ)). plus n (measured m)) (rest_ends word' state i c.loop-i-test.false) ∙ rw (eq-eqb state 0 (omega arith)) (ap word (omega arith)))
 
 
 pub returns : goal.returns
@@ -58,4 +58,4 @@ returns c = let word = c.args.word.now in
     let n = c.loop-i.n in
     let state = c.loop-i.state in
     let i = c.loop-i.i in
-    sym (c.loop-i.invariant.2 ∙ ap (λ (m : Meaning (List ℕ)). plus n (measured m)) (rest-ends word state i c.loop-i-test.false) ∙ rw (ne_eqb state 0 (λ q. omega arith)))
+    sym (c.loop-i.invariant.2 ∙ ap (λ (m : Meaning (List ℕ)). plus n (measured m)) (rest_ends word state i c.loop-i-test.false) ∙ rw (ne_eqb state 0 (λ q. omega arith)))

@@ -7,7 +7,7 @@ use lib.ListN.{length, drop}
 use native.Mathlib.Omega.{arith}
 use borrow.Author.Rules.{rules}
 use borrow.Author.Tests.{eq-eqb, ne_eqb}
-use Rattle.script.proofs.Laws.Escape.{plus, plus_zero, plus_one, rest-ends, rest-moves, rest_gives, rest-stops}
+use Rattle.script.proofs.Laws.Escape.{plus, plus_zero, plus_one, rest_ends, rest_moves, rest_gives, rest_stops}
 use Rattle.script.proofs.unescaping.measure.Given as goal
 
 

@@ -1,5 +1,5 @@
 -- `unescape_into` meets its contract. Invariant: the word stands for the n bytes that are stored and what the rest stands for in this state; behind them the buffer is as it was.
-use Rattle.script.proofs.Laws.Escape.{rest-ends, rest-moves, rest_gives, rest-stops, behind_none, fits_rest, fits_one, more, kept, stored}
+use Rattle.script.proofs.Laws.Escape.{rest_ends, rest_moves, rest_gives, rest_stops, behind_none, fits_rest, fits_one, more, kept, stored}
 use Prim.Native.Nat.{◌+◌, ◌-◌, ◌<◌, ◌≤◌}
 use mathlib.Core.Path.{◌≡◌, refl, sym, ap, ◌∙◌}
 use lib.ListN.{length, take, drop, length-set}
@@ -24,7 +24,7 @@ loop-i-preserved-in-Moves c = let word = c.args.word.now in
       search rules,
       c.loop-i.invariant.2,
       c.loop-i.invariant.3,
-      c.loop-i.invariant.4 ∙ ap (behind (take n out)) (rest-moves word state i c.in-Moves.next c.loop-i-test.true (sym (ap step_said c.in-Moves.is) ∙ c.read_byte-s.ensures)),
+      c.loop-i.invariant.4 ∙ ap (behind (take n out)) (rest_moves word state i c.in-Moves.next c.loop-i-test.true (sym (ap step_said c.in-Moves.is) ∙ c.read_byte-s.ensures)),
     )
 
 
@@ -76,7 +76,7 @@ returns-in-Stops c = let word = c.args.word.now in
     let out' = c.loop-i.out in
     let state = c.loop-i.state in
     let i = c.loop-i.i in
-    absurd (fits_rest (unescaped word) out (take n out') c.requires (c.loop-i.invariant.4 ∙ ap (behind (take n out')) (rest-stops word state i c.loop-i-test.true (sym (ap step_said c.in-Stops.is) ∙ c.read_byte-s.ensures))))
+    absurd (fits_rest (unescaped word) out (take n out') c.requires (c.loop-i.invariant.4 ∙ ap (behind (take n out')) (rest_stops word state i c.loop-i-test.true (sym (ap step_said c.in-Stops.is) ∙ c.read_byte-s.ensures))))
 
 
 pub shape_of-out : goal.shape_of-out
@@ -90,4 +90,4 @@ returns c = let word = c.args.word.now in
     let state = c.loop-i.state in
     let n = c.loop-i.n in
     let i = c.loop-i.i in
-    stored (unescaped word) out' out state n c.requires c.loop-i.invariant.2 c.loop-i.invariant.1 c.loop-i.invariant.3 (c.loop-i.invariant.4 ∙ ap (behind (take n out')) (rest-ends word state i c.loop-i-test.false))
+    stored (unescaped word) out' out state n c.requires c.loop-i.invariant.2 c.loop-i.invariant.1 c.loop-i.invariant.3 (c.loop-i.invariant.4 ∙ ap (behind (take n out')) (rest_ends word state i c.loop-i-test.false))

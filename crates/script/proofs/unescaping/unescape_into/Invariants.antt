@@ -1,5 +1,5 @@
 -- `unescape_into` meets its contract. Invariant: the word stands for the n bytes that are stored and what the rest stands for in this state; behind them the buffer is as it was.
-use Rattle.script.proofs.Laws.Escape.{rest-ends, rest-moves, rest_gives, rest-stops, behind_none, fits_rest, fits_one, more, kept, stored}
+use Rattle.script.proofs.Laws.Escape.{rest_ends, rest_moves, rest_gives, rest_stops, behind_none, fits_rest, fits_one, more, kept, stored}
 use Prim.Native.Nat.{◌+◌, ◌-◌, ◌<◌, ◌≤◌}
 use mathlib.Core.Path.{◌≡◌, refl, sym, ap, ◌∙◌}
 use lib.ListN.{length, take, drop, length-set}
