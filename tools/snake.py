@@ -20,6 +20,7 @@ DECLARED = re.compile(r"^ *((?:pub |abbrev |unfoldable |opaque )*)(data |record 
 MEMBER = re.compile(r"^\s+(?:pub )?([^\s:(){},;]+)\s*:\s")
 ALIAS = re.compile(r"\bas\s+([^\s;,{}]+)")
 CAMEL = re.compile(r"^[a-z][a-z0-9]*(?:[A-Z]|[0-9]+[A-Z])")
+DASHED = re.compile(r"(?<![\w.'\"-])[a-z]\w*(?:-[a-z0-9]\w*)+(?![\w'-])")
 # names that would fall together with another of their files: a constructor, a label or a constant gets a word more, a lemma with its function's name `_lem`
 ON_THEIR_OWN = {
     "addIdentity": "add_identity_text",
@@ -155,8 +156,10 @@ def rt(text, names):
         elif re.match(r"\s*ghost use ", line) or ghost:
             lines.append(turned(line, names, True))
             ghost = not line.rstrip().endswith(";")
-        else:
+        elif '"' in line:
             lines.append(turned(line, names, False))
+        else:
+            lines.append(DASHED.sub(lambda m: names.get(m.group(0), m.group(0)), turned(line, names, False)))
     return "\n".join(lines)
 
 

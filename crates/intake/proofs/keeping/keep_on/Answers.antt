@@ -1,4 +1,4 @@
--- The chunk stands behind the bytes that are kept, and is read back from there: what it comes to is `chunk_goes_on`.
+-- The chunk stands behind the bytes that are kept, and is read back from there: what it comes to is `chunk-goes-on`.
 use Prim.Native.Nat.{◌+◌, min}
 use mathlib.Core.Path.{◌≡◌, refl, sym, ap, ◌∙◌}
 use mathlib.Core.List.{[], ◌++◌}
@@ -20,27 +20,18 @@ use Rattle.intake.proofs.Laws.Fronts.{chunk_goes_on, silent_answer}
 use Rattle.intake.proofs.Laws.Keeping.{part_behind, front_back}
 use Rattle.intake.proofs.Laws.Settling.{reads_waits}
 use borrow.Author.Rules.{rules}
-use Rattle.intake.proofs.keeping.keep_on.Statement.{statement}
-use Rattle.intake.proofs.keeping.keep_on.Tie as tie
+use Rattle.intake.proofs.keeping.keep_on.Goals as goal
 
-kept-of-requires : tie.Need-kept-of-requires
-kept-of-requires c κs = search rules
 
-add-keeping : tie.Need-overflow-add-keeping
-add-keeping c = search rules
-
-keeping-requires : tie.Need-keeping-requires
-keeping-requires c κs = search rules
-
-returns : tie.Need-returns
-returns c =
-    let a = c.before.before.before.args in
+pub returns : goal.returns
+returns c = let a = c.args in
     let k = min a.session.kept 8191 in
     let p = a.chunk.now in
-    let n = c.before.kept_of.result in
+    let n = c.kept_of-kept.result in
     let r : CodeReceived = record { verdict = Accepted; count = 0; last = Nothing; written = 0; session = c.keeping.result } in
-    let kept : n ≡ k = c.before.kept_of.ensures in (
-      (λ e xs hs o b out t m h.
+    let kept : n ≡ k = c.kept_of-kept.ensures in
+    record {
+        outcome = (λ e xs hs o b out t m h.
           let g = chunk_goes_on e a.session xs hs o t m p b (place_said a.place) h in
           let l = g.1 in
           let size : length (take k o ++ p) ≡ k + length p = length-append (take k o) p ∙ ap (λ n. n + length p) (length-take-le k o (omega arith)) in
@@ -51,9 +42,6 @@ returns c =
             taken = rw (c.keeping.ensures, w) (ap (λ q. no_more 0 (keeping (session_of a.session xs hs) (place_said a.place) q []) b) z) ∙ sym g.0;
             input = rw (c.keeping.ensures, w) (y ∙ ap (λ q. filled q o) (sym z));
           } in
-          record { outcome = silent_answer e r xs hs o _ b b _ p out (turn_reads e a.session.phase t) refl says; input = says.input }),
-      ap (λ s. s.name) c.keeping.ensures,
-    )
-
-pub keep-on-spec : {M : Type 1} → statement M
-keep-on-spec = tie.close (tie.spec kept-of-requires add-keeping keeping-requires returns)
+          record { outcome = silent_answer e r xs hs o _ b b _ p out (turn_reads e a.session.phase t) refl says; input = says.input });
+        name = ap (λ s. s.name) c.keeping.ensures;
+    }
