@@ -1,19 +1,15 @@
 -- `spell` meets its contract. Invariant: the n bytes stored print what stands before i; behind them the buffer is as it was, and has space for the rest.
-use Prim.Native.Nat.{◌+◌, ◌-◌, ◌≤◌}
-use mathlib.Core.Path.{◌≡◌, refl, ◌∙◌}
-use mathlib.Core.List.{◌++◌}
-use lib.ListN.{length, take, drop, get_or}
+use mathlib.Core.Path.{refl, ◌∙◌}
+use lib.ListN.{get_or}
 use native.Mathlib.Omega.{arith}
 use borrow.Author.Rules.{rules}
-use Rattle.script.specs.Escape.{printed, spelled}
+use Rattle.script.specs.Escape.{printed}
 use Rattle.script.proofs.Laws.Escape.{spell_space, spell_kept, spell_more, spell_whole}
 use lib.Seq.{length-sets}
 use Rattle.script.proofs.escaping.spell.Goals as goal
 
-
 pub loop-i-init : goal.loop-i-init
 loop-i-init c = (search rules, refl, omega arith, refl, refl)
-
 
 pub put-n-requires : goal.put-n-requires
 put-n-requires c = let bytes = c.args.bytes.now in
@@ -22,7 +18,6 @@ put-n-requires c = let bytes = c.args.bytes.now in
     let n = c.loop-i.n in
     let i = c.loop-i.i in
     omega (arith, spell_space bytes out' out n i c.loop-i-test.true c.loop-i.invariant.2)
-
 
 pub loop-i-preserved : goal.loop-i-preserved
 loop-i-preserved c = let bytes = c.args.bytes.now in
@@ -37,10 +32,8 @@ loop-i-preserved c = let bytes = c.args.bytes.now in
       rw (c.put-n.ensures.buffer, c.put-n.ensures.next) (spell_more bytes out' out n i c.loop-i-test.true c.loop-i.invariant.2 c.loop-i.invariant.4),
     )
 
-
 pub shape_of-out : goal.shape_of-out
 shape_of-out c = c.loop-i.invariant.1
-
 
 pub returns : goal.returns
 returns c = let bytes = c.args.bytes.now in
