@@ -163,10 +163,11 @@ class Fn:
         cand=ch[n:] if n<len(ch) else ch
         # allow the field anywhere in the chain, nearest to n first
         order=sorted(range(len(ch)),key=lambda i:(abs(i-n),i))
-        if f in('args','requires','ranges','type_inv','lifetimes','pre'):
+        if f in('args','requires','ranges','type_inv','lifetimes','pre','well-formed'):
             r=list(rest)
             if f=='requires' and len(r)>1 and s.J['pre'] and s.J['pre'].get('fields') and len(s.J['pre']['fields'])>1:
                 r=['requires']+s.clause(r[1:],s.J['pre']['fields'])
+            if f=='well-formed': return 'well_formed'
             if f=='args' and len(r)>1: r[1]=r[1].replace('-','_') if '-' in r[1] else r[1]
             return '.'.join(r)
         for i in order:
@@ -179,20 +180,8 @@ class Fn:
                     if norm(of)==norm(f) and [str(x) for x in rest[1:1+len(op)]]==[str(x) for x in op]:
                         return '.'.join([new,nf]+list(rest[1+len(op):])) if not nf.endswith('-own') else '.'.join([new,nf]+list(rest[1:]))
             if norm(p[2][0])==norm(f):
-                r=list(rest[1:])
                 new=p[2][1]
-                cl=s.J['clauses'][s.index[ch[i]]]
-                if cl and cl.get('fields') and len(cl['fields'])>1: CL['c.'+new+'.ensures']=cl['fields']
-                if r and r[0]=='ensures' and cl and cl.get('fields') and len(cl['fields'])>1:
-                    r=['ensures']+s.clause(r[1:],cl['fields'])
-                if r and r[0] in('new','auto') and p[3] and p[3] in s.J['params']:
-                    ps=s.J['params'][p[3]]; k=0; j=1
-                    while j<len(r) and r[j]=='1': k+=1; j+=1
-                    if j<len(r) and r[j]=='0' and k<len(ps): r=[r[0],ps[k]]+r[j+1:]
-                for o,nw in (p[4] or []):
-                    r=[nw if norm(x)==norm(o) else x for x in r]
-                if p[2][0].startswith('loop') and r and r[0] not in('invariant','auto','true','false'):
-                    r[0]=r[0].replace('-','_')
+                r=s.fields(s.index[ch[i]],list(rest[1:]))
                 return '.'.join([new]+r)
             if a:
                 new,_,fields=a
@@ -208,6 +197,54 @@ class Fn:
             if r is not None: return r
         s.miss.add('.'.join(rest))
         return None
+    def fields(s,pi,r):
+        """the fields behind the step of the place pi, old to new"""
+        p=s.J['places'][pi]
+        cl=s.J['clauses'][pi]
+        if r and r[0]=='ensures' and cl and cl.get('fields') and len(cl['fields'])>1:
+            r=['ensures']+s.clause(r[1:],cl['fields'])
+        if r and r[0] in('new','auto') and p[3] and p[3] in s.J['params']:
+            ps=s.J['params'][p[3]]; k=0; j=1
+            while j<len(r) and r[j]=='1': k+=1; j+=1
+            if j<len(r) and r[j]=='0' and k<len(ps): r=[r[0],ps[k]]+r[j+1:]
+        for o,nw in (p[4] or []):
+            r=[nw if norm(x)==norm(o) else x for x in r]
+        if p[2][0].startswith('loop') and r and r[0] not in('invariant','auto','true','false'):
+            r[0]=r[0].replace('-','_')
+        return r
+    def aliases(s,text):
+        """let X = c.PATH in: what stands behind X"""
+        by={p[2][1]:i for i,p in enumerate(s.J['places']) if p[2][1]}
+        env={}
+        pos=0
+        while True:
+            m=re.compile(r"let ([\w'₀-₉]+) = ([\w'₀-₉]+)\.([\w.'«»-]+) in").search(text,pos)
+            if not m: break
+            pos=m.end()
+            nm,path=m.group(1),m.group(3).split('.')
+            if m.group(2)!='c':
+                if m.group(2) not in env: continue
+                path=env[m.group(2)]+path
+            env[nm]=path
+            if path==['requires']:
+                fs=(s.J['pre'] or {}).get('fields') or []
+                if len(fs)<2: continue
+                f=lambda r,fs=fs: s.clause(r,fs)
+            elif path==['args']:
+                f=lambda r: [r[0].replace('-','_')]+r[1:]
+            elif path[0] in by and len(path)==1:
+                f=lambda r,i=by[path[0]]: s.fields(i,r)
+            elif path[0] in by and path[1:]==['ensures']:
+                fs=(s.J['clauses'][by[path[0]]] or {}).get('fields') or []
+                if len(fs)<2: continue
+                f=lambda r,fs=fs: s.clause(r,fs)
+            elif path[0] in by and path[1:]==['new']:
+                f=lambda r,i=by[path[0]]: s.fields(i,['new']+r)[1:]
+            else: continue
+            pat=re.compile(r"(?<![\w.'-])"+re.escape(nm)+r"((?:\.[\w'-]+)+)")
+            at=m.end()
+            text=text[:at]+pat.sub(lambda k: nm+'.'+'.'.join(f(k.group(1)[1:].split('.'))),text[at:])
+        return text
     def clause(s,r,fields):
         n=len(fields)
         if not r: return r
@@ -374,18 +411,10 @@ def convert(crate,only=()):
                         r=m3.group(1)[1:].split('.')
                         return nm+'.'+'.'.join(F.clause(r,fs))
                     rhs2=re.sub(r"(?<![\w.'-])"+re.escape(nm)+r"((?:\.[0-9]+)+)",fx,rhs2)
-            for mm in list(re.finditer(r"let ([\w']+) = (c\.[\w.'«»-]+) in",rhs2)):
-                if mm.group(2)+'.ensures' in CL:
-                    nm=mm.group(1)
-                    def fx2(m3,fs=CL[mm.group(2)+'.ensures']):
-                        r=m3.group(1)[1:].split('.')
-                        return nm+'.ensures.'+'.'.join(F.clause(r,fs))
-                    rhs2=re.sub(r"(?<![\w.'-])"+re.escape(nm)+r"\.ensures((?:\.[0-9]+)+)",fx2,rhs2)
-            for mm in list(re.finditer(r"let ([\w']+) = c\.args in",rhs2)):
-                rhs2=re.sub(r"(?<![\w.'-])"+re.escape(mm.group(1))+r"\.([A-Za-z]\w*(?:-[a-z]\w*)+)",lambda m3: mm.group(1)+'.'+m3.group(1).replace('-','_'),rhs2)
+            rhs2=F.aliases(rhs2)
             fields=None
             if new.endswith('-requires') or '-requires-' in new:
-                fields=J['asked'].get(new)
+                fields=J['asked'].get(new) or J['asked'].get(o)
             elif new.startswith('returns'):
                 e=ens.get(fn)
                 if e and len(e[0])>1: fields=e[0]

@@ -43,7 +43,11 @@ pub put_together-n-requires : goal.put_together-n-requires
 put_together-n-requires c = let a = c.args in
     let long : 8192 ≤ length a.input.now = search rules in
     let w = front_within a.session.reading (min a.session.kept 8191) a.chunk.now a.k c.requires.chunk_value (omega arith) in
-    (omega (arith, c.kept_of-kept.ensures), (w.0, omega (arith, c.kept_of-kept.ensures, w.1)))
+    record {
+        kept_in_bounds = omega (arith, c.kept_of-kept.ensures);
+        k_in_bounds = w.0;
+        k_in_bounds_2 = omega (arith, c.kept_of-kept.ensures, w.1);
+    }
 
 
 pub answer_behind-requires : goal.answer_behind-requires

@@ -31,6 +31,6 @@ returns c = let a = c.args in
           (received_from a.session.machine (name_of a.session.name) a.session.screen a.session.phase (tables_in a.session.tables a.slots.now a.header_slots.now) (buffers_of a.recipients.now a.identities.now a.keys.now a.headers.now)
           (arguments_in text a.s) (body_in text a.s) a.s.taken name line body
           (verdict_said step.result.verdict) (command_said name line n step.result.command) (taking_said c.answer_to-answer.result) c.phase_received-phase.result _ _
-          c.front.ensures c.arguments_of.ensures (ap body_of c.lines_of.ensures) e.1.0 e.0 (c.answer_to-answer.ensures name line n) (c.phase_received-phase.ensures name line n) e.1.1.0 e.1.1.1);
+          c.front.ensures c.arguments_of.ensures (ap body_of c.lines_of.ensures) e.number e.command (c.answer_to-answer.ensures name line n) (c.phase_received-phase.ensures name line n) e.tables e.buffers);
         carried = ap carried_by c.moved.ensures;
     }
