@@ -1,0 +1,30 @@
+-- By what the text is read as.
+use mathlib.Core.Path.{◌≡◌, sym, ap, ◌∙◌}
+use mathlib.Core.List.{[]}
+use Rattle.stanza.specs.Parts.{body_in}
+use Rattle.stanza.specs.Reading.{read_said}
+use Rattle.conversation.specs.Calls.{body_read}
+use Rattle.awaited.specs.Awaited.{awaited_text, message_in}
+use Rattle.awaited.proofs.Laws.Awaited.{nothing_written}
+use borrow.Author.Rules.{rules}
+use Rattle.awaited.proofs.awaited_message.Goals as goal
+
+
+pub returns-in-Stanza : goal.returns-in-Stanza
+returns-in-Stanza c = let t = c.awaited_text-waiting.result.now in
+    let s = c.in-Stanza.s in
+    let z : body_in t s ≡ message_in (awaited_text c.args.session c.args.input.now) =
+    ap (λ r. body_read r t) (sym (ap read_said c.in-Stanza.is) ∙ c.read-first.ensures) ∙ ap message_in c.awaited_text-waiting.ensures in
+    record {
+        answer = rw (← z) c.body_of.ensures.answer;
+        buffer = rw (← z) c.body_of.ensures.buffer;
+    }
+
+
+pub returns-in-Refused : goal.returns-in-Refused
+returns-in-Refused c = let whole = let a = c.args in
+    let t = c.awaited_text-waiting.result.now in
+    let z : [] ≡ message_in (awaited_text a.session a.input.now) =
+    ap (λ r. body_read r t) (sym (ap read_said c.in-Refused.is) ∙ c.read-first.ensures) ∙ ap message_in c.awaited_text-waiting.ensures in
+    rw (← z) (nothing_written a.out.now) in
+    record { answer = whole.0; buffer = whole.1 }
