@@ -1,5 +1,6 @@
 // Bech32 recipients and identities (document 01, "Recipients and identities"), over the symbols of the crate `symbols`.
 #![tactic(auto)]
+
 mod charset;
 mod human;
 mod parsing;

@@ -3,6 +3,7 @@
 // and a refused call leaves all of these as they were. There is no `requires`: any text, numbers and lengths will do. What a reference is stays
 // the caller's to keep, as in Rust: no null pointer, also with a length of 0, and what is lent to be written overlaps nothing else.
 #![tactic(auto)]
+
 ghost use Rattle.std.specs.Prelude.{◌≡◌};
 ghost use Rattle.stanza.specs.Index.{read_index};
 ghost use Rattle.stanza.specs.Reading.{read_first};

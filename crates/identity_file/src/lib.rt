@@ -1,5 +1,6 @@
 // Old identity files (document 02, No. 8): read line by line, and the identities in them written as commands of phase one.
 #![tactic(auto)]
+
 mod lines;
 mod reading;
 mod survey;

@@ -1,5 +1,6 @@
 // Bech32's symbols (document 01, "Recipients and identities"; BIP 173 the checksum): characters and their values, the checksum, 8 bits to 5 and back.
 #![tactic(auto)]
+
 mod charset;
 mod checksum;
 mod regroup;

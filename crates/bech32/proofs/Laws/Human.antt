@@ -2,7 +2,7 @@
 use Prim.Native.Nat.{ℕ, zero, suc, ◌+◌, ◌-◌, ◌<◌, ◌≤◌}
 use mathlib.Core.Path.{◌≡◌, refl, sym, ap, ap₂, ◌∙◌}
 use mathlib.Core.Bool.{Bool, true, false, ◌&&◌}
-use mathlib.Core.List.{List, [], ◌∷◌, ◌++◌, map, map_id, map_append, append_assoc}
+use mathlib.Core.List.{List, [], ◌∷◌, ◌++◌, map, map-id, map-append, append_assoc}
 use lib.Dec.{leb, eqb}
 use lib.ListN.{length, take, drop, get_or, set, replicate, length-append, length-map, take-append-drop}
 use lib.Seq.{drop-drop, length-take-le, take_at}
@@ -150,7 +150,7 @@ case_map k l = by-case k.capital l
   where
     by-case : (c : Bool) (l : List ℕ) → pick c (map upper l) l ≡ map (λ b. pick c (upper b) b) l
     by-case true l = refl
-    by-case false l = sym (map_id l)
+    by-case false l = sym (map-id l)
 
 -- as long as in lower case
 pub case_length : (k : Form) (l : List ℕ) → length (in_case k l) ≡ length l
@@ -158,7 +158,7 @@ case_length k l = ap length (case_map k l) ∙ length-map l (cased_byte k)
 
 -- part by part
 pub case_append : (k : Form) (a b : List ℕ) → in_case k (a ++ b) ≡ in_case k a ++ in_case k b
-case_append k a b = case_map k (a ++ b) ∙ map_append (cased_byte k) a b ∙ sym (ap₂ (λ x y. x ++ y) (case_map k a) (case_map k b))
+case_append k a b = case_map k (a ++ b) ∙ map-append (cased_byte k) a b ∙ sym (ap₂ (λ x y. x ++ y) (case_map k a) (case_map k b))
 
 -- a word behind what is written: the part from n on was lent and came back with the word at its front
 pub word_behind : (k : Form) (a w o o₀ part : List ℕ) (n : ℕ) → o ≡ in_case k a ++ drop n o₀ → n ≡ length a →

@@ -273,13 +273,13 @@ unfolding continued
 one_byte s b n h = rw (lt-ltb n 8192 (omega arith), lt-ltb (n + 1) 8192 (omega arith))
 
 -- a place that is neither dead nor ended
-pub goes_on : (p : Place) (rest : Continued) → OneOf (0 ∷ 1 ∷ 2 ∷ 3 ∷ 4 ∷ 5 ∷ []) (tag_of the_type p) → led (place_said p) rest ≡ behind 1 rest
+pub goes_on : (p : Place) (rest : Continued) → (p ≡ place.Dead → ⊥) → (p ≡ place.Ended → ⊥) → led (place_said p) rest ≡ behind 1 rest
 unfolding led
-goes_on place.Start rest h = refl
-goes_on place.Hyphen rest h = refl
-goes_on place.Arrow rest h = refl
-goes_on place.Gap rest h = refl
-goes_on place.Word rest h = refl
-goes_on (place.Line k last) rest h = refl
-goes_on place.Ended rest h = absurd (miss (0 ∷ 1 ∷ 2 ∷ 3 ∷ 4 ∷ 5 ∷ []) 6 tt h)
-goes_on place.Dead rest h = absurd (miss (0 ∷ 1 ∷ 2 ∷ 3 ∷ 4 ∷ 5 ∷ []) 7 tt h)
+goes_on place.Start rest d e = refl
+goes_on place.Hyphen rest d e = refl
+goes_on place.Arrow rest d e = refl
+goes_on place.Gap rest d e = refl
+goes_on place.Word rest d e = refl
+goes_on (place.Line k last) rest d e = refl
+goes_on place.Ended rest d e = absurd (e refl)
+goes_on place.Dead rest d e = absurd (d refl)

@@ -2,7 +2,7 @@
 use Prim.Native.Nat.{ℕ, zero, suc, ◌+◌, ◌-◌, ◌*◌, ◌/◌, ◌%◌, ◌<◌, ◌≤◌}
 use mathlib.Core.Path.{◌≡◌, refl, sym, ap, ap₂, ◌∙◌}
 use mathlib.Core.Bool.{true}
-use mathlib.Core.List.{List, [], ◌∷◌, ◌++◌, map, map_append}
+use mathlib.Core.List.{List, [], ◌∷◌, ◌++◌, map, map-append}
 use lib.ListN.{length, take, drop, get_or, length-map, length-take, length-drop, drop_of_length-le}
 use lib.Seq.{drop-cons, take-add, take_all, length-take-le}
 use native.Mathlib.Nat.{add-mul-mod_self_left}
@@ -217,7 +217,7 @@ module _ (g j : ℕ) (F : List ℕ → List ℕ) (append : (n : ℕ) (s t : List
 module _ (f : ℕ → ℕ) where
   -- the laws of bytes, of the characters' symbols
   mapped-append : (n : ℕ) (s t : List ℕ) → length s ≡ 8 * n → bytes (map f (s ++ t)) ≡ bytes (map f s) ++ bytes (map f t)
-  mapped-append n s t h = ap bytes (map_append f s t) ∙ bytes_append n (map f s) (map f t) (length-map s f ∙ h)
+  mapped-append n s t h = ap bytes (map-append f s t) ∙ bytes_append n (map f s) (map f t) (length-map s f ∙ h)
 
   mapped-size : (n : ℕ) (s : List ℕ) → length s ≡ 8 * n → length (bytes (map f s)) ≡ 5 * n
   mapped-size n s h = bytes_length (map f s) ∙ rw (length-map s f, h) (omega arith)

@@ -2,7 +2,7 @@
 use Prim.Native.Nat.{ℕ, suc, ◌+◌, ◌-◌, ◌<◌, ◌≤◌}
 use mathlib.Core.Path.{◌≡◌, refl, sym, ap, ap₂, ◌∙◌, subst}
 use mathlib.Core.Bool.{true, false, ◌&&◌}
-use mathlib.Core.List.{List, [], ◌∷◌, ◌++◌, map, map_append, append_assoc}
+use mathlib.Core.List.{List, [], ◌∷◌, ◌++◌, map, map-append, append_assoc}
 use lib.Dec.{ltb, leb}
 use lib.ListN.{length, take, drop, set, replicate, length-drop, length-set, length-replicate, length-map}
 use lib.Seq.{length-take-le, take-append-le, drop-append-le, take-suc-set, drop_at, take-take, drop-drop, drop-set-lt, take-append_seam}
@@ -157,7 +157,7 @@ appended_view t p b index mark k f =
     let x : List ℕ = p ++ drop (t.used + length p) b in
     let s : placed t p b ≡ take t.used b ++ x = append_assoc (take t.used b) p (drop (t.used + length p) b) in
     let es = take t.count t.slots in
-    ap (map (row_of (placed t p b))) (slots_more t e k h) ∙ map_append (row_of (placed t p b)) es (e ∷ [])
+    ap (map (row_of (placed t p b))) (slots_more t e k h) ∙ map-append (row_of (placed t p b)) es (e ∷ [])
     ∙ ap₂ (λ r q. r ++ (record { payload = q; index = index; mark = mark } ∷ [])) (ap (λ l. map (row_of l) es) s ∙ rows_same es 0 t.used b x k.chained u) (payload_there t.used p b u)
 
 -- the count is the number of entries

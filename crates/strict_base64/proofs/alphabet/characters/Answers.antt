@@ -11,11 +11,6 @@ use Rattle.refusal.proofs.Laws.Run.{run_in, run_out, run_more, run_end}
 use Rattle.strict_base64.proofs.alphabet.characters.Goals as goal
 
 
-shared_slice_read_is_character :
-    tie.Need-shared-slice-read-is-character invariant-loop decreases-loop invariant-loop2 decreases-loop2
-shared_slice_read_is_character c = search rules
-
-
 pub loop-i-init : goal.loop-i-init
 loop-i-init c = (search rules, search rules, refl)
 

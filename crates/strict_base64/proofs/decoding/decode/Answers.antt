@@ -7,12 +7,16 @@ use Rattle.strict_base64.proofs.decoding.decode.Goals as goal
 
 
 pub returns-then-out-n : goal.returns-then-out-n
-returns-then-out-n c = let whole = let e = sym (decoded_length c.args.text.now) in
-    rw (lt-ltb _ _ (rw e at c.if-out-n.true)) (refl, refl) in
-    record { answer = whole.0; buffer = whole.1 }
+returns-then-out-n c = let e = sym (decoded_length c.args.text.now) in
+    record {
+        answer = rw (lt-ltb _ _ (rw e at c.if-out-n.true)) refl;
+        buffer = rw (lt-ltb _ _ (rw e at c.if-out-n.true)) refl;
+    }
 
 
 pub returns : goal.returns
-returns c = let whole = let e = sym (decoded_length c.args.text.now) in
-    rw (e, le-ltb _ _ (rw e at c.if-out-n.false)) (refl, c.decode_into.ensures) in
-    record { answer = whole.0; buffer = whole.1 }
+returns c = let e = sym (decoded_length c.args.text.now) in
+    record {
+        answer = rw (e, le-ltb _ _ (rw e at c.if-out-n.false)) refl;
+        buffer = rw (le-ltb _ _ (rw e at c.if-out-n.false)) c.decode_into.ensures;
+    }

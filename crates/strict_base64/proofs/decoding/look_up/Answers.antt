@@ -5,6 +5,8 @@ use Rattle.strict_base64.proofs.decoding.look_up.Goals as goal
 
 
 pub returns : goal.returns
-returns c = let whole = let e = c.requires c.args.b (search rules) in
-    rw c.wide.ensures (e, rw e (value_lt c.args.b)) in
-    record { value = whole.0; small = whole.1 }
+returns c = let e = c.requires c.args.b (search rules) in
+    record {
+        value = rw c.wide.ensures e;
+        small = rw c.wide.ensures (rw e (value_lt c.args.b));
+    }

@@ -7,12 +7,16 @@ use Rattle.strict_base64.proofs.lines.decode_lines.Goals as goal
 
 
 pub returns-then-out-n : goal.returns-then-out-n
-returns-then-out-n c = let whole = let e = c.body_length-n.ensures ∙ sym (body_length c.args.lines.now) in
-    rw (lt-ltb _ _ (rw e at c.if-out-n.true)) (refl, refl) in
-    record { answer = whole.0; buffer = whole.1 }
+returns-then-out-n c = let e = c.body_length-n.ensures ∙ sym (body_length c.args.lines.now) in
+    record {
+        answer = rw (lt-ltb _ _ (rw e at c.if-out-n.true)) refl;
+        buffer = rw (lt-ltb _ _ (rw e at c.if-out-n.true)) refl;
+    }
 
 
 pub returns : goal.returns
-returns c = let whole = let e = c.body_length-n.ensures ∙ sym (body_length c.args.lines.now) in
-    rw (e, le-ltb _ _ (rw e at c.if-out-n.false)) (refl, c.body_into.ensures) in
-    record { answer = whole.0; buffer = whole.1 }
+returns c = let e = c.body_length-n.ensures ∙ sym (body_length c.args.lines.now) in
+    record {
+        answer = rw (e, le-ltb _ _ (rw e at c.if-out-n.false)) refl;
+        buffer = rw (le-ltb _ _ (rw e at c.if-out-n.false)) c.body_into.ensures;
+    }

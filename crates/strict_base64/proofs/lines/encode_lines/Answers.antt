@@ -8,8 +8,10 @@ use Rattle.strict_base64.proofs.lines.encode_lines.Goals as goal
 
 
 pub returns-then-out-n : goal.returns-then-out-n
-returns-then-out-n c = let whole = rw (lt-ltb _ _ (rw c.lines_length-n.ensures at c.if-out-n.true)) (refl, refl) in
-    record { answer = whole.0; buffer = whole.1 }
+returns-then-out-n c = record {
+        answer = rw (lt-ltb _ _ (rw c.lines_length-n.ensures at c.if-out-n.true)) refl;
+        buffer = rw (lt-ltb _ _ (rw c.lines_length-n.ensures at c.if-out-n.true)) refl;
+    }
 
 
 pub lines_into-requires : goal.lines_into-requires
@@ -20,5 +22,7 @@ lines_into-requires c = record {
 
 
 pub returns : goal.returns
-returns c = let whole = rw (c.lines_length-n.ensures, le-ltb _ _ (rw c.lines_length-n.ensures at c.if-out-n.false)) (refl, c.lines_into.ensures) in
-    record { answer = whole.0; buffer = whole.1 }
+returns c = record {
+        answer = rw (c.lines_length-n.ensures, le-ltb _ _ (rw c.lines_length-n.ensures at c.if-out-n.false)) refl;
+        buffer = rw (le-ltb _ _ (rw c.lines_length-n.ensures at c.if-out-n.false)) c.lines_into.ensures;
+    }

@@ -1,0 +1,124 @@
+-- Each arm is one law of a command that is kept, refused or ignored; parsing says which it is, storing what it came to.
+use mathlib.Core.Path.{refl, sym, ap, ◌∙◌}
+use lib.ListN.{length}
+use Rattle.refusal.specs.Verdict.{verdict_said}
+use Rattle.refusal.proofs.Laws.Number.{number_not_zero}
+use Rattle.tables.specs.Bodies.{body_from}
+use Rattle.session.specs.Tables.{tables_in}
+use Rattle.session.proofs.Laws.Putting.{put-recipients, put-identities, put-keys, put_headers}
+use Rattle.phase_one.specs.Commands.{command_said}
+use Rattle.phase_one.specs.PhaseOne.{buffers_of}
+use Rattle.phase_one.proofs.Laws.PhaseOne.{step-bad, step-done, step_other, step-recipient, step-identity, step-key, step-header}
+use borrow.Author.Rules.{rules}
+use Rattle.phase_one.proofs.steps.step_one.Goals as goal
+
+
+pub returns-in-Recipient : goal.returns-in-Recipient
+returns-in-Recipient c = let a = c.args in
+    let y = body_from a.coding a.source.now in
+    let t = tables_in a.tables a.slots.now a.header_slots.now in
+    let b = buffers_of a.recipients.now a.identities.now a.keys.now a.headers.now in
+    let e = rw c.body_size-n.ensures.0 at (c.parse_one-command.ensures a.plugin.now) in
+    let z = c.keep_recipient-stored.ensures in
+    let k = ap (command_said a.plugin.now a.line.now (length y)) (sym c.in-Recipient.is) ∙ e in
+    let s = step-recipient a.machine a.plugin.now t b (verdict_said a.late) a.line.now y _ _ _ _ k z.number z.table z.buffer in
+    record {
+        command = rw c.stepped.ensures e;
+        number = rw c.stepped.ensures s.0;
+        tables = rw c.stepped.ensures (put-recipients a.tables a.slots.now _ a.header_slots.now c.keep_recipient-stored.result.table _ refl z.others ∙ s.1.0);
+        buffers = s.1.1;
+    }
+
+
+pub returns-in-Identity : goal.returns-in-Identity
+returns-in-Identity c = let a = c.args in
+    let y = body_from a.coding a.source.now in
+    let t = tables_in a.tables a.slots.now a.header_slots.now in
+    let b = buffers_of a.recipients.now a.identities.now a.keys.now a.headers.now in
+    let e = rw c.body_size-n.ensures.0 at (c.parse_one-command.ensures a.plugin.now) in
+    let z = rw c.span_of-span.ensures at c.keep_text-stored.ensures in
+    let k = ap (command_said a.plugin.now a.line.now (length y)) (sym c.in-Identity.is) ∙ e in
+    let s = step-identity a.machine a.plugin.now t b (verdict_said a.late) a.line.now y _ _ _ _ k z.number z.table z.buffer in
+    record {
+        command = rw c.stepped-in-Identity.ensures e;
+        number = rw c.stepped-in-Identity.ensures s.0;
+        tables = rw c.stepped-in-Identity.ensures (put-identities a.tables a.slots.now _ a.header_slots.now c.keep_text-stored.result.table _ refl z.others ∙ s.1.0);
+        buffers = s.1.1;
+    }
+
+
+pub returns-in-Key : goal.returns-in-Key
+returns-in-Key c = let a = c.args in
+    let y = body_from a.coding a.source.now in
+    let t = tables_in a.tables a.slots.now a.header_slots.now in
+    let b = buffers_of a.recipients.now a.identities.now a.keys.now a.headers.now in
+    let e = rw c.body_size-n.ensures.0 at (c.parse_one-command.ensures a.plugin.now) in
+    let z = rw c.span_of-span-in-Key.ensures at c.store-stored.ensures in
+    let k = ap (command_said a.plugin.now a.line.now (length y)) (sym c.in-Key.is) ∙ e in
+    let s = step-key a.machine a.plugin.now t b (verdict_said a.late) a.line.now y _ _ _ k z.number (rw (sym z.number) at z.table) (rw (sym z.number) at z.buffer) in
+    record {
+        command = rw c.stepped-in-Key.ensures e;
+        number = rw c.stepped-in-Key.ensures s.0;
+        tables = rw c.stepped-in-Key.ensures (put-keys a.tables a.slots.now _ a.header_slots.now c.store-stored.result.table _ refl z.others ∙ s.1.0);
+        buffers = s.1.1;
+    }
+
+
+pub returns-in-Header : goal.returns-in-Header
+returns-in-Header c = let a = c.args in
+    let y = body_from a.coding a.source.now in
+    let t = tables_in a.tables a.slots.now a.header_slots.now in
+    let b = buffers_of a.recipients.now a.identities.now a.keys.now a.headers.now in
+    let e = rw c.body_size-n.ensures.0 at (c.parse_one-command.ensures a.plugin.now) in
+    let z = rw c.body_size-n.ensures.0 at c.keep_header-stored.ensures in
+    let k = ap (command_said a.plugin.now a.line.now (length y)) (sym c.in-Header.is) ∙ e in
+    let s = step-header a.machine a.plugin.now t b (verdict_said a.late) a.line.now y _ _ _ _ _ k z.number z.table z.buffer in
+    record {
+        command = rw c.stepped-in-Header.ensures k;
+        number = rw c.stepped-in-Header.ensures s.0;
+        tables = rw c.stepped-in-Header.ensures (put_headers a.tables a.slots.now c.keep_header-stored.new.slots c.keep_header-stored.result.table _ refl a.header_slots.now ∙ s.1.0);
+        buffers = s.1.1;
+    }
+
+
+pub returns-in-Done : goal.returns-in-Done
+returns-in-Done c = let a = c.args in
+    let y = body_from a.coding a.source.now in
+    let t = tables_in a.tables a.slots.now a.header_slots.now in
+    let b = buffers_of a.recipients.now a.identities.now a.keys.now a.headers.now in
+    let e = rw c.body_size-n.ensures.0 at (c.parse_one-command.ensures a.plugin.now) in
+    record {
+        command = e;
+        number = (step-done a.machine a.plugin.now t b (verdict_said a.late) a.line.now y (ap (command_said a.plugin.now a.line.now (length y)) (sym c.in-Done.is) ∙ e)).0;
+        tables = (step-done a.machine a.plugin.now t b (verdict_said a.late) a.line.now y (ap (command_said a.plugin.now a.line.now (length y)) (sym c.in-Done.is) ∙ e)).1.0;
+        buffers = (step-done a.machine a.plugin.now t b (verdict_said a.late) a.line.now y (ap (command_said a.plugin.now a.line.now (length y)) (sym c.in-Done.is) ∙ e)).1.1;
+    }
+
+
+pub returns-in-Other : goal.returns-in-Other
+returns-in-Other c = let a = c.args in
+    let y = body_from a.coding a.source.now in
+    let t = tables_in a.tables a.slots.now a.header_slots.now in
+    let b = buffers_of a.recipients.now a.identities.now a.keys.now a.headers.now in
+    let e = rw c.body_size-n.ensures.0 at (c.parse_one-command.ensures a.plugin.now) in
+    record {
+        command = e;
+        number = (step_other a.machine a.plugin.now t b (verdict_said a.late) a.line.now y (ap (command_said a.plugin.now a.line.now (length y)) (sym c.in-Other.is) ∙ e)).0;
+        tables = (step_other a.machine a.plugin.now t b (verdict_said a.late) a.line.now y (ap (command_said a.plugin.now a.line.now (length y)) (sym c.in-Other.is) ∙ e)).1.0;
+        buffers = (step_other a.machine a.plugin.now t b (verdict_said a.late) a.line.now y (ap (command_said a.plugin.now a.line.now (length y)) (sym c.in-Other.is) ∙ e)).1.1;
+    }
+
+
+pub returns-in-Refused : goal.returns-in-Refused
+returns-in-Refused c = let a = c.args in
+    let y = body_from a.coding a.source.now in
+    let t = tables_in a.tables a.slots.now a.header_slots.now in
+    let b = buffers_of a.recipients.now a.identities.now a.keys.now a.headers.now in
+    let e = rw c.body_size-n.ensures.0 at (c.parse_one-command.ensures a.plugin.now) in
+    let k = ap (command_said a.plugin.now a.line.now (length y)) (sym c.in-Refused.is) ∙ e in
+    record {
+        command = k;
+        number = (step-bad a.machine a.plugin.now t b (verdict_said a.late) a.line.now y _ k (number_not_zero c.in-Refused.r)).0;
+        tables = (step-bad a.machine a.plugin.now t b (verdict_said a.late) a.line.now y _ k (number_not_zero c.in-Refused.r)).1.0;
+        buffers = (step-bad a.machine a.plugin.now t b (verdict_said a.late) a.line.now y _ k (number_not_zero c.in-Refused.r)).1.1;
+    }

@@ -1,0 +1,6 @@
+-- The step by the table is the step by the constants.
+use Rattle.symbols.proofs.Laws.Checksum.{step_table}
+use Rattle.symbols.proofs.checksum.step.Goals as goal
+
+pub returns : goal.returns
+returns c = step_table c.args.folds.now c.requires c.args.state c.args.symbol
