@@ -353,6 +353,9 @@ def convert(crate,only=()):
             if not m: report.append((fn,'no body',t)); continue
             rhs=m.group(2).strip()
             if macros: rhs=inline(rhs,macros)
+            for mg in list(re.finditer(r"let ([\w']+) = (c(?:\.[\w-]+)*\.given) in\s*",rhs)):
+                rhs=rhs.replace(mg.group(0),'',1)
+                rhs=re.sub(r"(?<![\w.'-])"+re.escape(mg.group(1))+r"(?=\.[0-9])",mg.group(2),rhs)
             if rhs in('search rules','omega arith'): continue
             F.miss=set()
             def sub(mm):

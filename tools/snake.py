@@ -16,10 +16,11 @@ import sys
 
 WORD = re.compile(r"[^\s(){}.;,@\"«»]+")
 SPAN = re.compile(r"`[^`\n]+`")
-DECLARED = re.compile(r"^((?:pub |abbrev |unfoldable |opaque )*)(data |record |ruleset )?([^\s:(){},;]+)((?:\s*\([^()]*(?:\([^()]*\)[^()]*)*\)|\s*\{[^{}]*\})*)\s*:\s*(.*)")
+DECLARED = re.compile(r"^ *((?:pub |abbrev |unfoldable |opaque )*)(data |record |ruleset )?([^\s:(){},;]+)((?:\s*\([^()]*(?:\([^()]*\)[^()]*)*\)|\s*\{[^{}]*\})*)\s*:\s*(.*)")
 MEMBER = re.compile(r"^\s+(?:pub )?([^\s:(){},;]+)\s*:\s")
 ALIAS = re.compile(r"\bas\s+([^\s;,{}]+)")
 CAMEL = re.compile(r"^[a-z][a-z0-9]*(?:[A-Z]|[0-9]+[A-Z])")
+DASHED = re.compile(r"(?<![\w.'\"-])[a-z]\w*(?:-[a-z0-9]\w*)+(?![\w'-])")
 # names that would fall together with another of their files: a constructor, a label or a constant gets a word more, a lemma with its function's name `_lem`
 ON_THEIR_OWN = {
     "addIdentity": "add_identity_text",
@@ -40,8 +41,10 @@ ON_THEIR_OWN = {
     "said_in": "blocks_said",
     "foundIn": "found_in",
 }
-LEMMAS = """at-once-sent bare-text command-in command-words decoded-size encoded-size error-word hex-digit is-invalid is-skipped is-untaken last-value name-or
-opened-session read-index refusal-of reply-alone sent-number slots-for stanza-ahead stanza-call symbols-size text-number are-bytes is-held read-first"""
+LEMMAS = """any-invalid are-bytes at-once-sent at-once-text bare-text by-due command-in command-words decided-one decided-two decoded-size encoded-size error-at
+error-of error-word fault-one first-of has-tail header-at hex-digit human-in human-part is-held is-invalid is-skipped is-untaken last-value line-sent
+name-or opened-session read-first read-index refusal-of reply-alone row-command sent-number slots-for spelled-length stanza-ahead stanza-call
+stanza-calls symbols-size text-number values-in"""
 ON_THEIR_OWN.update({n: n.replace("-", "_") + "_lem" for n in LEMMAS.split()})
 # lemmas that port.py has turned already; in proofs/ alone, and not behind a dot of a module's path
 TURNED = {n: n + "_lem" for n in ("cut_on", "as_read", "received_more", "line_read", "name_in")}
@@ -71,7 +74,7 @@ def declared(text):
     out, members, inside = [], [], False
     for line in text.splitlines():
         m = DECLARED.match(line)
-        if m and not line.startswith((" ", "use ", "--")):
+        if m and not line.lstrip().startswith(("use ", "--", "module ", "let ", "in ", "(", "λ")):
             out.append((m.group(3), m.group(5)))
             inside = bool(m.group(2))
         elif inside and MEMBER.match(line):
@@ -109,6 +112,14 @@ def table(root):
     return {a: b for a, b in names.items() if a != b}
 
 
+def of_the_kit(text):
+    """The names that a file's use lines bring in from the toolchain's libraries."""
+    found = set()
+    for m in re.finditer(r"^use (?:mathlib|lib|native|borrow|Prim|denote|types|Rattle\.std|Rattle\.core)\S*\.\{([^}]*)\}", text, re.M):
+        found |= {w.strip().split(" as ")[0] for w in m.group(1).split(",")}
+    return found
+
+
 def turned(text, names, dashes):
     def one(m):
         w = m.group(0)
@@ -128,7 +139,8 @@ def comment(text, names):
 
 def antt(text, names):
     lines = []
-    names = names | TURNED
+    kit = of_the_kit(text)
+    names = {a: b for a, b in (names | TURNED).items() if a not in kit}
     for line in text.split("\n"):
         at = re.search(r"(?:^|\s)--(?:\s|$)", line)
         cut = at.start() if at else len(line)
@@ -144,8 +156,10 @@ def rt(text, names):
         elif re.match(r"\s*ghost use ", line) or ghost:
             lines.append(turned(line, names, True))
             ghost = not line.rstrip().endswith(";")
-        else:
+        elif '"' in line:
             lines.append(turned(line, names, False))
+        else:
+            lines.append(DASHED.sub(lambda m: names.get(m.group(0), m.group(0)), turned(line, names, False)))
     return "\n".join(lines)
 
 

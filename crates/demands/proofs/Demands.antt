@@ -183,11 +183,11 @@ demand_1_reply_short_iff = too_short.reply_short_iff
 pub demand_1_chunk : (e : End) (machine name : List ℕ) (screen : Bool) (before : List (AnyWith e)) (b : Buffers) (bytes out : List ℕ) → let i = kept e machine name screen before in
     let o = chunked e i b bytes out in turn_of e i.session.phase ≡ 0 → (o.number ≡ 0 → ⊥) → (o.number ≡ 15 → ⊥) →
     Prefix e i b (i.kept ++ bytes) o (map alone (take o.count (parted_chunk e i b bytes).received))
-demand_1_chunk e machine name screen before b bytes out = prefixes.prefix-chunk e (kept e machine name screen before) b bytes out (reaching.reached_bounded e machine name screen before)
+demand_1_chunk e machine name screen before b bytes out = prefixes.prefix_chunk e (kept e machine name screen before) b bytes out (reaching.reached_bounded e machine name screen before)
 
 -- .. and where the phase alone refuses it, closed or ended 13, the client's phase one or waiting 14, nothing is taken and nothing of the chunk is kept
 pub demand_1_chunk_turn : (e : End) (i : Intake) (b : Buffers) (bytes out : List ℕ) (n : ℕ) → turn_of e i.session.phase ≡ n → (n ≡ 0 → ⊥) → chunked e i b bytes out ≡ untaken n i b out
-demand_1_chunk_turn = prefixes.prefix-turn
+demand_1_chunk_turn = prefixes.prefix_turn
 
 -- a reply that is taken stands, and behind it the stanzas that were kept back, as far as the fault
 pub demand_1_reply : (i : Intake) (b : Buffers) (r : Response) (body out : List ℕ) (w : WordTwo) → let o = replied i b r body out in i.session.phase ≡ Awaiting w → number_replied w r body ≡ 0 →
@@ -209,7 +209,7 @@ demand_1_output e i b bytes out r body = (too_short.chunk_stays e i b bytes out,
 -- "A session then gives 2 only when the input is declared ended before the conversation has": no chunk and no reply gives 2, the input's end does exactly in phases
 -- one and two
 pub demand_1_chunk_two : (e : End) (machine name : List ℕ) (screen : Bool) (before : List (AnyWith e)) (b : Buffers) (bytes out : List ℕ) → (chunked e (kept e machine name screen before) b bytes out).number ≡ 2 → ⊥
-demand_1_chunk_two = reaching.reached-not-two
+demand_1_chunk_two = reaching.reached_not_two
 
 pub demand_1_reply_two : (i : Intake) (b : Buffers) (r : Response) (body out : List ℕ) → (replied i b r body out).number ≡ 2 → ⊥
 demand_1_reply_two = finishing.reply_not_two
@@ -230,7 +230,7 @@ demand_1_bounds e machine name screen before = (reaching.reached_bounded e machi
 -- .. and there are none in the client's phase one, at the plugin end in phase two with nothing due, in a session that has ended and in a closed one
 pub demand_1_bounds_idle : (e : End) (machine name : List ℕ) (screen : Bool) (before : List (AnyWith e)) → let i = kept e machine name screen before in
     is_idle e i.session.phase ≡ true → i ≡ emptied i.session []
-demand_1_bounds_idle = reaching.reached-empty
+demand_1_bounds_idle = reaching.reached_empty
 
 -- ---- Demand 1, "Outside a session: 18, then 1 to 3, 16 or 17, then 15 .. A refusal writes nothing". 1 to 3 and 5: below, with stanza text
 
@@ -396,36 +396,36 @@ pub demand_2_agreement : (machine name : List ℕ) (screen : Bool) (cs : List Ca
 demand_2_agreement machine name screen cs s' b b' word arguments body out text n a v y q e l =
     let s = after_each (opened machine name screen).session cs in
     let j = (made machine name screen cs).tables in
-    (agreements.agreement s s' b b' word arguments body out text n a j v y q e l, agreements.views-agree s s' b b' word arguments body out text n a j v y q e l)
+    (agreements.agreement s s' b b' word arguments body out text n a j v y q e l, agreements.views_agree s s' b b' word arguments body out text n a j v y q e l)
 
 -- ---- Demand 2, look-ups, of a session that an opening and calls have made: "is shown that entry's text as a part of the recipient room or the identity room. If there
 -- is none, or the room lent is too short for it, the part is empty; no entry is empty"
 
 pub demand_2_recipient : (machine name : List ℕ) (screen : Bool) (cs : List CallWith) (n : ℕ) (recipients identities : List ℕ) →
     let t = (after_each (opened machine name screen).session cs).tables in Looked (entry_text t Recipient n recipients identities) t.recipients recipients n
-demand_2_recipient machine name screen cs = looking_up.recipient-looked (after_each (opened machine name screen).session cs).tables (made machine name screen cs).tables
+demand_2_recipient machine name screen cs = looking_up.recipient_looked (after_each (opened machine name screen).session cs).tables (made machine name screen cs).tables
 
 pub demand_2_identity : (machine name : List ℕ) (screen : Bool) (cs : List CallWith) (n : ℕ) (recipients identities : List ℕ) →
     let t = (after_each (opened machine name screen).session cs).tables in Looked (entry_text t Identity n recipients identities) t.identities identities n
-demand_2_identity machine name screen cs = looking_up.identity-looked (after_each (opened machine name screen).session cs).tables (made machine name screen cs).tables
+demand_2_identity machine name screen cs = looking_up.identity_looked (after_each (opened machine name screen).session cs).tables (made machine name screen cs).tables
 
 -- .. and any entry of a kind of phase one, file keys and header stanzas too, found by its number
 pub demand_2_found : (machine name : List ℕ) (screen : Bool) (cs : List CallWith) (k : KindOne) (b : List ℕ) (n : ℕ) →
     let t = one_kind.table_of k (after_each (opened machine name screen).session cs).tables in Looked (shown (found t n) b) t b n
-demand_2_found machine name screen cs = looking_up.entry-looked (after_each (opened machine name screen).session cs).tables (made machine name screen cs).tables
+demand_2_found machine name screen cs = looking_up.entry_looked (after_each (opened machine name screen).session cs).tables (made machine name screen cs).tables
 
 -- stanza k of a file, the key of a file, and the message of error k, which may be empty
 pub demand_2_stanza_of : (machine name : List ℕ) (screen : Bool) (cs : List CallWith) (b : List ℕ) (f k : ℕ) →
     let t = (after_each (opened machine name screen).session cs).tables in LookedOf (stanza_of t f k b) t.stanzas b f k
-demand_2_stanza_of machine name screen cs = looking_up.stanza-looked (after_each (opened machine name screen).session cs).tables (made machine name screen cs).later_tables
+demand_2_stanza_of machine name screen cs = looking_up.stanza_looked (after_each (opened machine name screen).session cs).tables (made machine name screen cs).later_tables
 
 pub demand_2_key_of : (machine name : List ℕ) (screen : Bool) (cs : List CallWith) (b : List ℕ) (f : ℕ) →
     let t = (after_each (opened machine name screen).session cs).tables in LookedOf (key_of t f b) t.returned b f 0
-demand_2_key_of machine name screen cs = looking_up.key-looked (after_each (opened machine name screen).session cs).tables (made machine name screen cs).later_tables
+demand_2_key_of machine name screen cs = looking_up.key_looked (after_each (opened machine name screen).session cs).tables (made machine name screen cs).later_tables
 
 pub demand_2_message : (machine name : List ℕ) (screen : Bool) (cs : List CallWith) (b : List ℕ) (k : ℕ) →
     let t = (after_each (opened machine name screen).session cs).tables in Told (message_of t k b) t.errors b k
-demand_2_message machine name screen cs = looking_up.message-told (after_each (opened machine name screen).session cs).tables (made machine name screen cs).later_tables
+demand_2_message machine name screen cs = looking_up.message_told (after_each (opened machine name screen).session cs).tables (made machine name screen cs).later_tables
 
 -- how many stanzas a file has, and whether it has a key: by its rows
 pub demand_2_file_counts : (t : Tables) (b : List ℕ) (f : ℕ) →
@@ -440,51 +440,51 @@ demand_2_errors = error_names.names_opened
 -- ---- Demand 2, "phases and responses". "The transcripts allowed are the ones accepted": phase one, received by a session just opened
 pub demand_2_phase_one : (machine : Machine) (name : List ℕ) (screen : Bool) (b : Buffers) (outs : Supply) (p : Phase) → IsPhase one_part p →
     Accepted (opened_session machine name screen) b (calls_of one_part outs (blocks_of p)) ↔ Allowed machine name b.first (texts_of p)
-demand_2_phase_one = one_accepted.accepted-iff
+demand_2_phase_one = one_accepted.accepted_iff
 
 -- .. of any texts at all: accepted to the end of the phase exactly those that have its shape and are allowed
 pub demand_2_phase_one_exact : (machine : Machine) (name : List ℕ) (screen : Bool) (b : Buffers) (ts : List (List ℕ)) →
     AcceptedTo Two (opened_session machine name screen) b (map receive ts) ↔ (ShapedOne ts × Allowed machine name b.first ts)
-demand_2_phase_one_exact = one_shaped.shaped-one-iff
+demand_2_phase_one_exact = one_shaped.shaped_one_iff
 
 -- .. and accepted but not to its end, exactly those cut before done that are allowed so far; it is then still phase one
 pub demand_2_phase_one_so_far : (machine : Machine) (name : List ℕ) (screen : Bool) (b : Buffers) (ts : List (List ℕ)) (q : SessionPhase) → (q ≡ Two → ⊥) →
     AcceptedTo q (opened_session machine name screen) b (map receive ts) ↔ ((q ≡ One) × FrontOne ts × Allowed machine name b.first ts)
-demand_2_phase_one_so_far = one_shaped.front-one-iff
+demand_2_phase_one_so_far = one_shaped.front_one_iff
 
 -- phase one at the client end, sent by a session just opened; only the last may be done
 pub demand_2_phase_one_sent : (machine : Machine) (name : List ℕ) (screen : Bool) (b : Buffers) (outs : Supply) (xs : List SendingOne) (y : SendingOne) →
     All (λ x. are_bytes x.body ≡ true) (xs ++ (y ∷ [])) → All (λ x. sent_one.is_done_sent x ≡ false) xs → LongEnough (opened_session machine name screen) b (send_calls outs (xs ++ (y ∷ []))) →
     Accepted (opened_session machine name screen) b (send_calls outs (xs ++ (y ∷ []))) ↔ AllowedSendings machine name b.first (xs ++ (y ∷ []))
-demand_2_phase_one_sent = sent_numbers.sent-one-iff
+demand_2_phase_one_sent = sent_numbers.sent_one_iff
 
 -- sending against receiving, phase one: the turn's number, 17 where the text cannot be written, the number that receiving it gives at equal tables, 15
 pub demand_2_sent_number_one : (s : Session) (b : Buffers) (word : WordOne) (arguments body : List ℕ) → are_bytes body ≡ true → (out : List ℕ) →
     let line = one.line_sent word arguments in let text = stanza_text line body in
     (outcome s b (send word arguments body out)).number ≡ sending_number (turn_one s.phase) (is_writable line body) (outcome s b (receive text)).number (shortness text out)
-demand_2_sent_number_one = sent_numbers.sent-number-one
+demand_2_sent_number_one = sent_numbers.sent_number_one
 
 -- phase two: the same, received to an output that is long enough, with 19 before 8
 pub demand_2_sent_number_two : (s : Session) (b : Buffers) (word : WordTwo) (arguments body : List ℕ) → are_bytes body ≡ true → (out big : List ℕ) →
     let line = line_sent word arguments in let text = stanza_text line body in ((outcome s b (receive_two text big)).number ≡ 15 → ⊥) →
     (outcome s b (send_two word arguments body out)).number ≡
     sending_number (turn_two s.phase) (is_writable line body) (held_number (is_held_back s.tables (command_two s.machine line body)) (outcome s b (receive_two text big)).number) (shortness text out)
-demand_2_sent_number_two = sent_numbers.sent-number-two
+demand_2_sent_number_two = sent_numbers.sent_number_two
 
 -- phase two at the client end, commands with replies, received by a session that has just sent done
 pub demand_2_client : (s : Session) (b : Buffers) → JustDone s → (p : Phase) → IsPhase two_part p → (outs : Supply) → LongEnough s b (calls_of two_part outs (blocks_of p)) →
     Accepted s b (calls_of two_part outs (blocks_of p)) ↔ AllowedTwo s.machine s.screen (left_of (state_of s b)) (capacity_of b) (blocks_of p)
-demand_2_client s b j p h outs l = two_accepted.accepted-two-iff s b (just_done s j) p h outs l
+demand_2_client s b j p h outs l = two_accepted.accepted_two_iff s b (just_done s j) p h outs l
 
 -- .. of any calls of the client end at all: accepted to the end of the phase exactly those that have its shape and are allowed
 pub demand_2_client_exact : (s : Session) (b : Buffers) → JustDone s → (cs : List Call) → All (λ c. is_client c ≡ true) cs → LongEnough s b cs →
     AcceptedTo Ended s b cs ↔ ((p : ShapedTwo cs) × AllowedTwo s.machine s.screen (left_of (state_of s b)) (capacity_of b) (blocks_of p.phase))
-demand_2_client_exact s b j cs k l = two_Shaped.shaped-two-iff s b (just_done s j) cs k l
+demand_2_client_exact s b j cs k l = two_Shaped.shaped_two_iff s b (just_done s j) cs k l
 
 -- .. and accepted but not to its end, exactly those cut before done that are allowed so far; `q` is the phase then, two or that of waiting for a reply
 pub demand_2_client_so_far : (s : Session) (b : Buffers) → JustDone s → (cs : List Call) → All (λ c. is_client c ≡ true) cs → LongEnough s b cs → (q : SessionPhase) → (q ≡ Ended → ⊥) →
     AcceptedTo q s b cs ↔ ((p : FrontTwo cs) × AllowedTwoSoFar s.machine s.screen (left_of (state_of s b)) (capacity_of b) q p.blocks)
-demand_2_client_so_far s b j cs k l q n = two_Shaped.front-two-iff s b (just_done s j) cs k l q n
+demand_2_client_so_far s b j cs k l q n = two_Shaped.front_two_iff s b (just_done s j) cs k l q n
 
 -- phase two at the plugin end, sendings with the responses received, by a session that has just received done
 pub demand_2_plugin : (s : Session) (b : Buffers) → JustReceived s → (outs : Supply) (xs : List Exchange) (y : Exchange) → All (λ x. is_done_sent x ≡ false) xs → is_done_sent y ≡ true →
@@ -495,29 +495,29 @@ demand_2_plugin s b j = sent_accepted.accepted_sent_iff s b (just_received_done 
 -- .. of any calls of the plugin end at all: accepted to the end of the phase exactly those that have its shape and are allowed
 pub demand_2_plugin_exact : (s : Session) (b : Buffers) → JustReceived s → (cs : List Call) → All (λ c. is_client c ≡ false) cs → LongEnough s b cs →
     AcceptedTo Ended s b cs ↔ ((p : ShapedSent cs) × AllowedSent s.machine (left_of (state_of s b)) (capacity_of b) (p.ahead ++ (p.last ∷ [])))
-demand_2_plugin_exact s b j = sent_shaped.shaped-sent-iff s b (just_received_done s j)
+demand_2_plugin_exact s b j = sent_shaped.shaped_sent_iff s b (just_received_done s j)
 
 -- .. and accepted but not to its end, exactly those cut before done that are allowed so far; `q` is the phase then, two or that of awaiting a response
 pub demand_2_plugin_so_far : (s : Session) (b : Buffers) → JustReceived s → (cs : List Call) → All (λ c. is_client c ≡ false) cs → LongEnough s b cs → (q : SessionPhase) → (q ≡ Ended → ⊥) →
     AcceptedTo q s b cs ↔ ((p : FrontSent cs) × AllowedSentSoFar s.machine (left_of (state_of s b)) (capacity_of b) q p.exchanges)
-demand_2_plugin_so_far s b j = sent_shaped.front-sent-iff s b (just_received_done s j)
+demand_2_plugin_so_far s b j = sent_shaped.front_sent_iff s b (just_received_done s j)
 
 -- "What is written reads back": a command of phase one, a command of phase two, a response at once, a reply
 pub demand_2_sent_one : (s : Session) (b : Buffers) (word : WordOne) (arguments body out : List ℕ) → are_bytes body ≡ true → (outcome s b (send word arguments body out)).number ≡ 0 →
     OneReadsBack (one.line_sent word arguments) body (written_by s b (send word arguments body out))
-demand_2_sent_one = written_read.phase-one-written
+demand_2_sent_one = written_read.phase_one_written
 
 pub demand_2_sent_two : (s : Session) (b : Buffers) (word : WordTwo) (arguments body out : List ℕ) → are_bytes body ≡ true → (outcome s b (send_two word arguments body out)).number ≡ 0 →
     TwoReadsBack (line_sent word arguments) body (written_by s b (send_two word arguments body out))
-demand_2_sent_two = written_read.command-written
+demand_2_sent_two = written_read.command_written
 
 pub demand_2_at_once : (s : Session) (b : Buffers) (text out : List ℕ) (r : Response) → (outcome s b (receive_two text out)).number ≡ 0 →
     at_once s.screen (command_in s.machine text) ≡ writes r → ResponseReadsBack r [] (written_by s b (receive_two text out))
-demand_2_at_once = written_read.at-once-written
+demand_2_at_once = written_read.at_once_written
 
 pub demand_2_reply : (s : Session) (b : Buffers) (r : Response) (body out : List ℕ) → are_bytes body ≡ true → (outcome s b (reply r body out)).number ≡ 0 →
     ResponseReadsBack r body (written_by s b (reply r body out))
-demand_2_reply = written_read.response-written
+demand_2_reply = written_read.response_written
 
 -- "what is read would be written so again"
 pub demand_2_again : (t : List ℕ) (e n k : ℕ) → read_first t ≡ stanza e n k → ReceivedAgain t k
@@ -549,20 +549,20 @@ demand_2_response line r = (response_texts.line_read_lem line r, λ e. ap respon
 -- at both ends error stanza f i gives 6 exactly if file f has i or fewer
 pub in_file_six : (machine name : List ℕ) (screen : Bool) (cs : List CallWith) (b : Buffers) (line body : List ℕ) (f i : ℕ) → let s = after_each (opened machine name screen).session cs in
     SaysTwo s.machine line body (reports (header f i)) → MissingIn s b (in_two line body) ↔ (length (of_file f (view_of (first headers) s.tables b)) ≤ i)
-in_file_six machine name screen cs b line body f i = conditions.stanza-missing (after_each (opened machine name screen).session cs) b (made machine name screen cs) line body f i
+in_file_six machine name screen cs b line body f i = conditions.stanza_missing (after_each (opened machine name screen).session cs) b (made machine name screen cs) line body f i
 
 -- .. it passes 6 exactly if f i names one of the header stanzas: the n-th accepted, whose index is f and before which exactly i have index f
 pub in_file_passes : (machine name : List ℕ) (screen : Bool) (cs : List CallWith) (b : Buffers) (line body : List ℕ) (f i : ℕ) →
     let s = after_each (opened machine name screen).session cs in SaysTwo s.machine line body (reports (header f i)) →
     (MissingIn s b (in_two line body) → ⊥) ↔ ((n : ℕ) × Names (view_of (first headers) s.tables b) f i n)
 in_file_passes machine name screen cs b line body f i =
-    stanza_names.passes-six (after_each (opened machine name screen).session cs) b (made machine name screen cs) line body f i
+    stanza_names.passes_six (after_each (opened machine name screen).session cs) b (made machine name screen cs) line body f i
 
 -- .. so an accepted one names one
 pub in_file_names : (machine name : List ℕ) (screen : Bool) (cs : List CallWith) (b : Buffers) (c : Call) (line body : List ℕ) (f i : ℕ) →
     let s = after_each (opened machine name screen).session cs in brought_by c ≡ in_two line body → SaysTwo s.machine line body (reports (header f i)) →
     (outcome s b c).number ≡ 0 → (n : ℕ) × Names (view_of (first headers) s.tables b) f i n
-in_file_names machine name screen cs b = stanza_names.accepted-names (after_each (opened machine name screen).session cs) b (made machine name screen cs)
+in_file_names machine name screen cs b = stanza_names.accepted_names (after_each (opened machine name screen).session cs) b (made machine name screen cs)
 
 -- .. and naming is one to one, in any table: each stanza has one pair f i, and each f i with i less than what file f has is one stanza's
 pub in_file_one_to_one : (rows : List Row) → NamedOnce rows
@@ -677,12 +677,12 @@ any_calls_come_to e machine name screen before b cs h = any_calls.any_calls e (k
 pub any_calls_tables : (e : End) (machine name : List ℕ) (screen : Bool) (b : Buffers) (cs : List AnyCall) → All (Has e) cs → (k : AnyKind) →
     let s = (opened machine name screen).session in let z = after_any e (emptied s []) b cs in
     view_of k z.intake.session.tables z.buffers ≡ accepted_rows k s b (calls_all e (emptied s []) b cs)
-any_calls_tables = any_calls.any-tables
+any_calls_tables = any_calls.any_tables
 
 -- answers: commands and responses pair one to one and in order, where the conversation has ended
 pub any_calls_answers : (e : End) (machine name : List ℕ) (screen : Bool) (b : Buffers) (cs : List AnyCall) → All (Has e) cs → let s = (opened machine name screen).session in
     (after_any e (emptied s []) b cs).intake.session.phase ≡ Ended → Paired (events s b (calls_all e (emptied s []) b cs))
-any_calls_answers = any_calls.any-answers
+any_calls_answers = any_calls.any_answers
 
 -- what an error names
 pub any_calls_errors : (e : End) (machine name : List ℕ) (screen : Bool) (b : Buffers) (cs : List AnyCall) → All (Has e) cs → (k : ℕ) → let s = (opened machine name screen).session in
@@ -741,7 +741,7 @@ chunks_written = chunks_read.chunks_written
 -- its text; so never for an identity, nor in identity-v1, where add-recipient is no known command
 pub recipient_twice : (machine name : List ℕ) (screen : Bool) (cs : List CallWith) (b : Buffers) (c : Call) → let s = after_each (opened machine name screen).session cs in
     ((outcome s b c).number ≡ 20) ↔ (Judged s c × TwiceIn s b (brought_by c))
-recipient_twice machine name screen cs b c = twice.twenty-iff (after_each (opened machine name screen).session cs) b (made machine name screen cs) c
+recipient_twice machine name screen cs b c = twice.twenty_iff (after_each (opened machine name screen).session cs) b (made machine name screen cs) c
 
 -- "refused with 20, and the session closes"; the commands before it in its chunk stand (`demand_1_chunk`)
 pub recipient_twice_closes : (s : Session) (b : Buffers) (text : List ℕ) → let o = outcome s b (receive text) in o.number ≡ 20 → (o.session ≡ closed s) × (o.buffers ≡ b)
@@ -755,7 +755,7 @@ recipient_twice_stays = twice.twice_stays
 -- where buffers are handed on, the recipients' texts are pairwise different, behind any calls from an opening, refused ones included
 pub recipients_differ : (e : End) (machine name : List ℕ) (screen : Bool) (b : Buffers) (cs : List AnyCall) → All (Has e) cs →
     let z = after_any e (emptied (opened machine name screen).session []) b cs in Distinct (view_of (first recipients) z.intake.session.tables z.buffers)
-recipients_differ = any_calls.any-recipients
+recipients_differ = any_calls.any_recipients
 
 -- ---- Demand 3: "Order between strangers means nothing." One theorem about two lists of calls, for both phases and both machines
 

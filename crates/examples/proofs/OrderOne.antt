@@ -27,7 +27,7 @@ use Rattle.conversation.specs.PhaseTwo as two
 use Rattle.conversation.specs.Calls.{Call, state_of, after, Accepted}
 use Rattle.conversation.specs.Phases.{All, keep, Whole, one_part, Block, Phase, blocks_of, IsPhase, Supply, calls_of, Strand, of_kind, of_errors, of_one_file, is_in, Rearranged, SameTables, SameOutcome, texts_of}
 use Rattle.conversation.specs.Allowed.{rows_in, slots_of, bytes_of, Rising, Distinct, Allowed}
-use Rattle.conversation.proofs.Laws.AllowedOne.{accepted-iff, accepted-tables}
+use Rattle.conversation.proofs.Laws.AllowedOne.{accepted_iff, accepted_tables}
 use Rattle.conversation.proofs.Laws.OrderOne.{order_one}
 
 -- "-> add-recipient a", and the same with b
@@ -154,7 +154,7 @@ ordered b =
 -- so both are accepted
 pub both_accepted : Accepted start lent (calls given) × Accepted start lent (calls turned)
 both_accepted =
-    let a = (accepted-iff RecipientV1 plugin false lent none given given_phase).1 allowed in
+    let a = (accepted_iff RecipientV1 plugin false lent none given given_phase).1 allowed in
     (a, (ordered lent).accepted.0 a)
 
 -- and leave equal tables
@@ -164,7 +164,7 @@ same_tables = (ordered lent).tables both_accepted.0
 -- in which the recipients are a and b
 pub two_recipients : map (λ r. r.payload) (view_of (first recipients) (after start lent (calls turned)).session.tables (after start lent (calls turned)).buffers) ≡ (97 ∷ []) ∷ (98 ∷ []) ∷ []
 unfolding rows_in is_character value_of character_of encoded decoded ends_well wrapped unwrapped run is_graphic next verdict scan found is_word_byte before words same
-two_recipients = ap (map (λ r. r.payload)) ((accepted-tables RecipientV1 plugin false lent none turned turned_phase both_accepted.1).views recipients)
+two_recipients = ap (map (λ r. r.payload)) ((accepted_tables RecipientV1 plugin false lent none turned turned_phase both_accepted.1).views recipients)
 
 -- a recipients' buffer of 1 byte
 abbrev pub short : Buffers
@@ -174,5 +174,5 @@ short = kinds.buffers_of (buffers_of (0 ∷ []) (0 ∷ []) (replicate 16 0) []) 
 pub both_refused : (Accepted start short (calls given) → ⊥) × (Accepted start short (calls turned) → ⊥)
 unfolding rows_in bytes_of is_character value_of character_of encoded decoded ends_well wrapped unwrapped run is_graphic next verdict scan found is_word_byte before words same
 both_refused =
-    let no : Accepted start short (calls given) → ⊥ = λ a. omega (arith, ((accepted-iff RecipientV1 plugin false short none given given_phase).0 a).bytes recipients) in
+    let no : Accepted start short (calls given) → ⊥ = λ a. omega (arith, ((accepted_iff RecipientV1 plugin false short none given given_phase).0 a).bytes recipients) in
     (no, λ a. no ((ordered short).accepted.1 a))

@@ -206,19 +206,19 @@ taken (suc n) (x ∷ l) = omega (arith, taken n l)
 
 module _ (s : Session) (b : Buffers) where
   -- a refused call writes nothing
-  unless-refused : (c : Call) → ((outcome s b c).number ≡ 0 → (outcome s b c).size ≤ 16) → length (written_by s b c) ≤ 16
-  unless-refused c h =
+  unless_refused : (c : Call) → ((outcome s b c).number ≡ 0 → (outcome s b c).size ≤ 16) → length (written_by s b c) ≤ 16
+  unless_refused c h =
       let few : (outcome s b c).size ≤ 16 =
       cases (eqb (outcome s b c).number 0) (λ e. h (eqb-true (outcome s b c).number 0 e)) (λ e. omega (arith, (refusal s b c (eqb-false (outcome s b c).number 0 e)).size)) in
       omega (arith, few, taken (outcome s b c).size (outcome s b c).output)
 
-  command-short : (text big : List ℕ) → length (written_by s b (receive_two text big)) ≤ 16
-  command-short text big =
-      unless-refused (receive_two text big)
+  command_short : (text big : List ℕ) → length (written_by s b (receive_two text big)) ≤ 16
+  command_short text big =
+      unless_refused (receive_two text big)
       (λ z. omega (arith, (accepted s b (receive_two text big) z).written.size, at_once_short s.screen (command_two s.machine (line_in text) (body_in text))))
 
   reply_short : (big : List ℕ) → length (written_by s b (reply Ok [] big)) ≤ 16
-  reply_short big = unless-refused (reply Ok [] big) (λ z. omega (arith, (accepted s b (reply Ok [] big) z).written.size, ok_short))
+  reply_short big = unless_refused (reply Ok [] big) (λ z. omega (arith, (accepted s b (reply Ok [] big) z).written.size, ok_short))
 
 -- a command, or an ok of the host
 data Heard : Type 0 where
@@ -232,7 +232,7 @@ heard ok = reply Ok [] (outs 0)
 all_enough : (s : Session) (b : Buffers) (hs : List Heard) → LongEnough s b (map heard hs)
 unfolding LongEnough
 all_enough s b [] = tt
-all_enough s b (command text ∷ hs) = (command-short s b text, all_enough _ _ hs)
+all_enough s b (command text ∷ hs) = (command_short s b text, all_enough _ _ hs)
 all_enough s b (ok ∷ hs) = (reply_short s b, all_enough _ _ hs)
 
 pub given_enough : LongEnough start.session start.buffers (calls given)

@@ -258,7 +258,7 @@ fn settle_dropped(so_far: Received, refusal: Refusal, left: usize) -> Received
 // Bytes are kept back behind the text that waits.
 fn settle_back(so_far: Received, awaited: &[u8], rest: &[u8], input: &mut [u8]) -> Received
     ensures outcome { (e : End) (xs hs : List (List ℕ)) (w : List ℕ) (b : Buffers) →
-        MaySettle e so_far.session.phase keeps-back awaited.now rest.now input.old →
+        MaySettle e so_far.session.phase keeps_back awaited.now rest.now input.old →
         Says e result xs hs input.old input.new w b (behind so_far.count (last_said so_far.last) w
         (taken_text e (session_of so_far.session xs hs) b awaited.now rest.now)) }
     ensures rest { (result.written ≡ so_far.written) × (result.session.name ≡ so_far.session.name) }

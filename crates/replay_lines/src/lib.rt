@@ -1,5 +1,6 @@
 // What a line of the replay program's script asks for: its words, and the request that they make at the end that is open. It makes no call.
 #![tactic(auto)]
+
 mod commands;
 mod lengths;
 mod parts;

@@ -1,6 +1,7 @@
 // The script of the replay program: its lines, its words with their escapes, read and printed, its numbers, its choices of words, and which call a line makes.
 // It knows nothing of files and of what the calls do.
 #![tactic(auto)]
+
 mod calls;
 mod choices;
 mod escaping;

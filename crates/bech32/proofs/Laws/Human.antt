@@ -12,32 +12,32 @@ use Rattle.refusal.specs.Pick.{pick}
 use Rattle.refusal.specs.Run.{all}
 use Rattle.refusal.specs.Same.{same}
 use Rattle.refusal.proofs.Laws.Booleans.{cases, and_true, and_assoc, and_true_right, and_false_right}
-use Rattle.refusal.proofs.Laws.Lists.{drop-one, front-store, front_whole, put_rest, part-rest, overwrite-part}
+use Rattle.refusal.proofs.Laws.Lists.{drop_one, front_store, front_whole, put_rest, part_rest, overwrite_part}
 use Rattle.refusal.proofs.Laws.Same.{same_refl, same_length}
 use Rattle.symbols.specs.Charset.{lower, upper}
 use Rattle.bech32.specs.Text.{is_name_byte, is_name, Form, human_part, in_case, is_human}
 use Rattle.bech32.specs.Calls.{padded}
 use Rattle.bech32.specs.Steps.{shortened, between, name_between, name_or, cased_byte}
-use Rattle.symbols.proofs.Laws.Maps.{map_at, map-take, map-drop}
+use Rattle.symbols.proofs.Laws.Maps.{map_at, map_take, map_drop}
 
 -- ---- byte by byte
 
 -- one byte on, where each is tested
 pub all_one : (class : ℕ → Bool) (t : List ℕ) (i : ℕ) → i < length t → all class (drop i t) ≡ (class (get_or t i 0) && all class (drop (i + 1) t))
 unfolding all
-all_one class t i h = ap (all class) (drop-one t i 0 h)
+all_one class t i h = ap (all class) (drop_one t i 0 h)
 
 -- one byte on, where a text in lower case is compared
 pub lower_same_one : (t w : List ℕ) (i : ℕ) → i < length t → i < length w →
     same (map lower (drop i t)) (drop i w) ≡ (eqb (lower (get_or t i 0)) (get_or w i 0) && same (map lower (drop (i + 1) t)) (drop (i + 1) w))
 unfolding same
-lower_same_one t w i h k = rw (drop-one t i 0 h, drop-one w i 0 k)
+lower_same_one t w i h k = rw (drop_one t i 0 h, drop_one w i 0 k)
 
 -- one byte more of a mapped list, stored behind those that are there
 pub map_store : (f : ℕ → ℕ) (t o o₀ : List ℕ) (i x : ℕ) → o ≡ take i (map f t) ++ drop i o₀ → i < length t → length t ≤ length o₀ → x ≡ f (get_or t i 0) →
     set o i x ≡ take (i + 1) (map f t) ++ drop (i + 1) o₀
 map_store f t o o₀ i x e h l q =
-    ap (set o i) (q ∙ sym (map_at f t i h)) ∙ front-store (map f t) o o₀ i 0 e (rw (length-map t f) h) (rw (length-map t f) l)
+    ap (set o i) (q ∙ sym (map_at f t i h)) ∙ front_store (map f t) o o₀ i 0 e (rw (length-map t f) h) (rw (length-map t f) l)
 
 -- all of it
 pub map_whole : (f : ℕ → ℕ) (t o o₀ : List ℕ) (i : ℕ) → o ≡ take i (map f t) ++ drop i o₀ → i ≡ length t → o ≡ map f t ++ drop (length t) o₀
@@ -130,9 +130,9 @@ pub name_is : (f b h : List ℕ) → length f + length b ≤ length h →
 name_is f b h l =
     let w = map lower h in
     let n : length w ≡ length h = length-map h lower in
-    let m : between f b w ≡ map lower (between f b h) = rw (n, map-drop lower (length f) h, map-take lower (length h - length f - length b) (drop (length f) h)) in
+    let m : between f b w ≡ map lower (between f b h) = rw (n, map_drop lower (length f) h, map_take lower (length h - length f - length b) (drop (length f) h)) in
     let s : same w (f ++ between f b w ++ b) ≡ (same (map lower (take (length f) h)) f && same (map lower (drop (length h - length b) h)) b) =
-    between_same f b w (omega arith) ∙ rw (n, map-take lower (length f) h, map-drop lower (length h - length b) h) in
+    between_same f b w (omega arith) ∙ rw (n, map_take lower (length f) h, map_drop lower (length h - length b) h) in
     ap (λ x. pick (x && is_name (between f b w)) (between f b w) []) s
     ∙ ap (λ x. pick (same (map lower (take (length f) h)) f && same (map lower (drop (length h - length b) h)) b && is_name x) x []) m
     ∙ name_or_lem (same (map lower (take (length f) h)) f && same (map lower (drop (length h - length b) h)) b) (map lower (between f b h))
@@ -146,11 +146,11 @@ name_form k h = refl
 
 -- byte by byte
 pub case_map : (k : Form) (l : List ℕ) → in_case k l ≡ map (cased_byte k) l
-case_map k l = by-case k.capital l
+case_map k l = by_case k.capital l
   where
-    by-case : (c : Bool) (l : List ℕ) → pick c (map upper l) l ≡ map (λ b. pick c (upper b) b) l
-    by-case true l = refl
-    by-case false l = sym (map-id l)
+    by_case : (c : Bool) (l : List ℕ) → pick c (map upper l) l ≡ map (λ b. pick c (upper b) b) l
+    by_case true l = refl
+    by_case false l = sym (map-id l)
 
 -- as long as in lower case
 pub case_length : (k : Form) (l : List ℕ) → length (in_case k l) ≡ length l
@@ -167,8 +167,8 @@ pub word_behind : (k : Form) (a w o o₀ part : List ℕ) (n : ℕ) → o ≡ in
 word_behind k a w o o₀ part n e h p =
     let m : length (in_case k a ++ in_case k w) ≡ n + length w = length-append (in_case k a) (in_case k w) ∙ ap₂ (λ x y. x + y) (case_length k a ∙ sym h) (case_length k w) in
     put_rest n o part
-    ∙ ap (λ x. take n o ++ x) (p ∙ ap₂ (λ x y. in_case k w ++ drop x y) (sym (case_length k w)) (part-rest n o))
-    ∙ overwrite-part o o₀ (in_case k a) (in_case k w) n e (case_length k a ∙ sym h)
+    ∙ ap (λ x. take n o ++ x) (p ∙ ap₂ (λ x y. in_case k w ++ drop x y) (sym (case_length k w)) (part_rest n o))
+    ∙ overwrite_part o o₀ (in_case k a) (in_case k w) n e (case_length k a ∙ sym h)
     ∙ ap₂ (λ x y. x ++ drop y o₀) (sym (case_append k a w)) m
 
 -- how long the human part of a name is

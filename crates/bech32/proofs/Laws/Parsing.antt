@@ -14,7 +14,7 @@ use Rattle.refusal.specs.Run.{all, run, is_graphic}
 use Rattle.refusal.specs.Same.{same}
 use Rattle.refusal.proofs.Laws.Booleans.{cases, and_true, true_and, and_assoc, and_true_right, and_false_right}
 use Rattle.refusal.proofs.Laws.Pick.{pick_same}
-use Rattle.refusal.proofs.Laws.Lists.{drop-one}
+use Rattle.refusal.proofs.Laws.Lists.{drop_one}
 use Rattle.refusal.proofs.Laws.Run.{all_append, all_more}
 use Rattle.symbols.specs.Charset.{value_of, is_upper, lower}
 use Rattle.symbols.specs.Checksum.{are_symbols, polymod, expanded}
@@ -27,7 +27,7 @@ use Rattle.bech32.specs.Steps.{name_or, has_head, name_at, tail_number}
 use Rattle.symbols.proofs.Laws.Charset.{upper_bounds}
 use Rattle.symbols.proofs.Laws.Checksum.{polymod_append}
 use Rattle.symbols.proofs.Laws.Folds.{closes_is}
-use Rattle.symbols.proofs.Laws.Maps.{map-take, map-drop, map-map, run-map}
+use Rattle.symbols.proofs.Laws.Maps.{map_take, map_drop, map_map, run_map}
 use Rattle.bech32.proofs.Laws.Text.{parse_cases}
 
 -- one byte more of a class
@@ -66,7 +66,7 @@ separator_le (b ∷ t) = cases (all is_not_one t) (λ a. cases (eqb b 49) (λ e.
 -- one byte more, from the right
 pub none_more : (t : List ℕ) (i : ℕ) → i < length t → (get_or t i 0 ≡ 49 → ⊥) → all is_not_one (drop (i + 1) t) ≡ true → all is_not_one (drop i t) ≡ true
 unfolding all
-none_more t i h n a = ap (all is_not_one) (drop-one t i 0 h) ∙ rw (ne_eqb (get_or t i 0) 49 n) a
+none_more t i h n a = ap (all is_not_one) (drop_one t i 0 h) ∙ rw (ne_eqb (get_or t i 0) 49 n) a
 
 -- several bytes more
 pub none_before : (n : ℕ) (t : List ℕ) (i : ℕ) → all is_not_one (take n (drop i t)) ≡ true → all is_not_one (drop (i + n) t) ≡ true → all is_not_one (drop i t) ≡ true
@@ -96,10 +96,10 @@ separator_lower (b ∷ t) = rw (lower_ones t, lower_one b, separator_lower t, le
 -- ---- the parts of the lower-case form
 
 pub human_lower : (t : List ℕ) → human_in (map lower t) ≡ map lower (take (separator t) t)
-human_lower t = ap (λ n. take n (map lower t)) (separator_lower t) ∙ map-take lower (separator t) t
+human_lower t = ap (λ n. take n (map lower t)) (separator_lower t) ∙ map_take lower (separator t) t
 
 values_part : (n : ℕ) (t : List ℕ) → map value_of (drop n (map lower t)) ≡ map value_at (drop n t)
-values_part n t = ap (map value_of) (map-drop lower n t) ∙ map-map value_of lower (drop n t)
+values_part n t = ap (map value_of) (map_drop lower n t) ∙ map_map value_of lower (drop n t)
 
 pub values_lower : (t : List ℕ) → values_in (map lower t) ≡ map value_at (drop (separator t + 1) t)
 values_lower t = ap (λ n. map value_of (drop (n + 1) (map lower t))) (separator_lower t) ∙ values_part (separator t + 1) t
@@ -145,7 +145,7 @@ payload_lower t =
     let s = separator t in
     let d = drop (s + 1) t in
     let n : length (map value_at d) - 6 ≡ length t - 6 - (s + 1) = omega (arith, length-map d value_at, length-drop (s + 1) t) in
-    ap (λ vs. take (length vs - 6) vs) (values_lower t) ∙ ap (λ m. take m (map value_at d)) n ∙ map-take value_at (length t - 6 - (s + 1)) d
+    ap (λ vs. take (length vs - 6) vs) (values_lower t) ∙ ap (λ m. take m (map value_at d)) n ∙ map_take value_at (length t - 6 - (s + 1)) d
 
 -- ---- the tests in the order of the code
 
@@ -216,11 +216,11 @@ pub tail_whole : (t : List ℕ) → separator t + 7 ≤ length t → tail_number
 tail_whole t h e =
     tail_lower t
     ∙ ap₂ ◌&&◌ (le-leb 7 (length t - separator t) (omega arith))
-    (by-test (are_symbols (values_in (map lower t))) (pick (is_closed (map lower t)) (pick (is_whole (payload_in (map lower t))) 0 22) 21) e)
+    (by_test (are_symbols (values_in (map lower t))) (pick (is_closed (map lower t)) (pick (is_whole (payload_in (map lower t))) 0 22) 21) e)
   where
-    by-test : (a : Bool) (n : ℕ) → pick a n 16 ≡ 0 → a ≡ true
-    by-test true n e = refl
-    by-test false n e = absurd (omega arith)
+    by_test : (a : Bool) (n : ℕ) → pick a n 16 ≡ 0 → a ≡ true
+    by_test true n e = refl
+    by_test false n e = absurd (omega arith)
 
 -- ---- the answers
 
@@ -244,8 +244,8 @@ module _ (k : Form) (t : List ℕ) (e : has_head k t ≡ true) where
       (λ f g. rw (sym characters ∙ f, g))
       (λ f. rw (sym characters ∙ f))
 
-  pub mark-is : (plugin : List ℕ) → mark_of (parse k t) plugin ≡ pick (same (map lower plugin) (name_at k t)) (tail_number (map lower t)) 16
-  mark-is plugin =
+  pub mark_is : (plugin : List ℕ) → mark_of (parse k t) plugin ≡ pick (same (map lower plugin) (name_at k t)) (tail_number (map lower t)) 16
+  mark_is plugin =
       parse_cases (λ p. mark_of p plugin ≡ pick (same (map lower plugin) (name_at k t)) (tail_number (map lower t)) 16) k t
       (λ f g h. rw (e, sym characters ∙ f, g, h))
       (λ f g h. rw (e, sym characters ∙ f, g, h))
@@ -292,4 +292,4 @@ place_graphic t h = sym (min-eq_left (omega arith))
 -- else the least of two
 pub place_least : (t : List ℕ) (b : ℕ) → b ≡ separator t + 1 + run (λ v. ltb v 32) (map value_at (drop (separator t + 1) t)) → place_in t ≡ min (run is_graphic t) b
 unfolding place_in
-place_least t b e = ap (λ n. min (run is_graphic t) (separator t + 1 + n)) (sym (run-map value_at (λ v. ltb v 32) (drop (separator t + 1) t))) ∙ ap (min (run is_graphic t)) (sym e)
+place_least t b e = ap (λ n. min (run is_graphic t) (separator t + 1 + n)) (sym (run_map value_at (λ v. ltb v 32) (drop (separator t + 1) t))) ∙ ap (min (run is_graphic t)) (sym e)

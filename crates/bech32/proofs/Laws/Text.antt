@@ -15,7 +15,7 @@ use Rattle.refusal.specs.Run.{all}
 use Rattle.refusal.specs.Same.{same}
 use Rattle.refusal.proofs.Laws.Below.{below}
 use Rattle.refusal.proofs.Laws.Booleans.{T_true, and_true, true_and, cases}
-use Rattle.refusal.proofs.Laws.Run.{all_append, all-wider}
+use Rattle.refusal.proofs.Laws.Run.{all_append, all_wider}
 use Rattle.refusal.proofs.Laws.Same.{same_refl, same_eq}
 use Rattle.symbols.specs.Charset.{value_of, character_of, is_upper, is_lower, lower, upper}
 use Rattle.symbols.specs.Checksum.{are_symbols, polymod, checksum, expanded}
@@ -154,23 +154,23 @@ human_ok k name hn =
 
 -- the parts of a text in lower case
 module _ (h vs : List ℕ) (a : are_symbols vs ≡ true) where
-  sep-at : separator (h ++ 49 ∷ map character_of vs) ≡ length h
-  sep-at = separator_is h (map character_of vs) (characters_plain vs a).0
+  sep_at : separator (h ++ 49 ∷ map character_of vs) ≡ length h
+  sep_at = separator_is h (map character_of vs) (characters_plain vs a).0
 
-  human-in : human_in (h ++ 49 ∷ map character_of vs) ≡ h
-  human-in = ap (λ n. take n (h ++ 49 ∷ map character_of vs)) sep-at ∙ take-append_seam h (49 ∷ map character_of vs)
+  human_in_lem : human_in (h ++ 49 ∷ map character_of vs) ≡ h
+  human_in_lem = ap (λ n. take n (h ++ 49 ∷ map character_of vs)) sep_at ∙ take-append_seam h (49 ∷ map character_of vs)
 
-  values-in : values_in (h ++ 49 ∷ map character_of vs) ≡ vs
-  values-in =
+  values_in_lem : values_in (h ++ 49 ∷ map character_of vs) ≡ vs
+  values_in_lem =
       let n : length (h ++ (49 ∷ [])) ≡ length h + 1 = length-append h (49 ∷ []) in
       let e : h ++ 49 ∷ map character_of vs ≡ (h ++ (49 ∷ [])) ++ map character_of vs = sym (append_assoc h (49 ∷ []) (map character_of vs)) in
-      ap (λ m. map value_of (drop (m + 1) (h ++ 49 ∷ map character_of vs))) sep-at
+      ap (λ m. map value_of (drop (m + 1) (h ++ 49 ∷ map character_of vs))) sep_at
       ∙ ap (λ l. map value_of (drop (length h + 1) l)) e ∙ ap (map value_of) (drop_at (h ++ (49 ∷ [])) (map character_of vs) (length h + 1) n) ∙ values_characters vs a
 
 -- a name is in lower case
 pub name_lowered : (name : List ℕ) → is_name name ≡ true → map lower name ≡ name
 unfolding is_name
-name_lowered name hn = lower_plains name (all-wider is_name_byte (λ b. not (is_upper b)) name_byte_plain name (and_true (leb 1 (length name) && leb (length name) 32) (all is_name_byte name) hn).1)
+name_lowered name hn = lower_plains name (all_wider is_name_byte (λ b. not (is_upper b)) name_byte_plain name (and_true (leb 1 (length name) && leb (length name) 32) (all is_name_byte name) hn).1)
 
 -- no letter of a human part is in upper case
 human_plain : (k : Form) → Plain k → (name : List ℕ) → all is_name_byte name ≡ true → no_upper (human_part k name) ≡ true
@@ -178,7 +178,7 @@ human_plain k pl name hn =
     all_append (λ b. not (is_upper b)) (k.front ++ name) k.back
     ∙ true_and (no_upper (k.front ++ name)) (no_upper k.back)
     (all_append (λ b. not (is_upper b)) k.front name
-    ∙ true_and (no_upper k.front) (no_upper name) pl.front (all-wider is_name_byte (λ b. not (is_upper b)) name_byte_plain name hn))
+    ∙ true_and (no_upper k.front) (no_upper name) pl.front (all_wider is_name_byte (λ b. not (is_upper b)) name_byte_plain name hn))
     pl.back
 
 -- put into the form's case and lowered, it is what it was
@@ -204,10 +204,10 @@ tail_is h v s =
     let a : are_symbols (v ++ c) ≡ true = all_append (λ d. ltb d 32) v c ∙ true_and (are_symbols v) (are_symbols c) s (six_lt _) in
     let l : List ℕ = plain_text h v in
     let n : length l ≡ length h + suc (length (map character_of (v ++ c))) = length-append h (49 ∷ map character_of (v ++ c)) in
-    let e = values-in h (v ++ c) a in
+    let e = values_in_lem h (v ++ c) a in
     true_and (ltb (separator l) (length l) && leb 6 (length (values_in l))) (are_symbols (values_in l))
     (true_and (ltb (separator l) (length l)) (leb 6 (length (values_in l)))
-    (lt-ltb (separator l) (length l) (omega (arith, n, sep-at h (v ++ c) a)))
+    (lt-ltb (separator l) (length l) (omega (arith, n, sep_at h (v ++ c) a)))
     (le-leb 6 (length (values_in l)) (omega (arith, ap length e, length-append v c))))
     (ap are_symbols e ∙ a)
 
@@ -219,19 +219,19 @@ closed_is h v s =
     let a : are_symbols (v ++ c) ≡ true = all_append (λ d. ltb d 32) v c ∙ true_and (are_symbols v) (are_symbols c) s (six_lt _) in
     let l : List ℕ = plain_text h v in
     let q : polymod 1 (expanded h ++ (v ++ c)) ≡ 1 = ap (polymod 1) (sym (append_assoc (expanded h) v c)) ∙ polymod_append (expanded h ++ v) c 1 ∙ checksum_closes (polymod 1 (expanded h ++ v)) in
-    eq-eqb (polymod 1 (expanded (human_in l) ++ values_in l)) 1 (ap₂ (λ x y. polymod 1 (expanded x ++ y)) (human-in h (v ++ c) a) (values-in h (v ++ c) a) ∙ q)
+    eq-eqb (polymod 1 (expanded (human_in l) ++ values_in l)) 1 (ap₂ (λ x y. polymod 1 (expanded x ++ y)) (human_in_lem h (v ++ c) a) (values_in_lem h (v ++ c) a) ∙ q)
 
 -- the payload's symbols are those before the checksum
 payload_is : (h v : List ℕ) → are_symbols v ≡ true → payload_in (plain_text h v) ≡ v
 payload_is h v s =
     let c = checksum (polymod 1 (expanded h ++ v)) in
     let a : are_symbols (v ++ c) ≡ true = all_append (λ d. ltb d 32) v c ∙ true_and (are_symbols v) (are_symbols c) s (six_lt _) in
-    ap (λ x. take (length x - 6) x) (values-in h (v ++ c) a) ∙ take_at v c (length (v ++ c) - 6) (omega (arith, length-append v c))
+    ap (λ x. take (length x - 6) x) (values_in_lem h (v ++ c) a) ∙ take_at v c (length (v ++ c) - 6) (omega (arith, length-append v c))
 
 human_is : (h v : List ℕ) → are_symbols v ≡ true → human_in (plain_text h v) ≡ h
 human_is h v s =
     let c = checksum (polymod 1 (expanded h ++ v)) in
-    human-in h (v ++ c) (all_append (λ d. ltb d 32) v c ∙ true_and (are_symbols v) (are_symbols c) s (six_lt _))
+    human_in_lem h (v ++ c) (all_append (λ d. ltb d 32) v c ∙ true_and (are_symbols v) (are_symbols c) s (six_lt _))
 
 -- a text passes each test
 record Passed (k : Form) (t : List ℕ) : Type 0 where

@@ -12,7 +12,7 @@ use native.Mathlib.Omega.{arith}
 use Rattle.refusal.specs.Run.{all}
 use Rattle.refusal.proofs.Laws.Booleans.{and_true, true_and, and_false_right, cases}
 use Rattle.refusal.proofs.Laws.Run.{all_append}
-use Rattle.refusal.proofs.Laws.Lists.{drop-one, part-rest, put_rest, overwrite-part}
+use Rattle.refusal.proofs.Laws.Lists.{drop_one, part_rest, put_rest, overwrite_part}
 use Rattle.symbols.specs.Charset.{character_of, is_lower, lower, upper}
 use Rattle.symbols.specs.Checksum.{are_symbols, polymod, checksum, expanded}
 use Rattle.bech32.specs.Text.{Form, in_case, human_part, text_of, is_name, is_name_byte}
@@ -27,7 +27,7 @@ use Rattle.symbols.proofs.Laws.Checksum.{six_lt, polymod_append}
 use Rattle.bech32.proofs.Laws.Text.{Plain, human_lowered}
 use Rattle.symbols.proofs.Laws.Regroup.{symbols_small}
 use Rattle.symbols.proofs.Laws.Groups.{symbols_length}
-use Rattle.symbols.proofs.Laws.Maps.{map-map}
+use Rattle.symbols.proofs.Laws.Maps.{map_map}
 use Rattle.bech32.proofs.Laws.Human.{case_map, case_length, case_append, map_store, human_length}
 
 -- what has not been stored yet is as it was
@@ -43,7 +43,7 @@ pub translated : (k : Form) (o o₀ : List ℕ) (i : ℕ) (x : ℕ) → o ≡ ta
 translated k o o₀ i x e h q =
     let f : ℕ → ℕ = λ v. cased_byte k (character_of v) in
     let w = in_case k (map character_of o₀) in
-    let m : w ≡ map f o₀ = case_map k (map character_of o₀) ∙ map-map (cased_byte k) character_of o₀ in
+    let m : w ≡ map f o₀ = case_map k (map character_of o₀) ∙ map_map (cased_byte k) character_of o₀ in
     let n : length w ≡ length o₀ = ap length m ∙ length-map o₀ f in
     rw m (map_store f o₀ o o₀ i x (rw m at e) h (omega arith) (q ∙ ap f (front_next w o o₀ i e (omega arith))))
 
@@ -53,8 +53,8 @@ pub put_behind : (a o₀ front content part : List ℕ) (k m : ℕ) → a ≡ fr
 put_behind a o₀ front content part k m e h n p =
     let l : length (front ++ content) ≡ k + m = omega (arith, length-append front content) in
     put_rest k a part
-    ∙ ap (λ x. take k a ++ x) (p ∙ ap (λ d. content ++ drop m d) (part-rest k a) ∙ ap (λ j. content ++ drop j (drop k a)) (sym n))
-    ∙ overwrite-part a o₀ front content k e h ∙ ap (λ j. (front ++ content) ++ drop j o₀) l
+    ∙ ap (λ x. take k a ++ x) (p ∙ ap (λ d. content ++ drop m d) (part_rest k a) ∙ ap (λ j. content ++ drop j (drop k a)) (sym n))
+    ∙ overwrite_part a o₀ front content k e h ∙ ap (λ j. (front ++ content) ++ drop j o₀) l
 
 -- what a slice of bytes is known to hold
 pub are_bytes_lem : (l : List ℕ) → ((i : ℕ) → get_or l i 0 < 256) → are_bytes l ≡ true
@@ -135,7 +135,7 @@ assembled k pl name payload a o₀ part m n c hn e₀ q₀ z h r p₀ =
     let l : length f ≡ n = case_length k (human_part k name) ∙ sym q in
     let g : length (f ++ (49 ∷ [])) ≡ n + 1 = omega (arith, length-append f (49 ∷ [])) in
     let s : b ≡ (f ++ (49 ∷ [])) ++ drop (n + 1) o₀ =
-    ap (λ x. set x n 49) (e ∙ ap (λ x. f ++ x) (drop-one o₀ n 0 h)) ∙ set_at f (get_or o₀ n 0) (drop (n + 1) o₀) 49 n l ∙ sym (append_snoc f 49 (drop (n + 1) o₀)) in
+    ap (λ x. set x n 49) (e ∙ ap (λ x. f ++ x) (drop_one o₀ n 0 h)) ∙ set_at f (get_or o₀ n 0) (drop (n + 1) o₀) 49 n l ∙ sym (append_snoc f 49 (drop (n + 1) o₀)) in
     let t : n + 1 + j ≡ length (text_of k name payload) = omega (arith, text_length k name payload) in
     put_behind b o₀ (f ++ (49 ∷ [])) l₀ part (n + 1) j s g (characters_length k (human_part k name) payload) p
     ∙ ap₂ (λ x y. x ++ drop y o₀) (sym (text_parts k name payload)) t
@@ -143,8 +143,8 @@ assembled k pl name payload a o₀ part m n c hn e₀ q₀ z h r p₀ =
 -- ---- the three answers
 
 module _ (k : Form) (name payload o : List ℕ) where
-  pub writes-not : is_writable k name payload ≡ false → (refused 17 ≡ write_answer k name payload o) × (o ≡ write_buffer k name payload o)
-  writes-not e = rw e (refl, refl)
+  pub writes_not : is_writable k name payload ≡ false → (refused 17 ≡ write_answer k name payload o) × (o ≡ write_buffer k name payload o)
+  writes_not e = rw e (refl, refl)
 
   pub writes_short : is_writable k name payload ≡ true → length o < length (text_of k name payload) → (refused 15 ≡ write_answer k name payload o) × (o ≡ write_buffer k name payload o)
   writes_short e h = rw (e, lt-ltb (length o) (length (text_of k name payload)) h) (refl, refl)

@@ -21,14 +21,14 @@ use Rattle.conversation.specs.Phases.{All, LongEnough, JustReceived}
 use Rattle.conversation.specs.Shapes.{AcceptedTo, ShapedSent, FrontSent, AllowedSentSoFar}
 use Rattle.conversation.proofs.Laws.Reached.{just_received_done}
 use Rattle.conversation.proofs.Laws.Runs.{accepted_append}
-use Rattle.conversation.proofs.Laws.ShapesSent.{shaped-sent-iff, front-sent-iff}
+use Rattle.conversation.proofs.Laws.ShapesSent.{shaped_sent_iff, front_sent_iff}
 use Rattle.chunks.specs.Cutting.{Rest, unfinished, impossible, bytes_of, cut}
 use Rattle.chunks.specs.Taking.{End, plugin, Turn, reads, drops, keeps_back, turn_at, stanza_call, awaited_behind, Intake, Taken, last_in, no_more, emptied, one_more, joined, taken_rest, taken_by, taken_all}
 use Rattle.chunks.specs.Chunks.{taken, chunked, finished}
 use Rattle.chunks.specs.Uncut.{chunk, reply, outcome_of, is_closed}
 use Rattle.chunks.specs.Reached.{AnyCall, piece, sends_one, sends_two, finishes, Has, intake_after}
 use Rattle.chunks.specs.AnyCalls.{buffers_after, number_at, after_any, numbers_any, InTurn, rest_calls, turn_calls, stanza_calls, calls_in, calls_all}
-use Rattle.chunks.proofs.Laws.AnyCalls.{impossible_as, call_as, pick_all, stanzas-all, any_calls}
+use Rattle.chunks.proofs.Laws.AnyCalls.{impossible_as, call_as, pick_all, stanzas_all, any_calls}
 use Rattle.chunks.proofs.Laws.Cases.{is_turned, chunk_cases}
 use Rattle.chunks.proofs.Laws.Cutting.{IsRest, cut_parts}
 use Rattle.chunks.proofs.Laws.Finish.{turn_not_waiting}
@@ -190,7 +190,7 @@ call_plugin : (i : Intake) (b : Buffers) (c : AnyCall) → Has plugin c → All 
 unfolding All
 call_plugin i b (piece (chunk bytes out)) h =
     let c = cut i.reading i.kept bytes in
-    pick_all IsPlugin plugin plugin_stanza (eqb (outcome_of plugin i b (chunk bytes out)).number 15) [] (stanza_calls plugin i.session b c.texts c.rest) tt (stanzas-all IsPlugin plugin plugin_stanza c.texts i.session b c.rest)
+    pick_all IsPlugin plugin plugin_stanza (eqb (outcome_of plugin i b (chunk bytes out)).number 15) [] (stanza_calls plugin i.session b c.texts c.rest) tt (stanzas_all IsPlugin plugin plugin_stanza c.texts i.session b c.rest)
 call_plugin i b (piece (reply r body out)) h = tt
 call_plugin i b (sends_one word arguments body out) h = absurd h
 call_plugin i b (sends_two word arguments body out) h = (refl, tt)
@@ -213,7 +213,7 @@ pub plugin_exact : (s : Session) (b : Buffers) → JustReceived s → (cs : List
 plugin_exact s b j cs h v l =
     let i = emptied s [] in
     let x = any_accepted_to Ended i b cs (received_keeps s) h v in
-    let y = shaped-sent-iff s b (just_received_done s j) (calls_all plugin i b cs) (calls_plugin i b cs h) l in
+    let y = shaped_sent_iff s b (just_received_done s j) (calls_all plugin i b cs) (calls_plugin i b cs h) l in
     (λ z. y.0 (x.0 z), λ z. x.1 (y.1 z))
 
 -- .. and accepted but not to its end, exactly those cut before done that are allowed so far
@@ -224,5 +224,5 @@ pub plugin_so_far : (s : Session) (b : Buffers) → JustReceived s → (cs : Lis
 plugin_so_far s b j cs h v l q n =
     let i = emptied s [] in
     let x = any_accepted_to q i b cs (received_keeps s) h v in
-    let y = front-sent-iff s b (just_received_done s j) (calls_all plugin i b cs) (calls_plugin i b cs h) l q n in
+    let y = front_sent_iff s b (just_received_done s j) (calls_all plugin i b cs) (calls_plugin i b cs h) l q n in
     (λ z. y.0 (x.0 z), λ z. x.1 (y.1 z))

@@ -40,7 +40,7 @@ use Rattle.chunks.specs.Reached.{AnyCall, piece, sends_one, sends_two, finishes,
 use Rattle.chunks.specs.AnyCalls.{buffers_after, written_at, after_any, written_any, rest_calls, turn_calls, stanza_calls, calls_in, calls_all, ComesTo}
 use Rattle.chunks.proofs.Laws.Calls.{last_does}
 use Rattle.chunks.proofs.Laws.Cases.{drops_not_reads, keeps_not_reads, held, is_turned, chunk_cases, answering, reply_cases}
-use Rattle.chunks.proofs.Laws.Cut.{last-held, reply_alone_lem, reply_room}
+use Rattle.chunks.proofs.Laws.Cut.{last_held, reply_alone_lem, reply_room}
 use Rattle.chunks.proofs.Laws.Cutting.{IsRest, cut_parts, none_front}
 use Rattle.chunks.proofs.Laws.Finish.{turn_not_waiting}
 use Rattle.chunks.proofs.Laws.Orders.{joined_append, written_append}
@@ -75,7 +75,7 @@ as_one s b c s' b' v p q r = record { session = p; buffers = q; written = r ∙ 
 -- bytes that no stanza begins with
 pub impossible_as : (e : End) (s : Session) (b : Buffers) (n : ℕ) (x : List ℕ) → IsRest (impossible n x) → turn_at e s.phase ≡ reads → As s b (closed s) b [] (stanza_call e s.phase x ∷ [])
 impossible_as e s b n x k t =
-    let h = last-held e 0 s [] b x (impossible n x) (no_more n (emptied (closed s) []) b) t k.0 refl refl (omega arith) in
+    let h = last_held e 0 s [] b x (impossible n x) (no_more n (emptied (closed s) []) b) t k.0 refl refl (omega arith) in
     let d = last_does e s [] b x (ap (λ c. c.texts) k.0) in
     as_one s b (stanza_call e s.phase x) (closed s) b [] (sym (ap (λ (o : Outcome). o.intake.session) h) ∙ d.session) (sym (ap (λ (o : Outcome). o.buffers) h) ∙ d.buffers)
     (sym (ap (λ (o : Outcome). take o.size o.output) h) ∙ d.written)
@@ -255,32 +255,32 @@ module _ (P : Call → Type 0) (e : End) (each : (p : Phase) (t : List ℕ) → 
   rest_all (drops n) p r = tt
   rest_all keeps_back p r = tt
 
-  turn-all : (u : Turn) (cs : List Call) → All P cs → All P (turn_calls u cs)
+  turn_all : (u : Turn) (cs : List Call) → All P cs → All P (turn_calls u cs)
   unfolding All
-  turn-all reads cs h = h
-  turn-all (drops n) cs h = tt
-  turn-all keeps_back cs h = tt
+  turn_all reads cs h = h
+  turn_all (drops n) cs h = tt
+  turn_all keeps_back cs h = tt
 
   pub pick_all : (f : Bool) (xs ys : List Call) → All P xs → All P ys → All P (pick f xs ys)
   pick_all true xs ys h k = h
   pick_all false xs ys h k = k
 
-  none-all : All P []
+  none_all : All P []
   unfolding All
-  none-all = tt
+  none_all = tt
 
-  more-all : (c : Call) (cs : List Call) → P c → All P cs → All P (c ∷ cs)
+  more_all : (c : Call) (cs : List Call) → P c → All P cs → All P (c ∷ cs)
   unfolding All
-  more-all c cs h k = (h, k)
+  more_all c cs h k = (h, k)
 
-  pub stanzas-all : (ts : List (List ℕ)) (s : Session) (b : Buffers) (r : Rest) → All P (stanza_calls e s b ts r)
+  pub stanzas_all : (ts : List (List ℕ)) (s : Session) (b : Buffers) (r : Rest) → All P (stanza_calls e s b ts r)
   unfolding stanza_calls
-  stanzas-all [] s b r = rest_all (turn_at e s.phase) s.phase r
-  stanzas-all (t ∷ ts) s b r =
+  stanzas_all [] s b r = rest_all (turn_at e s.phase) s.phase r
+  stanzas_all (t ∷ ts) s b r =
       let c = stanza_call e s.phase t in
       let o = outcome s b c in
-      turn-all (turn_at e s.phase) (c ∷ pick (eqb o.number 0) (stanza_calls e o.session o.buffers ts r) [])
-      (more-all c (pick (eqb o.number 0) (stanza_calls e o.session o.buffers ts r) []) (each s.phase t) (pick_all (eqb o.number 0) (stanza_calls e o.session o.buffers ts r) [] (stanzas-all ts o.session o.buffers r) none-all))
+      turn_all (turn_at e s.phase) (c ∷ pick (eqb o.number 0) (stanza_calls e o.session o.buffers ts r) [])
+      (more_all c (pick (eqb o.number 0) (stanza_calls e o.session o.buffers ts r) []) (each s.phase t) (pick_all (eqb o.number 0) (stanza_calls e o.session o.buffers ts r) [] (stanzas_all ts o.session o.buffers r) none_all))
 
 -- ---- the theorem
 
@@ -291,27 +291,27 @@ any_calls e i b cs k h = let a = all_as e i b cs h k in record { session = a.ses
 -- ---- what holds of calls of one stanza
 
 module _ (e : End) (machine name : List ℕ) (screen : Bool) (b : Buffers) (cs : List AnyCall) (h : All (Has e) cs) where
-  abbrev start-session : Session
-  start-session = (opened machine name screen).session
+  abbrev start_session : Session
+  start_session = (opened machine name screen).session
 
-  abbrev behind-calls : State
-  behind-calls = after_any e (emptied start-session []) b cs
+  abbrev behind_calls : State
+  behind_calls = after_any e (emptied start_session []) b cs
 
-  abbrev stanza-calls : List Call
-  stanza-calls = calls_all e (emptied start-session []) b cs
+  abbrev stanza_calls_lem : List Call
+  stanza_calls_lem = calls_all e (emptied start_session []) b cs
 
-  comes-to : ComesTo e (emptied start-session []) b cs stanza-calls
-  comes-to = any_calls e (emptied start-session []) b cs (opened_keeps e machine name screen) h
+  comes_to : ComesTo e (emptied start_session []) b cs stanza_calls_lem
+  comes_to = any_calls e (emptied start_session []) b cs (opened_keeps e machine name screen) h
 
   -- tables: of any calls from an opening, each kind's table is exactly the accepted commands of that kind, in order
-  pub any-tables : (k : AnyKind) → view_of k behind-calls.intake.session.tables behind-calls.buffers ≡ accepted_rows k start-session b stanza-calls
-  any-tables k = ap₂ (λ (s : Session) b. view_of k s.tables b) comes-to.session comes-to.buffers ∙ tables_opened k machine name screen b stanza-calls
+  pub any_tables : (k : AnyKind) → view_of k behind_calls.intake.session.tables behind_calls.buffers ≡ accepted_rows k start_session b stanza_calls_lem
+  any_tables k = ap₂ (λ (s : Session) b. view_of k s.tables b) comes_to.session comes_to.buffers ∙ tables_opened k machine name screen b stanza_calls_lem
 
   -- the same recipient twice: of any calls from an opening, each lent the buffers as the one before left them, no two recipients have the same text
-  pub any-recipients : Distinct (view_of (first recipients) behind-calls.intake.session.tables behind-calls.buffers)
-  any-recipients =
-      subst Distinct (sym (ap₂ (λ (s : Session) b. view_of (first recipients) s.tables b) comes-to.session comes-to.buffers)) (recipients_differ machine name screen b stanza-calls)
+  pub any_recipients : Distinct (view_of (first recipients) behind_calls.intake.session.tables behind_calls.buffers)
+  any_recipients =
+      subst Distinct (sym (ap₂ (λ (s : Session) b. view_of (first recipients) s.tables b) comes_to.session comes_to.buffers)) (recipients_differ machine name screen b stanza_calls_lem)
 
   -- answers: where the conversation has ended, each accepted command of phase two but done has its response directly behind it, and the response fits
-  pub any-answers : behind-calls.intake.session.phase ≡ Ended → Paired (events start-session b stanza-calls)
-  any-answers d = answers_opened machine name screen b stanza-calls (sym (ap (λ (s : Session). s.phase) comes-to.session) ∙ d)
+  pub any_answers : behind_calls.intake.session.phase ≡ Ended → Paired (events start_session b stanza_calls_lem)
+  any_answers d = answers_opened machine name screen b stanza_calls_lem (sym (ap (λ (s : Session). s.phase) comes_to.session) ∙ d)

@@ -21,7 +21,7 @@ use Rattle.chunks.specs.Orders.{reply_alone, uncut_calls, end_of, amples}
 use Rattle.chunks.specs.Uncut as pieces
 use Rattle.chunks.specs.Uncut.{Piece, outcome_of, alone, is_waiting}
 use Rattle.chunks.proofs.Laws.Stanzas.{after_undue}
-use Rattle.chunks.proofs.Laws.Singles.{Alike, chunk-client, chunk-plugin, reply_single}
+use Rattle.chunks.proofs.Laws.Singles.{Alike, chunk_client, chunk_plugin, reply_single}
 
 -- ---- two lists, call by call
 
@@ -36,12 +36,12 @@ module _ (e : End) (Inv : Session → Type 0) where
   Matched (p ∷ ps) [] = ⊥
   Matched (p ∷ ps) (c ∷ cs) = Agree p c × Matched ps cs
 
-  matched-append : (ps qs : List Piece) (cs ds : List Call) → Matched ps cs → Matched qs ds → Matched (ps ++ qs) (cs ++ ds)
+  matched_append : (ps qs : List Piece) (cs ds : List Call) → Matched ps cs → Matched qs ds → Matched (ps ++ qs) (cs ++ ds)
   unfolding Matched
-  matched-append [] qs [] ds m n = n
-  matched-append [] qs (c ∷ cs) ds m n = absurd m
-  matched-append (p ∷ ps) qs [] ds m n = absurd m
-  matched-append (p ∷ ps) qs (c ∷ cs) ds m n = (m.0, matched-append ps qs cs ds m.1 n)
+  matched_append [] qs [] ds m n = n
+  matched_append [] qs (c ∷ cs) ds m n = absurd m
+  matched_append (p ∷ ps) qs [] ds m n = absurd m
+  matched_append (p ∷ ps) qs (c ∷ cs) ds m n = (m.0, matched_append ps qs cs ds m.1 n)
 
 -- one run as another: the number of each call, what is written, the session and the buffers; nothing is kept
 pub record SameAs (e : End) (i : Intake) (b : Buffers) (s : Session) (d : Buffers) (ps : List Piece) (cs : List Call) : Type 0 where
@@ -84,8 +84,8 @@ client_match : (xs : List Block) → All (λ x. Whole x.text) xs → Matched cli
 unfolding Matched All uncut_calls calls_of
 client_match [] w = tt
 client_match (x ∷ xs) w =
-    matched-append client Any (alone x.text ∷ map reply_alone x.replies) (uncut_calls xs) (block_calls two_part amples x) (calls_of two_part amples xs)
-    (λ s a b k. (chunk-client s a b x.text w.0, tt), replies_match x.replies) (client_match xs w.1)
+    matched_append client Any (alone x.text ∷ map reply_alone x.replies) (uncut_calls xs) (block_calls two_part amples x) (calls_of two_part amples xs)
+    (λ s a b k. (chunk_client s a b x.text w.0, tt), replies_match x.replies) (client_match xs w.1)
 
 -- the plugin's, where no response is due: none is behind a command of phase one
 abbrev pub Undue : Session → Type 0
@@ -105,8 +105,8 @@ plugin_match : (xs : List Block) → All (λ x. Whole x.text) xs → All (Quiet 
 unfolding Matched All uncut_calls calls_of reply_calls
 plugin_match [] w q = tt
 plugin_match (x ∷ xs) w q =
-    matched-append plugin Undue (alone x.text ∷ map reply_alone x.replies) (uncut_calls xs) (block_calls one_part amples x) (calls_of one_part amples xs)
-    (λ s a b k. (chunk-plugin s a b x.text w.0 k, received_undue s b x.text k), subst (λ rs. Matched plugin Undue (map reply_alone rs) (reply_calls amples rs)) (sym q.0) tt) (plugin_match xs w.1 q.1)
+    matched_append plugin Undue (alone x.text ∷ map reply_alone x.replies) (uncut_calls xs) (block_calls one_part amples x) (calls_of one_part amples xs)
+    (λ s a b k. (chunk_plugin s a b x.text w.0 k, received_undue s b x.text k), subst (λ rs. Matched plugin Undue (map reply_alone rs) (reply_calls amples rs)) (sym q.0) tt) (plugin_match xs w.1 q.1)
 
 -- the session may receive the phase: at the plugin end no response is due
 abbrev pub Ready : Part → Session → Type 0

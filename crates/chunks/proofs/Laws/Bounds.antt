@@ -34,16 +34,16 @@ use Rattle.conversation.specs.TurnsTwo.{turn_two}
 use Rattle.refusal.specs.Verdict.{first_of}
 use Rattle.conversation.proofs.Laws.Accepted.{text_number_lem}
 use Rattle.conversation.proofs.Laws.Firsts.{first_iff}
-use Rattle.conversation.proofs.Laws.NumberParts.{as_read, decided_two, at_once_text, given-receive-two}
+use Rattle.conversation.proofs.Laws.NumberParts.{as_read, decided_two, at_once_text, given_receive_two}
 use Rattle.conversation.proofs.Laws.Refusals.{either, refusal}
-use Rattle.conversation.proofs.Laws.WrittenRead.{at-once-text}
+use Rattle.conversation.proofs.Laws.WrittenRead.{at_once_text_lem}
 use Rattle.chunks.specs.Cutting.{Rest, unfinished, impossible, bytes_of, cut}
 use Rattle.chunks.specs.Taking.{End, client, plugin, Turn, reads, drops, keeps_back, turn_at, ample, stanza_call, awaited_behind, Taken, no_more, emptied, joined, taken_rest, taken_all, taken_text}
 use Rattle.chunks.proofs.Laws.Cases.{stanza_cases}
 use Rattle.chunks.proofs.Laws.Cutting.{cut_joined}
 use Rattle.chunks.proofs.Laws.Numbers.{at_once_short}
 use Rattle.chunks.proofs.Laws.Reading.{Step, ends, fails, goes_on, overruns, step}
-use Rattle.chunks.proofs.Laws.Texts.{taken_cut, front-left, front-fault, front-stanza}
+use Rattle.chunks.proofs.Laws.Texts.{taken_cut, front_left, front_fault, front_stanza}
 
 -- ---- what is written
 
@@ -63,8 +63,8 @@ stanza_long t l m k h =
 
 module _ (s : Session) (b : Buffers) (t out : List ℕ) where
   -- what is accepted has a stanza's length
-  pub accepted-long : (outcome s b (receive_two t out)).number ≡ 0 → 6 ≤ length t
-  accepted-long h = go (read_first t) refl ((first_iff (turn_two s.phase) _).0 (sym (given-receive-two s b t out) ∙ h)).1
+  pub accepted_long : (outcome s b (receive_two t out)).number ≡ 0 → 6 ≤ length t
+  accepted_long h = go (read_first t) refl ((first_iff (turn_two s.phase) _).0 (sym (given_receive_two s b t out) ∙ h)).1
     where
       go : (q : Reading) → read_first t ≡ q →
           as_read q (first_of (decided_two s b false (line_in t) (body_in t)) (shortness (at_once_text s b (line_in t) (body_in t)) out)) ≡ 0 → 6 ≤ length t
@@ -72,10 +72,10 @@ module _ (s : Session) (b : Buffers) (t out : List ℕ) where
       go (refused n) q z = absurd (text_number_lem t n q z)
 
   -- and is answered at once with at most 16 bytes
-  pub answer-short : length (written_by s b (receive_two t out)) ≤ 16
-  answer-short =
+  pub answer_short : length (written_by s b (receive_two t out)) ≤ 16
+  answer_short =
       cases (eqb (outcome s b (receive_two t out)).number 0)
-      (λ f. rw (at-once-text s b t out (eqb-true (outcome s b (receive_two t out)).number 0 f))
+      (λ f. rw (at_once_text_lem s b t out (eqb-true (outcome s b (receive_two t out)).number 0 f))
       (at_once_short (at_once s.screen (command_in s.machine t))))
       (λ f. rw (refusal s b (receive_two t out) (eqb-false (outcome s b (receive_two t out)).number 0 f)).size (omega arith))
 
@@ -99,8 +99,8 @@ all_written (t ∷ ts) s b a r =
     (λ q z. omega (
       arith,
       all_written ts o.session o.buffers (awaited_behind client o.session.phase t) r,
-      accepted-long s b t ample z,
-      answer-short s b t ample,
+      accepted_long s b t ample z,
+      answer_short s b t ample,
       length-append (written_by s b c) more.written,
       length-append t (joined ts (bytes_of r)),
     ))
@@ -151,15 +151,15 @@ read_kept e s b a q front x turn l m = go (continued q (length front) x) refl
     go (whole k) h =
         let o = outcome s b (stanza_call e s.phase (front ++ take k x)) in
         let w = whole_within x q (length front) k h in
-        subst (λ (y : Taken). length y.intake.kept ≤ 8192) (sym (front-stanza e s b a turn q front x k h))
+        subst (λ (y : Taken). length y.intake.kept ≤ 8192) (sym (front_stanza e s b a turn q front x k h))
         (either (λ (y : Taken). length y.intake.kept ≤ 8192) (eqb o.number 0) _ _
         (omega (arith, text_kept e o.session o.buffers (awaited_behind e o.session.phase (front ++ take k x)) (drop k x), length-drop k x))
         (omega arith))
     go (resuming.unfinished v) h =
-        subst (λ (y : Taken). length y.intake.kept ≤ 8192) (sym (front-left e s b a turn q v front x h))
+        subst (λ (y : Taken). length y.intake.kept ≤ 8192) (sym (front_left e s b a turn q v front x h))
         (omega (arith, (unfinished_is x q v (length front) h).1, length-append front x))
     go (resuming.refused n) h =
-        subst (λ (y : Taken). length y.intake.kept ≤ 8192) (sym (front-fault e s b a turn q front x n (omega arith) h)) (omega arith)
+        subst (λ (y : Taken). length y.intake.kept ≤ 8192) (sym (front_fault e s b a turn q front x n (omega arith) h)) (omega arith)
 
 -- the front of an unfinished stanza has at most 8,191 bytes
 abbrev ShortRest : Rest → Type 0

@@ -27,7 +27,7 @@ use Rattle.conversation.specs.Kinds.{AnyKind, Buffers, view_of}
 use Rattle.conversation.specs.Phases.{line_in, body_in, All, Whole}
 use Rattle.conversation.specs.Sending.{shortness}
 use Rattle.conversation.specs.TurnsTwo.{turn_two, due_in}
-use Rattle.conversation.proofs.Laws.NumberParts.{as_read, by_due, unfitness, at_once_text, decided_one, decided_two, given-receive, given-receive-two, given-respond}
+use Rattle.conversation.proofs.Laws.NumberParts.{as_read, by_due, unfitness, at_once_text, decided_one, decided_two, given_receive, given_receive_two, given_respond}
 use Rattle.conversation.proofs.Laws.Answers.{answers}
 use Rattle.conversation.proofs.Laws.Reached.{ReachedSession}
 use Rattle.conversation.proofs.Laws.Refusals.{either, refusal}
@@ -41,12 +41,12 @@ use Rattle.chunks.specs.Uncut.{Piece, chunk, reply, outcome_of, is_closed, NoneH
 use Rattle.chunks.specs.Calls.{call_of, calls_of, calls_for, AsCalls}
 use Rattle.chunks.proofs.Laws.Cases.{drops_not_reads, keeps_not_reads, stanza_cases, held, chunk_cases}
 use Rattle.chunks.proofs.Laws.Cutting.{IsWhole, IsRest, cut_parts, none_front}
-use Rattle.chunks.proofs.Laws.Cut.{last-held, cut_theorem, uncut_theorem}
+use Rattle.chunks.proofs.Laws.Cut.{last_held, cut_theorem, uncut_theorem}
 use Rattle.chunks.proofs.Laws.Reading.{cut_stanza, cut_fault, cut_unfinished, cut_overlong}
 use Rattle.chunks.proofs.Laws.Short.{read_number}
 use Rattle.chunks.proofs.Laws.Taking.{turn_waits}
 use Rattle.chunks.proofs.Laws.Finish.{turn_not_waiting}
-use Rattle.chunks.proofs.Laws.Singles.{Alike, chunk-single, reply_single}
+use Rattle.chunks.proofs.Laws.Singles.{Alike, chunk_single, reply_single}
 use Rattle.chunks.proofs.Laws.Stanzas.{whole_read}
 
 -- a call on chunks does what a call of one stanza does
@@ -87,49 +87,49 @@ refused_leaves e p s b t n q h =
     go plugin Closed n = refl
 
 module _ (s : Session) (b : Buffers) (t : List ℕ) where
-  abbrev late-two : ℕ
-  late-two = as_read (read_first t) (first_of (decided_two s b false (line_in t) (body_in t)) (shortness (at_once_text s b (line_in t) (body_in t)) ample))
+  abbrev late_two : ℕ
+  late_two = as_read (read_first t) (first_of (decided_two s b false (line_in t) (body_in t)) (shortness (at_once_text s b (line_in t) (body_in t)) ample))
 
-  abbrev late-answer : WordTwo → ℕ
-  late-answer w = as_read (read_first t) (first_of (unfitness s b w (response_of (line_in t)) (body_in t)) (shortness (body_in t) ample))
+  abbrev late_answer : WordTwo → ℕ
+  late_answer w = as_read (read_first t) (first_of (unfitness s b w (response_of (line_in t)) (body_in t)) (shortness (body_in t) ample))
 
   -- No. 13 and 14 close no session
-  number-leaves : (e : End) (p : Phase) (n : ℕ) → (outcome s b (stanza_call e p t)).number ≡ n → (n ≡ 0 → ⊥) → closes n ≡ false → Leaves s b (stanza_call e p t)
-  number-leaves e p n q h k = let z = refused_leaves e p s b t n q h in (z.0 ∙ ap (λ f. pick f (closed s) s) k, z.1, z.2)
+  number_leaves : (e : End) (p : Phase) (n : ℕ) → (outcome s b (stanza_call e p t)).number ≡ n → (n ≡ 0 → ⊥) → closes n ≡ false → Leaves s b (stanza_call e p t)
+  number_leaves e p n q h k = let z = refused_leaves e p s b t n q h in (z.0 ∙ ap (λ f. pick f (closed s) s) k, z.1, z.2)
 
-  client-number : (p : Phase) → s.phase ≡ p → (outcome s b (receive_two t ample)).number ≡ first_of (turn_two p) late-two
-  client-number p q = given-receive-two s b t ample ∙ ap (λ p. first_of (turn_two p) late-two) q
+  client_number : (p : Phase) → s.phase ≡ p → (outcome s b (receive_two t ample)).number ≡ first_of (turn_two p) late_two
+  client_number p q = given_receive_two s b t ample ∙ ap (λ p. first_of (turn_two p) late_two) q
 
-  answer-number : (p : Phase) → s.phase ≡ p → (outcome s b (respond t ample)).number ≡ by_due s b (due_in p) late-answer
-  answer-number p q = given-respond s b t ample ∙ ap (λ p. by_due s b (due_in p) late-answer) q
+  answer_number : (p : Phase) → s.phase ≡ p → (outcome s b (respond t ample)).number ≡ by_due s b (due_in p) late_answer
+  answer_number p q = given_respond s b t ample ∙ ap (λ p. by_due s b (due_in p) late_answer) q
 
   -- the call of a stanza out of turn
-  stanza-leaves : (e : End) (p : Phase) → s.phase ≡ p → (turn_at e p ≡ reads → ⊥) → Leaves s b (stanza_call e p t)
-  stanza-leaves client One q h = number-leaves client One 14 (client-number One q) (λ z. omega arith) refl
-  stanza-leaves client Two q h = absurd (h refl)
-  stanza-leaves client (Awaiting w) q h = number-leaves client (Awaiting w) 14 (client-number (Awaiting w) q) (λ z. omega arith) refl
-  stanza-leaves client Ended q h = number-leaves client Ended 13 (client-number Ended q) (λ z. omega arith) refl
-  stanza-leaves client Closed q h = number-leaves client Closed 13 (client-number Closed q) (λ z. omega arith) refl
-  stanza-leaves plugin One q h = absurd (h refl)
-  stanza-leaves plugin Two q h = number-leaves plugin Two 14 (answer-number Two q) (λ z. omega arith) refl
-  stanza-leaves plugin (Awaiting w) q h = absurd (h refl)
-  stanza-leaves plugin Ended q h = number-leaves plugin Ended 13 (answer-number Ended q) (λ z. omega arith) refl
-  stanza-leaves plugin Closed q h = number-leaves plugin Closed 13 (answer-number Closed q) (λ z. omega arith) refl
+  stanza_leaves : (e : End) (p : Phase) → s.phase ≡ p → (turn_at e p ≡ reads → ⊥) → Leaves s b (stanza_call e p t)
+  stanza_leaves client One q h = number_leaves client One 14 (client_number One q) (λ z. omega arith) refl
+  stanza_leaves client Two q h = absurd (h refl)
+  stanza_leaves client (Awaiting w) q h = number_leaves client (Awaiting w) 14 (client_number (Awaiting w) q) (λ z. omega arith) refl
+  stanza_leaves client Ended q h = number_leaves client Ended 13 (client_number Ended q) (λ z. omega arith) refl
+  stanza_leaves client Closed q h = number_leaves client Closed 13 (client_number Closed q) (λ z. omega arith) refl
+  stanza_leaves plugin One q h = absurd (h refl)
+  stanza_leaves plugin Two q h = number_leaves plugin Two 14 (answer_number Two q) (λ z. omega arith) refl
+  stanza_leaves plugin (Awaiting w) q h = absurd (h refl)
+  stanza_leaves plugin Ended q h = number_leaves plugin Ended 13 (answer_number Ended q) (λ z. omega arith) refl
+  stanza_leaves plugin Closed q h = number_leaves plugin Closed 13 (answer_number Closed q) (λ z. omega arith) refl
 
   -- .. in turn, of a text that is no stanza
-  stanza-unread : (e : End) (p : Phase) → s.phase ≡ p → turn_at e p ≡ reads → (m : ℕ) → read_first t ≡ refused m → (outcome s b (stanza_call e p t)).number ≡ m
-  stanza-unread client One q h m r = absurd (drops_not_reads 14 h)
-  stanza-unread client Two q h m r = client-number Two q ∙ ap (λ r. as_read r (first_of (decided_two s b false (line_in t) (body_in t)) (shortness (at_once_text s b (line_in t) (body_in t)) ample))) r
-  stanza-unread client (Awaiting w) q h m r = absurd (keeps_not_reads h)
-  stanza-unread client Ended q h m r = absurd (drops_not_reads 13 h)
-  stanza-unread client Closed q h m r = absurd (drops_not_reads 13 h)
-  stanza-unread plugin One q h m r =
+  stanza_unread : (e : End) (p : Phase) → s.phase ≡ p → turn_at e p ≡ reads → (m : ℕ) → read_first t ≡ refused m → (outcome s b (stanza_call e p t)).number ≡ m
+  stanza_unread client One q h m r = absurd (drops_not_reads 14 h)
+  stanza_unread client Two q h m r = client_number Two q ∙ ap (λ r. as_read r (first_of (decided_two s b false (line_in t) (body_in t)) (shortness (at_once_text s b (line_in t) (body_in t)) ample))) r
+  stanza_unread client (Awaiting w) q h m r = absurd (keeps_not_reads h)
+  stanza_unread client Ended q h m r = absurd (drops_not_reads 13 h)
+  stanza_unread client Closed q h m r = absurd (drops_not_reads 13 h)
+  stanza_unread plugin One q h m r =
       let late = first_of (decided_one s b (line_in t) (body_in t)) 0 in
-      given-receive s b t ∙ ap (λ p. first_of (turn_one p) (as_read (read_first t) late)) q ∙ ap (λ r. as_read r late) r
-  stanza-unread plugin Two q h m r = absurd (drops_not_reads 14 h)
-  stanza-unread plugin (Awaiting w) q h m r = answer-number (Awaiting w) q ∙ ap (λ r. as_read r (first_of (unfitness s b w (response_of (line_in t)) (body_in t)) (shortness (body_in t) ample))) r
-  stanza-unread plugin Ended q h m r = absurd (drops_not_reads 13 h)
-  stanza-unread plugin Closed q h m r = absurd (drops_not_reads 13 h)
+      given_receive s b t ∙ ap (λ p. first_of (turn_one p) (as_read (read_first t) late)) q ∙ ap (λ r. as_read r late) r
+  stanza_unread plugin Two q h m r = absurd (drops_not_reads 14 h)
+  stanza_unread plugin (Awaiting w) q h m r = answer_number (Awaiting w) q ∙ ap (λ r. as_read r (first_of (unfitness s b w (response_of (line_in t)) (body_in t)) (shortness (body_in t) ample))) r
+  stanza_unread plugin Ended q h m r = absurd (drops_not_reads 13 h)
+  stanza_unread plugin Closed q h m r = absurd (drops_not_reads 13 h)
 
 -- where a chunk is taken no bytes are kept back
 turn_not_kept : (e : End) (p : Phase) → turn_at e p ≡ keeps_back → turn_of e p ≡ 0 → ⊥
@@ -161,7 +161,7 @@ chunk_stays e s a b t out h =
 out_of_turn_goes : (e : End) (s : Session) (a : List ℕ) (b : Buffers) (t : List ℕ) → (turn_at e s.phase ≡ reads → ⊥) → Goes (outcome s b (stanza_call e s.phase t)) (chunked e (emptied s a) b t ample)
 out_of_turn_goes e s a b t h =
     let k = chunk_stays e s a b t ample h in
-    let z = stanza-leaves s b t e s.phase refl h in
+    let z = stanza_leaves s b t e s.phase refl h in
     record {
       does = record { session = ap (λ (i : Intake). i.session) k.0 ∙ sym z.0; buffers = k.1 ∙ sym z.1; written = k.2 ∙ sym z.2 };
       empty = k.0 ∙ ap (λ (i : Intake). emptied i.session i.awaited) (sym k.0);
@@ -179,7 +179,7 @@ by_turn e p = go (turn_at e p)
 
 whole_goes : (e : End) (s : Session) (a : List ℕ) (b : Buffers) (t : List ℕ) → Whole t → Goes (outcome s b (stanza_call e s.phase t)) (chunked e (emptied s a) b t ample)
 whole_goes e s a b t w =
-    ⊎_elim (λ h. alike_goes (outcome s b (stanza_call e s.phase t)) (chunked e (emptied s a) b t ample) (chunk-single s a b t w e h)) (λ h. out_of_turn_goes e s a b t h) (by_turn e s.phase)
+    ⊎_elim (λ h. alike_goes (outcome s b (stanza_call e s.phase t)) (chunked e (emptied s a) b t ample) (chunk_single s a b t w e h)) (λ h. out_of_turn_goes e s a b t h) (by_turn e s.phase)
 
 -- ---- a rest that holds no stanza
 
@@ -188,33 +188,33 @@ module _ (e : End) (s : Session) (a : List ℕ) (b : Buffers) (t : List ℕ) (tu
   rest_does : (m : ℕ) (q : Taken) → read_first t ≡ refused m → (m ≡ 0 → ⊥) → outcome_of e (emptied s a) b (alone t) ≡ held ample q → q.written ≡ [] → q.intake.session ≡ pick (closes m) (closed s) s → q.buffers ≡ b →
       Does (outcome s b (stanza_call e s.phase t)) (chunked e (emptied s a) b t ample)
   rest_does m q r n o w k v =
-      let z = refused_leaves e s.phase s b t m (stanza-unread s b t e s.phase refl turn m r) n in
+      let z = refused_leaves e s.phase s b t m (stanza_unread s b t e s.phase refl turn m r) n in
       subst (Does (outcome s b (stanza_call e s.phase t))) (sym o)
       (record { session = k ∙ sym z.0; buffers = v ∙ sym z.1; written = ap (λ w. take (length w) (filled w ample)) w ∙ sym z.2 })
 
-  impossible-does : (m : ℕ) → read_first t ≡ refused m → closes m ≡ true → (m ≡ 0 → ⊥) → cut start [] t ≡ record { texts = []; rest = impossible m t } → Does (outcome s b (stanza_call e s.phase t)) (chunked e (emptied s a) b t ample)
-  impossible-does m r c n h =
+  impossible_does : (m : ℕ) → read_first t ≡ refused m → closes m ≡ true → (m ≡ 0 → ⊥) → cut start [] t ≡ record { texts = []; rest = impossible m t } → Does (outcome s b (stanza_call e s.phase t)) (chunked e (emptied s a) b t ample)
+  impossible_does m r c n h =
       let q = no_more m (emptied (closed s) []) b in
-      rest_does m q r n (last-held e 0 s a b t (impossible m t) q turn h refl refl (omega arith)) refl (sym (ap (λ f. pick f (closed s) s) c)) refl
+      rest_does m q r n (last_held e 0 s a b t (impossible m t) q turn h refl refl (omega arith)) refl (sym (ap (λ f. pick f (closed s) s) c)) refl
 
-  unfinished-does : read_first t ≡ refused 2 → (cut start [] t).texts ≡ [] → Does (outcome s b (stanza_call e s.phase t)) (chunked e (emptied s a) b t ample)
-  unfinished-does r h =
+  unfinished_does : read_first t ≡ refused 2 → (cut start [] t).texts ≡ [] → Does (outcome s b (stanza_call e s.phase t)) (chunked e (emptied s a) b t ample)
+  unfinished_does r h =
       let k = cut_unfinished t r in
       let f = subst (λ (c : Cut). IsRest c.rest) k (cut_parts t start [] none_front).rest in
       let q = no_more 0 (keeping s (automaton.after start t) t a) b in
-      rest_does 2 q r (λ z. omega arith) (last-held e 0 s a b t (unfinished (automaton.after start t) t) q turn k refl refl (omega (arith, f.short))) refl refl refl
+      rest_does 2 q r (λ z. omega arith) (last_held e 0 s a b t (unfinished (automaton.after start t) t) q turn k refl refl (omega (arith, f.short))) refl refl refl
 
-  no-stanza-does : (cut start [] t).texts ≡ [] → Does (outcome s b (stanza_call e s.phase t)) (chunked e (emptied s a) b t ample)
-  no-stanza-does h = go (read_first t) refl
+  no_stanza_does : (cut start [] t).texts ≡ [] → Does (outcome s b (stanza_call e s.phase t)) (chunked e (emptied s a) b t ample)
+  no_stanza_does h = go (read_first t) refl
     where
       go : (q : Reading) → read_first t ≡ q → Does (outcome s b (stanza_call e s.phase t)) (chunked e (emptied s a) b t ample)
       go (stanza l n k) r = let x = sym (ap (λ (c : Cut). c.texts) (cut_stanza t l n k r)) ∙ h in let z : ◌≡◌ {A = ℕ} 0 1 = cc in absurd (omega arith)
       go (refused m) r =
           read_number (λ m. read_first t ≡ refused m → Does (outcome s b (stanza_call e s.phase t)) (chunked e (emptied s a) b t ample))
-          (λ r. impossible-does 1 r refl (λ z. omega arith) (cut_fault t r)) (λ r. unfinished-does r h) (λ r. impossible-does 3 r refl (λ z. omega arith) (cut_overlong t r)) t m r r
+          (λ r. impossible_does 1 r refl (λ z. omega arith) (cut_fault t r)) (λ r. unfinished_does r h) (λ r. impossible_does 3 r refl (λ z. omega arith) (cut_overlong t r)) t m r r
 
 pub last_does : (e : End) (s : Session) (a : List ℕ) (b : Buffers) (t : List ℕ) → (cut start [] t).texts ≡ [] → Does (outcome s b (stanza_call e s.phase t)) (chunked e (emptied s a) b t ample)
-last_does e s a b t h = ⊎_elim (λ turn. no-stanza-does e s a b t turn h) (λ turn. (out_of_turn_goes e s a b t turn).does) (by_turn e s.phase)
+last_does e s a b t h = ⊎_elim (λ turn. no_stanza_does e s a b t turn h) (λ turn. (out_of_turn_goes e s a b t turn).does) (by_turn e s.phase)
 
 -- ---- lists
 

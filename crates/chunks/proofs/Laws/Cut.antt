@@ -34,7 +34,7 @@ use Rattle.chunks.specs.Reached.{IsFront}
 use Rattle.chunks.proofs.Laws.Cutting.{IsWhole, IsRest, cut_on, cut_append, cut_joined, cut_parts, none_front}
 use Rattle.chunks.proofs.Laws.Cases.{drops_not_reads, keeps_not_reads, keeps_not_drops, held}
 use Rattle.chunks.proofs.Laws.Runs.{Runs, run_none, run_one, run_join, Tally, tally_one, tally_join, judged_held, judged_not_15, run_held}
-use Rattle.chunks.proofs.Laws.Taking.{turn_reads, turn_drops, turn_says, turn_waits, not_13, closed_waits, chunked-read, chunk-held, room_fits, closed_turn, At, in_turn, quiet, over, waiting, stopped, Level, even, both_refused, late, over_ended, impossible_some, received_all}
+use Rattle.chunks.proofs.Laws.Taking.{turn_reads, turn_drops, turn_says, turn_waits, not_13, closed_waits, chunked_read, chunk_held, room_fits, closed_turn, At, in_turn, quiet, over, waiting, stopped, Level, even, both_refused, late, over_ended, impossible_some, received_all}
 
 -- ---- one list follows another
 
@@ -94,64 +94,64 @@ text_alone (t ∷ ts) x = append_assoc t (text_in (map alone ts)) x ∙ ap (λ y
 -- ---- the replies of lists of calls
 
 module _ (e : End) where
-  made-append : (i : Intake) (b : Buffers) (xs ys : List Piece) → replies_made e i b (xs ++ ys) ≡ replies_made e i b xs ++ replies_made e (after e i b xs).intake (after e i b xs).buffers ys
+  made_append : (i : Intake) (b : Buffers) (xs ys : List Piece) → replies_made e i b (xs ++ ys) ≡ replies_made e i b xs ++ replies_made e (after e i b xs).intake (after e i b xs).buffers ys
   unfolding replies_made after
-  made-append i b [] ys = refl
-  made-append i b (c ∷ xs) ys =
+  made_append i b [] ys = refl
+  made_append i b (c ∷ xs) ys =
       let o = outcome_of e i b c in
-      ap (λ z. replies_by e i c ++ z) (made-append o.intake o.buffers xs ys) ∙ sym (append_assoc (replies_by e i c) (replies_made e o.intake o.buffers xs) _)
+      ap (λ z. replies_by e i c ++ z) (made_append o.intake o.buffers xs ys) ∙ sym (append_assoc (replies_by e i c) (replies_made e o.intake o.buffers xs) _)
 
-  due-append : (i : Intake) (b : Buffers) (xs ys : List Piece) → RepliesDue e i b xs → RepliesDue e (after e i b xs).intake (after e i b xs).buffers ys → RepliesDue e i b (xs ++ ys)
+  due_append : (i : Intake) (b : Buffers) (xs ys : List Piece) → RepliesDue e i b xs → RepliesDue e (after e i b xs).intake (after e i b xs).buffers ys → RepliesDue e i b (xs ++ ys)
   unfolding RepliesDue after
-  due-append i b [] ys h k = k
-  due-append i b (c ∷ xs) ys h k = (h.0, due-append (outcome_of e i b c).intake (outcome_of e i b c).buffers xs ys h.1 k)
+  due_append i b [] ys h k = k
+  due_append i b (c ∷ xs) ys h k = (h.0, due_append (outcome_of e i b c).intake (outcome_of e i b c).buffers xs ys h.1 k)
 
   -- replies of calls that lead from one place to another
   abbrev Made : Intake → Buffers → List Piece → List HostReply → Type 0
   Made i b xs rs = (replies_made e i b xs ≡ rs) × RepliesDue e i b xs
 
   -- chunks make none
-  made-alone : (ts : List (List ℕ)) (i : Intake) (b : Buffers) → Made i b (map alone ts) []
+  made_alone : (ts : List (List ℕ)) (i : Intake) (b : Buffers) → Made i b (map alone ts) []
   unfolding replies_made RepliesDue
-  made-alone [] i b = (refl, tt)
-  made-alone (t ∷ ts) i b = let k = made-alone ts (outcome_of e i b (alone t)).intake (outcome_of e i b (alone t)).buffers in (k.0, (λ h. absurd (false≢true h), k.1))
+  made_alone [] i b = (refl, tt)
+  made_alone (t ∷ ts) i b = let k = made_alone ts (outcome_of e i b (alone t)).intake (outcome_of e i b (alone t)).buffers in (k.0, (λ h. absurd (false≢true h), k.1))
 
-  made-last : (x : List ℕ) (i : Intake) (b : Buffers) → Made i b (pick (eqb (length x) 0) [] (alone x ∷ [])) []
-  made-last x i b = go (eqb (length x) 0)
+  made_last : (x : List ℕ) (i : Intake) (b : Buffers) → Made i b (pick (eqb (length x) 0) [] (alone x ∷ [])) []
+  made_last x i b = go (eqb (length x) 0)
     where
       go : (d : Bool) → Made i b (pick d [] (alone x ∷ [])) []
-      go true = made-alone [] i b
-      go false = made-alone (x ∷ []) i b
+      go true = made_alone [] i b
+      go false = made_alone (x ∷ []) i b
 
   made_more : (i : Intake) (b : Buffers) (xs ys : List Piece) → Made i b xs [] → Made (after e i b xs).intake (after e i b xs).buffers ys [] → Made i b (xs ++ ys) []
-  made_more i b xs ys h k = (made-append i b xs ys ∙ ap₂ (λ u v. u ++ v) h.0 k.0, due-append i b xs ys h.1 k.1)
+  made_more i b xs ys h k = (made_append i b xs ys ∙ ap₂ (λ u v. u ++ v) h.0 k.0, due_append i b xs ys h.1 k.1)
 
-  made-singles : (x : List ℕ) (i : Intake) (b : Buffers) → Made i b (singles x) []
-  made-singles x i b =
+  made_singles : (x : List ℕ) (i : Intake) (b : Buffers) → Made i b (singles x) []
+  made_singles x i b =
       let c = cut start [] x in
       let xs = map alone c.texts in
-      made_more i b xs (pick (eqb (length (bytes_of c.rest)) 0) [] (alone (bytes_of c.rest) ∷ [])) (made-alone c.texts i b) (made-last (bytes_of c.rest) (after e i b xs).intake (after e i b xs).buffers)
+      made_more i b xs (pick (eqb (length (bytes_of c.rest)) 0) [] (alone (bytes_of c.rest) ∷ [])) (made_alone c.texts i b) (made_last (bytes_of c.rest) (after e i b xs).intake (after e i b xs).buffers)
 
   -- the reply to the command that waits, and chunks behind it
-  made-reply : (i : Intake) (b : Buffers) (r : Response) (body out : List ℕ) (ts : List (List ℕ)) → is_waiting e i.session.phase ≡ true → Made i b (reply r body out ∷ map alone ts) (replies_by e i (reply r body out))
+  made_reply : (i : Intake) (b : Buffers) (r : Response) (body out : List ℕ) (ts : List (List ℕ)) → is_waiting e i.session.phase ≡ true → Made i b (reply r body out ∷ map alone ts) (replies_by e i (reply r body out))
   unfolding replies_made RepliesDue
-  made-reply i b r body out ts h =
+  made_reply i b r body out ts h =
       let o = outcome_of e i b (reply r body out) in
-      let k = made-alone ts o.intake o.buffers in
+      let k = made_alone ts o.intake o.buffers in
       (ap (λ x. replies_by e i (reply r body out) ++ x) k.0 ∙ append-nil (replies_by e i (reply r body out)), (λ z. h, k.1))
 
   -- none is made behind the end
-  over-made : (i : Intake) (c : Piece) → is_over i.session.phase ≡ true → replies_by e i c ≡ []
-  over-made i (chunk bytes out) h = refl
-  over-made i (reply r body out) h = ap (λ d. pick d (record { awaited = i.awaited; response = r; body = body } ∷ []) []) (over-waits e i.session.phase h)
+  over_made : (i : Intake) (c : Piece) → is_over i.session.phase ≡ true → replies_by e i c ≡ []
+  over_made i (chunk bytes out) h = refl
+  over_made i (reply r body out) h = ap (λ d. pick d (record { awaited = i.awaited; response = r; body = body } ∷ []) []) (over_waits e i.session.phase h)
     where
-      over-waits : (e : End) (p : Phase) → is_over p ≡ true → is_waiting e p ≡ false
-      over-waits client One h = refl
-      over-waits client Two h = refl
-      over-waits client (Awaiting v) h = absurd (false≢true h)
-      over-waits client Ended h = refl
-      over-waits client Closed h = refl
-      over-waits plugin p h = refl
+      over_waits : (e : End) (p : Phase) → is_over p ≡ true → is_waiting e p ≡ false
+      over_waits client One h = refl
+      over_waits client Two h = refl
+      over_waits client (Awaiting v) h = absurd (false≢true h)
+      over_waits client Ended h = refl
+      over_waits client Closed h = refl
+      over_waits plugin p h = refl
 
 -- where calls lead, with none behind them
 run_leads : {e : End} {i : Intake} {b : Buffers} {xs : List Piece} {n : ℕ} {i' : Intake} {b' : Buffers} {v : List ℕ} → Runs e i b xs n i' b' v → after e i b xs ≡ record { intake = i'; buffers = b' }
@@ -159,9 +159,9 @@ unfolding after
 run_leads {e} {i} {b} {xs} r = ap (after e i b) (sym (append-nil xs)) ∙ r.leads []
 
 module _ (e : End) (n : ℕ) (s : Session) (w : List ℕ) (i : Intake) (b : Buffers) (left : List ℕ) where
-  made-first : {i' : Intake} {b' : Buffers} (c : Piece) (cs : List Piece) → after e i b (c ∷ []) ≡ record { intake = i'; buffers = b' } → replies_made e i b (c ∷ cs) ≡ replies_by e i c ++ replies_made e i' b' cs
+  made_first : {i' : Intake} {b' : Buffers} (c : Piece) (cs : List Piece) → after e i b (c ∷ []) ≡ record { intake = i'; buffers = b' } → replies_made e i b (c ∷ cs) ≡ replies_by e i c ++ replies_made e i' b' cs
   unfolding replies_made after
-  made-first c cs h = ap (λ (z : State). replies_by e i c ++ replies_made e z.intake z.buffers cs) h
+  made_first c cs h = ap (λ (z : State). replies_by e i c ++ replies_made e z.intake z.buffers cs) h
 
   -- calls of the uncut list for one call of the cut one
   follow : {m k : ℕ} {s' : Session} {w' : List ℕ} {i' : Intake} {b' : Buffers} {left' v : List ℕ} (xs us cs : List Piece) (c : Piece) →
@@ -180,8 +180,8 @@ module _ (e : End) (n : ℕ) (s : Session) (w : List ℕ) (i : Intake) (b : Buff
         ∙ sym (append_assoc (text_in xs) left' (text_in cs)) ∙ ap (λ u. u ++ text_in cs) d ∙ append_assoc left (text_in (c ∷ [])) (text_in cs) ∙ ap (λ u. left ++ u) (sym (text_append (c ∷ []) cs));
     single = single_append xs us y f.single;
     same_replies =
-        made-append e (emptied s w) b xs us ∙ ap₂ (λ u (z : State). u ++ replies_made e z.intake z.buffers us) mk.0 (run_leads r) ∙ ap (λ u. replies_by e i c ++ u) f.same_replies ∙ sym (made-first c cs (run_leads q));
-    replies_due = due-append e (emptied s w) b xs us mk.1 (subst (λ (z : State). RepliesDue e z.intake z.buffers us) (sym (run_leads r)) f.replies_due);
+        made_append e (emptied s w) b xs us ∙ ap₂ (λ u (z : State). u ++ replies_made e z.intake z.buffers us) mk.0 (run_leads r) ∙ ap (λ u. replies_by e i c ++ u) f.same_replies ∙ sym (made_first c cs (run_leads q));
+    replies_due = due_append e (emptied s w) b xs us mk.1 (subst (λ (z : State). RepliesDue e z.intake z.buffers us) (sym (run_leads r)) f.replies_due);
     accepted_as = λ p t n. accepts l (nb n);
     refused_late = λ p t. absurd (false≢true (sym g ∙ p));
   }
@@ -198,9 +198,9 @@ module _ (e : End) (n : ℕ) (s : Session) (w : List ℕ) (i : Intake) (b : Buff
       meet false k = f.same_closing k
 
   -- none for a call that changes nothing and writes nothing
-  follow-skip : {us cs : List Piece} {c : Piece} → is_over i.session.phase ≡ true → Runs e i b (c ∷ []) 13 i b [] → Follows e n s w i b (left ++ text_in (c ∷ [])) us cs → Follows e n s w i b left us (c ∷ cs)
+  follow_skip : {us cs : List Piece} {c : Piece} → is_over i.session.phase ≡ true → Runs e i b (c ∷ []) 13 i b [] → Follows e n s w i b (left ++ text_in (c ∷ [])) us cs → Follows e n s w i b left us (c ∷ cs)
   unfolding NoneBehind
-  follow-skip {us} {cs} {c} o q f = record {
+  follow_skip {us} {cs} {c} o q f = record {
     none_held_up = f.none_held_up;
     same_output = f.same_output ∙ sym (q.writes cs);
     same_session = f.same_session ∙ sym (ap (λ x. x.intake.session) (q.leads cs));
@@ -210,27 +210,27 @@ module _ (e : End) (n : ℕ) (s : Session) (w : List ℕ) (i : Intake) (b : Buff
     same_text =
         ap (λ (z : State). text_in us ++ kept_back e z.intake) (q.leads cs) ∙ f.same_text ∙ append_assoc left (text_in (c ∷ [])) (text_in cs) ∙ ap (λ u. left ++ u) (sym (text_append (c ∷ []) cs));
     single = f.single;
-    same_replies = f.same_replies ∙ sym (made-first c cs (run_leads q) ∙ ap (λ u. u ++ replies_made e i b cs) (over-made e i c o));
+    same_replies = f.same_replies ∙ sym (made_first c cs (run_leads q) ∙ ap (λ u. u ++ replies_made e i b cs) (over_made e i c o));
     replies_due = f.replies_due;
     accepted_as = λ p t n. absurd (false≢true (sym n.0 ∙ over_ended i.session.phase o p));
-    refused_late = λ p t. f.refused_late p (λ z. t (front-empty left (text_in (c ∷ [])) z));
+    refused_late = λ p t. f.refused_late p (λ z. t (front_empty left (text_in (c ∷ [])) z));
   }
     where
-      front-empty : (x y : List ℕ) → x ++ y ≡ [] → x ≡ []
-      front-empty [] y h = refl
-      front-empty (a ∷ x) y h = let z : ◌≡◌ {A = ℕ} 0 1 = cc in absurd (omega arith)
+      front_empty : (x y : List ℕ) → x ++ y ≡ [] → x ≡ []
+      front_empty [] y h = refl
+      front_empty (a ∷ x) y h = let z : ◌≡◌ {A = ℕ} 0 1 = cc in absurd (omega arith)
 
       meet : (d : Bool) → is_closed i.session.phase ≡ d → pick d n (closing e i b cs) ≡ pick d n (closing e i b (c ∷ cs))
       meet true k = refl
       meet false k = sym (q.closes_as k cs ∙ ap (λ d. pick d 13 (closing e i b cs)) k)
 
   -- at the end
-  follow-end : {m : ℕ} {i' : Intake} (xs : List Piece) → Runs e (emptied s w) b xs m i' b [] → i'.session ≡ i.session → i'.awaited ≡ i.awaited →
+  follow_end : {m : ℕ} {i' : Intake} (xs : List Piece) → Runs e (emptied s w) b xs m i' b [] → i'.session ≡ i.session → i'.awaited ≡ i.awaited →
       (is_closed s.phase ≡ false → pick (is_closed i'.session.phase) m 0 ≡ pick (is_closed i.session.phase) n 0) → text_in xs ++ kept_back e i ≡ left → AreSingle xs →
       (is_closed i.session.phase ≡ false → (is_ended i.session.phase ≡ true → left ≡ []) → AllZero (numbers e (emptied s w) b xs)) →
       (is_over i.session.phase ≡ true → (left ≡ [] → ⊥) → AllZero (numbers e (emptied s w) b xs) → ⊥) → Made e (emptied s w) b xs [] → Follows e n s w i b left xs []
   unfolding after written numbers closing NoneHeldUp text_in AllZero replies_made
-  follow-end {m} {i'} xs r p q c d y taken-up left_out mk = record {
+  follow_end {m} {i'} xs r p q c d y taken-up left_out mk = record {
     none_held_up = subst (λ x. NoneHeldUp (numbers e (emptied s w) b x)) (append-nil xs) (r.passes [] tt);
     same_output = ap (written e (emptied s w) b) (sym (append-nil xs)) ∙ r.writes [];
     same_session = ap (λ x. (after e (emptied s w) b x).intake.session) (sym (append-nil xs)) ∙ ap (λ x. x.intake.session) (r.leads []) ∙ p;
@@ -248,17 +248,17 @@ module _ (e : End) (n : ℕ) (s : Session) (w : List ℕ) (i : Intake) (b : Buff
 -- ---- calls that are refused for the phase alone
 
 module _ (e : End) (i : Intake) (b : Buffers) where
-  pub chunk-refused : (n : ℕ) (bytes out : List ℕ) → turn_of e i.session.phase ≡ n → eqb n 0 ≡ false → outcome_of e i b (chunk bytes out) ≡ untaken n i b out
+  pub chunk_refused : (n : ℕ) (bytes out : List ℕ) → turn_of e i.session.phase ≡ n → eqb n 0 ≡ false → outcome_of e i b (chunk bytes out) ≡ untaken n i b out
   unfolding chunked
-  chunk-refused n bytes out h z = rw (h, z)
+  chunk_refused n bytes out h z = rw (h, z)
 
-  run-refused-13 : (bytes out : List ℕ) → turn_of e i.session.phase ≡ 13 → Runs e i b (chunk bytes out ∷ []) 13 i b []
-  run-refused-13 bytes out h = run_one e i b (chunk bytes out) (untaken 13 i b out) (chunk-refused 13 bytes out h refl) (λ z. omega arith) (λ z. omega arith)
+  run_refused_13 : (bytes out : List ℕ) → turn_of e i.session.phase ≡ 13 → Runs e i b (chunk bytes out ∷ []) 13 i b []
+  run_refused_13 bytes out h = run_one e i b (chunk bytes out) (untaken 13 i b out) (chunk_refused 13 bytes out h refl) (λ z. omega arith) (λ z. omega arith)
 
   -- behind the end each chunk is refused with 13
-  run-over : turn_of e i.session.phase ≡ 13 → (ts : List (List ℕ)) → Runs e i b (map alone ts) 13 i b []
-  run-over h [] = run_none e i b 13
-  run-over h (t ∷ ts) = run_join e (run-refused-13 t ample h) (λ k. k) (run-over h ts)
+  run_over : turn_of e i.session.phase ≡ 13 → (ts : List (List ℕ)) → Runs e i b (map alone ts) 13 i b []
+  run_over h [] = run_none e i b 13
+  run_over h (t ∷ ts) = run_join e (run_refused_13 t ample h) (λ k. k) (run_over h ts)
 
 -- ---- the end of the list
 
@@ -293,30 +293,30 @@ single_singles x =
     one false y h = ((refl, inr (h, refl)), tt)
 
 module _ (e : End) (n : ℕ) (s : Session) (w : List ℕ) (b : Buffers) where
-  singles-of : (x : List ℕ) (r : Rest) → cut start [] x ≡ record { texts = []; rest = r } → bytes_of r ≡ x → singles x ≡ last x
-  singles-of x r h k = ap (λ c. map alone c.texts ++ last (bytes_of c.rest)) h ∙ ap last k
+  singles_of : (x : List ℕ) (r : Rest) → cut start [] x ≡ record { texts = []; rest = r } → bytes_of r ≡ x → singles x ≡ last x
+  singles_of x r h k = ap (λ c. map alone c.texts ++ last (bytes_of c.rest)) h ∙ ap last k
 
   -- one call for a rest
-  pub last-held : (x : List ℕ) (r : Rest) (q : Taken) → turn_at e s.phase ≡ reads → cut start [] x ≡ record { texts = []; rest = r } → taken_rest reads s b w r ≡ q → q.written ≡ [] → length q.intake.kept ≤ 8192 →
+  pub last_held : (x : List ℕ) (r : Rest) (q : Taken) → turn_at e s.phase ≡ reads → cut start [] x ≡ record { texts = []; rest = r } → taken_rest reads s b w r ≡ q → q.written ≡ [] → length q.intake.kept ≤ 8192 →
       outcome_of e (emptied s w) b (alone x) ≡ held ample q
   unfolding taken_all
-  last-held x r q t h k v l =
-      chunk-held e (emptied s w) b x ample q (turn_reads e s.phase t) (ap (λ c. taken_all e s b w c.texts c.rest) h ∙ ap (λ u. taken_rest u s b w r) t ∙ k)
+  last_held x r q t h k v l =
+      chunk_held e (emptied s w) b x ample q (turn_reads e s.phase t) (ap (λ c. taken_all e s b w c.texts c.rest) h ∙ ap (λ u. taken_rest u s b w r) t ∙ k)
       (subst (λ x. length x ≤ length ample) (sym v) (room_fits [] (omega arith))) l
 
-  run-last : (x : List ℕ) (r : Rest) (q : Taken) → turn_at e s.phase ≡ reads → cut start [] x ≡ record { texts = []; rest = r } → taken_rest reads s b w r ≡ q → q.written ≡ [] → length q.intake.kept ≤ 8192 →
+  run_last : (x : List ℕ) (r : Rest) (q : Taken) → turn_at e s.phase ≡ reads → cut start [] x ≡ record { texts = []; rest = r } → taken_rest reads s b w r ≡ q → q.written ≡ [] → length q.intake.kept ≤ 8192 →
       (q.number ≡ 14 → ⊥) → (q.number ≡ 15 → ⊥) → Runs e (emptied s w) b (alone x ∷ []) q.number q.intake q.buffers q.written
-  run-last x r q t h k v l f g = run_held e (emptied s w) b (alone x) ample q (last-held x r q t h k v l) (subst (λ x. length x ≤ length ample) (sym v) (room_fits [] (omega arith))) f g
+  run_last x r q t h k v l f g = run_held e (emptied s w) b (alone x) ample q (last_held x r q t h k v l) (subst (λ x. length x ≤ length ample) (sym v) (room_fits [] (omega arith))) f g
 
   -- what is left in calls of its own
-  end-singles : {m : ℕ} {i' : Intake} (i : Intake) (left : List ℕ) → is_waiting e i.session.phase ≡ false → Runs e (emptied s w) b (singles left) m i' b [] → i'.session ≡ i.session → i'.awaited ≡ i.awaited →
+  end_singles : {m : ℕ} {i' : Intake} (i : Intake) (left : List ℕ) → is_waiting e i.session.phase ≡ false → Runs e (emptied s w) b (singles left) m i' b [] → i'.session ≡ i.session → i'.awaited ≡ i.awaited →
       (is_closed s.phase ≡ false → pick (is_closed i'.session.phase) m 0 ≡ pick (is_closed i.session.phase) n 0) →
       (is_closed i.session.phase ≡ false → (is_ended i.session.phase ≡ true → left ≡ []) → AllZero (numbers e (emptied s w) b (singles left))) →
       (is_over i.session.phase ≡ true → (left ≡ [] → ⊥) → AllZero (numbers e (emptied s w) b (singles left)) → ⊥) → Follows e n s w i b left (uncut e i b left []) []
   unfolding uncut
-  end-singles i left h r p q c taken-up left_out =
+  end_singles i left h r p q c taken-up left_out =
       subst (λ d. Follows e n s w i b left (pick d [] (singles left)) []) (sym h)
-      (follow-end e n s w i b left (singles left) r p q c (ap (λ d. text_in (singles left) ++ pick d i.kept []) h ∙ append-nil (text_in (singles left)) ∙ text_singles left) (single_singles left) taken-up left_out (made-singles e left (emptied s w) b))
+      (follow_end e n s w i b left (singles left) r p q c (ap (λ d. text_in (singles left) ++ pick d i.kept []) h ∙ append-nil (text_in (singles left)) ∙ text_singles left) (single_singles left) taken-up left_out (made_singles e left (emptied s w) b))
 
   -- no call, or one
   zero_none : (xs : List Piece) → xs ≡ [] → AllZero (numbers e (emptied s w) b xs)
@@ -329,33 +329,33 @@ module _ (e : End) (n : ℕ) (s : Session) (w : List ℕ) (b : Buffers) where
       let k = (tally_one e (emptied s w) b (alone x) (held ample q) o).all_zero [] in
       subst (λ y. AllZero (numbers e (emptied s w) b y) ↔ (q.number ≡ 0)) (sym h) (λ z. (k.0 z).0, λ z. k.1 (z, tt))
 
-  end-in-turn : (q : automaton.State) (f : List ℕ) → turn_at e s.phase ≡ reads → IsFront q f → Follows e n s w (keeping s q f w) b f (uncut e (keeping s q f w) b f []) []
-  end-in-turn q f t h =
+  end_in_turn : (q : automaton.State) (f : List ℕ) → turn_at e s.phase ≡ reads → IsFront q f → Follows e n s w (keeping s q f w) b f (uncut e (keeping s q f w) b f []) []
+  end_in_turn q f t h =
       let k = turn_says e s.phase in
       let c = k.going (λ z. drops_not_reads 13 (sym z ∙ t)) in
       let v = k.waits (λ z. keeps_not_reads (sym z ∙ t)) in
       let i = keeping s q f w in
-      let x = singles-of f (unfinished q f) h.read refl in
+      let x = singles_of f (unfinished q f) h.read refl in
       cases (eqb (length f) 0)
       (λ z. let y = x ∙ ap (λ d. pick d [] (alone f ∷ [])) z in
-      end-singles i f v (subst (λ x. Runs e (emptied s w) b x 0 (emptied s w) b []) (sym y) (run_none e (emptied s w) b 0)) refl refl (λ k. rw c.1)
+      end_singles i f v (subst (λ x. Runs e (emptied s w) b x 0 (emptied s w) b []) (sym y) (run_none e (emptied s w) b 0)) refl refl (λ k. rw c.1)
       (λ p t. zero_none (singles f) y) (λ o. absurd (false≢true (sym c.0 ∙ o))))
       (λ z. let y = x ∙ ap (λ d. pick d [] (alone f ∷ [])) z in
-      end-singles i f v
-      (subst (λ x. Runs e (emptied s w) b x 0 i b []) (sym y) (run-last f (unfinished q f) (no_more 0 i b) t h.read refl refl (omega (arith, h.short)) (λ z. omega arith) (λ z. omega arith)))
+      end_singles i f v
+      (subst (λ x. Runs e (emptied s w) b x 0 i b []) (sym y) (run_last f (unfinished q f) (no_more 0 i b) t h.read refl refl (omega (arith, h.short)) (λ z. omega arith) (λ z. omega arith)))
       refl refl (λ k. rw c.1)
-      (λ p l. (zero_one (singles f) f (no_more 0 i b) y (last-held f (unfinished q f) (no_more 0 i b) t h.read refl refl (omega (arith, h.short)))).1 refl) (λ o. absurd (false≢true (sym c.0 ∙ o))))
+      (λ p l. (zero_one (singles f) f (no_more 0 i b) y (last_held f (unfinished q f) (no_more 0 i b) t h.read refl refl (omega (arith, h.short)))).1 refl) (λ o. absurd (false≢true (sym c.0 ∙ o))))
 
-  end-stopped : (left : List ℕ) → turn_at e s.phase ≡ reads → cut start [] left ≡ record { texts = []; rest = impossible n left } → (n ≡ 1) ⊎ (n ≡ 3) →
+  end_stopped : (left : List ℕ) → turn_at e s.phase ≡ reads → cut start [] left ≡ record { texts = []; rest = impossible n left } → (n ≡ 1) ⊎ (n ≡ 3) →
       Follows e n s w (emptied (closed s) []) b left (uncut e (emptied (closed s) []) b left []) []
-  end-stopped left t h m =
+  end_stopped left t h m =
       let i = emptied (closed s) [] in
-      let y = singles-of left (impossible n left) h refl ∙ ap (λ d. pick d [] (alone left ∷ [])) (some left (impossible_some n left h)) in
-      end-singles i left (closed_waits e)
+      let y = singles_of left (impossible n left) h refl ∙ ap (λ d. pick d [] (alone left ∷ [])) (some left (impossible_some n left h)) in
+      end_singles i left (closed_waits e)
       (subst (λ x. Runs e (emptied s w) b x n i b []) (sym y)
-      (run-last left (impossible n left) (no_more n i b) t h refl refl (omega arith) (λ z. ⊎_elim (λ (k : n ≡ 1). omega arith) (λ (k : n ≡ 3). omega arith) m) (λ z. ⊎_elim (λ (k : n ≡ 1). omega arith) (λ (k : n ≡ 3). omega arith) m)))
+      (run_last left (impossible n left) (no_more n i b) t h refl refl (omega arith) (λ z. ⊎_elim (λ (k : n ≡ 1). omega arith) (λ (k : n ≡ 3). omega arith) m) (λ z. ⊎_elim (λ (k : n ≡ 1). omega arith) (λ (k : n ≡ 3). omega arith) m)))
       refl refl (λ k. refl) (λ p. absurd (false≢true (sym p)))
-      (λ o l z. let none = (zero_one (singles left) left (no_more n i b) y (last-held left (impossible n left) (no_more n i b) t h refl refl (omega arith))).0 z in ⊎_elim (λ (k : n ≡ 1). omega (arith, none)) (λ (k : n ≡ 3). omega (arith, none)) m)
+      (λ o l z. let none = (zero_one (singles left) left (no_more n i b) y (last_held left (impossible n left) (no_more n i b) t h refl refl (omega arith))).0 z in ⊎_elim (λ (k : n ≡ 1). omega (arith, none)) (λ (k : n ≡ 3). omega (arith, none)) m)
     where
       some : (x : List ℕ) → (x ≡ [] → ⊥) → eqb (length x) 0 ≡ false
       some [] h = absurd (h refl)
@@ -369,45 +369,45 @@ module _ (e : End) (n : ℕ) (s : Session) (w : List ℕ) (b : Buffers) where
       one (y ∷ x) (subst (λ d. AllZero (numbers e (emptied s w) b (pick d [] (alone (y ∷ x) ∷ [])))) (ne_eqb (length (y ∷ x)) 0 (λ z. omega arith)) z)
     where
       one : (x : List ℕ) → AllZero (numbers e (emptied s w) b (alone x ∷ [])) → ⊥
-      one x z = let k = (((tally_one e (emptied s w) b (alone x) (untaken 13 (emptied s w) b ample) (chunk-refused e (emptied s w) b 13 x ample t refl)).all_zero []).0 z).0 in omega arith
+      one x z = let k = (((tally_one e (emptied s w) b (alone x) (untaken 13 (emptied s w) b ample) (chunk_refused e (emptied s w) b 13 x ample t refl)).all_zero []).0 z).0 in omega arith
   none_accepted t (y ∷ ts) x h z =
-      let k = (((tally_one e (emptied s w) b (alone y) (untaken 13 (emptied s w) b ample) (chunk-refused e (emptied s w) b 13 y ample t refl)).all_zero (map alone ts ++ last x)).0 z).0 in omega arith
+      let k = (((tally_one e (emptied s w) b (alone y) (untaken 13 (emptied s w) b ample) (chunk_refused e (emptied s w) b 13 y ample t refl)).all_zero (map alone ts ++ last x)).0 z).0 in omega arith
 
-  end-over : (left : List ℕ) → turn_at e s.phase ≡ drops 13 → Follows e n s w (emptied s w) b left (uncut e (emptied s w) b left []) []
-  end-over left t =
+  end_over : (left : List ℕ) → turn_at e s.phase ≡ drops 13 → Follows e n s w (emptied s w) b left (uncut e (emptied s w) b left []) []
+  end_over left t =
       let k = turn_says e s.phase in
       let c = cut start [] left in
-      end-singles (emptied s w) left (k.waits (λ z. keeps_not_drops 13 (sym z ∙ t)))
-      (run_join e (run-over e (emptied s w) b (k.ended t).1 c.texts) (λ k. k) (rest (eqb (length (bytes_of c.rest)) 0))) refl refl
+      end_singles (emptied s w) left (k.waits (λ z. keeps_not_drops 13 (sym z ∙ t)))
+      (run_join e (run_over e (emptied s w) b (k.ended t).1 c.texts) (λ k. k) (rest (eqb (length (bytes_of c.rest)) 0))) refl refl
       (λ k. ap (λ d. pick d 13 0) k ∙ sym (ap (λ d. pick d n 0) k))
-      (λ p l. zero_none (singles left) (ap singles (l (over_ended s.phase (k.ended t).0 p)) ∙ singles-of [] (unfinished start []) none_front.read refl))
+      (λ p l. zero_none (singles left) (ap singles (l (over_ended s.phase (k.ended t).0 p)) ∙ singles_of [] (unfinished start []) none_front.read refl))
       (λ o l z. none_accepted (k.ended t).1 c.texts (bytes_of c.rest) (λ y. l (sym (cut_joined left start []) ∙ y)) z)
     where
       rest : (d : Bool) → Runs e (emptied s w) b (pick d [] (alone (bytes_of (cut start [] left).rest) ∷ [])) 13 (emptied s w) b []
       rest true = run_none e (emptied s w) b 13
-      rest false = run-refused-13 e (emptied s w) b (bytes_of (cut start [] left).rest) ample ((turn_says e s.phase).ended t).1
+      rest false = run_refused_13 e (emptied s w) b (bytes_of (cut start [] left).rest) ample ((turn_says e s.phase).ended t).1
 
-  end-waiting : (left : List ℕ) → turn_at e s.phase ≡ keeps_back → Follows e n s w (keeping s start left w) b left (uncut e (keeping s start left w) b left []) []
+  end_waiting : (left : List ℕ) → turn_at e s.phase ≡ keeps_back → Follows e n s w (keeping s start left w) b left (uncut e (keeping s start left w) b left []) []
   unfolding uncut AreSingle text_in
-  end-waiting left t =
+  end_waiting left t =
       let c = (turn_says e s.phase).going (λ z. keeps_not_drops 13 (sym t ∙ z)) in
       let h = turn_waits e s.phase t in
       subst (λ d. Follows e n s w (keeping s start left w) b left (pick d [] (singles left)) []) (sym h)
-      (follow-end e n s w (keeping s start left w) b left [] (run_none e (emptied s w) b 0) refl refl (λ k. rw c.1) (ap (λ d. pick d left []) h) tt
-      (λ p l. zero_none [] refl) (λ o. absurd (false≢true (sym c.0 ∙ o))) (made-alone e [] (emptied s w) b))
+      (follow_end e n s w (keeping s start left w) b left [] (run_none e (emptied s w) b 0) refl refl (λ k. rw c.1) (ap (λ d. pick d left []) h) tt
+      (λ p l. zero_none [] refl) (λ o. absurd (false≢true (sym c.0 ∙ o))) (made_alone e [] (emptied s w) b))
 
-  follows-end : (i : Intake) (left : List ℕ) → At e n s w i left → Follows e n s w i b left (uncut e i b left []) []
-  follows-end _ _ (in_turn q f t h) = end-in-turn q f t h
-  follows-end _ _ (quiet t) =
+  follows_end : (i : Intake) (left : List ℕ) → At e n s w i left → Follows e n s w i b left (uncut e i b left []) []
+  follows_end _ _ (in_turn q f t h) = end_in_turn q f t h
+  follows_end _ _ (quiet t) =
       let k = turn_says e s.phase in
       let c = (k.going (λ z. not_13 (sym t ∙ z))).1 in
-      let y = singles-of [] (unfinished start []) none_front.read refl in
-      end-singles (emptied s w) [] (k.waits (λ z. keeps_not_drops 14 (sym z ∙ t)))
+      let y = singles_of [] (unfinished start []) none_front.read refl in
+      end_singles (emptied s w) [] (k.waits (λ z. keeps_not_drops 14 (sym z ∙ t)))
       (subst (λ x. Runs e (emptied s w) b x 0 (emptied s w) b []) (sym y) (run_none e (emptied s w) b 0)) refl refl (λ k. rw c)
       (λ p l. zero_none (singles []) y) (λ o l. absurd (l refl))
-  follows-end _ _ (over left t) = end-over left t
-  follows-end _ _ (waiting left t) = end-waiting left t
-  follows-end _ _ (stopped left t h m) = end-stopped left t h m
+  follows_end _ _ (over left t) = end_over left t
+  follows_end _ _ (waiting left t) = end_waiting left t
+  follows_end _ _ (stopped left t h m) = end_stopped left t h m
 
 -- ---- the stanzas that are received
 
@@ -471,9 +471,9 @@ module _ (cs : List Piece) (go : Goes cs) (e : End) (n : ℕ) (s : Session) (w :
         let c = chunk bytes out in
         let r = taken e i b bytes in
         let p = parted_chunk e i b bytes in
-        let x = none_behind e i b c cs (judged i b out r) (chunked-read e i b bytes out t) h in
+        let x = none_behind e i b c cs (judged i b out r) (chunked_read e i b bytes out t) h in
         let y = judged_not_15 i b out r x.0.1 in
-        let o : outcome_of e i b c ≡ held out r = chunked-read e i b bytes out t ∙ y.0 in
+        let o : outcome_of e i b c ≡ held out r = chunked_read e i b bytes out t ∙ y.0 in
         let g = none_behind e i b c cs (held out r) o h in
         let parts = cut_parts bytes q f k in
         let m = received_all (cut q f bytes).texts e s w b (cut q f bytes).rest z parts.texts parts.rest g.0.0 in
@@ -482,32 +482,32 @@ module _ (cs : List Piece) (go : Goes cs) (e : End) (n : ℕ) (s : Session) (w :
         subst (λ x. Follows e n s w i b f x (c ∷ cs))
         (sym (ap (λ d. pick d (uncut e i b (f ++ bytes) cs) (map alone p.received ++ uncut e (chunked e i b bytes out).intake (chunked e i b bytes out).buffers p.left cs)) v
         ∙ ap (λ (o : Outcome). map alone p.received ++ uncut e o.intake o.buffers p.left cs) o))
-        (follow e n s w i b f (map alone p.received) (uncut e r.intake r.buffers p.left cs) cs c m.runs (run_held e i b c out r o y.1 g.0.0 g.0.1) m.at z text wholes v m.accepts (tally_one e i b c (held out r) o) m.level (none_behind_on e i b c cs (held out r) o) (made-alone e p.received (emptied s w) b)
+        (follow e n s w i b f (map alone p.received) (uncut e r.intake r.buffers p.left cs) cs c m.runs (run_held e i b c out r o y.1 g.0.0 g.0.1) m.at z text wholes v m.accepts (tally_one e i b c (held out r) o) m.level (none_behind_on e i b c cs (held out r) o) (made_alone e p.received (emptied s w) b)
         (go e r.number m.session m.awaited r.intake r.buffers p.left m.at g.1))
 
     -- one behind the end
-    chunk-over : (i : Intake) (left : List ℕ) → turn_of e i.session.phase ≡ 13 → is_over i.session.phase ≡ true → At e n s w i (left ++ bytes) →
+    chunk_over : (i : Intake) (left : List ℕ) → turn_of e i.session.phase ≡ 13 → is_over i.session.phase ≡ true → At e n s w i (left ++ bytes) →
         NoneHeldUp (numbers e i b (chunk bytes out ∷ cs)) → Follows e n s w i b left (uncut e i b left (chunk bytes out ∷ cs)) (chunk bytes out ∷ cs)
     unfolding uncut text_in
-    chunk-over i left t v a h =
-        let g = none_behind e i b (chunk bytes out) cs (untaken 13 i b out) (chunk-refused e i b 13 bytes out t refl) h in
+    chunk_over i left t v a h =
+        let g = none_behind e i b (chunk bytes out) cs (untaken 13 i b out) (chunk_refused e i b 13 bytes out t refl) h in
         subst (λ d. Follows e n s w i b left (pick d (uncut e i b (left ++ bytes) cs) (map alone (parted_chunk e i b bytes).received ++ uncut e (chunked e i b bytes out).intake (chunked e i b bytes out).buffers (parted_chunk e i b bytes).left cs)) (chunk bytes out ∷ cs))
         (sym v)
-        (follow-skip e n s w i b left v (run-refused-13 e i b bytes out t) (subst (λ x. Follows e n s w i b (left ++ x) (uncut e i b (left ++ bytes) cs) cs) (sym (append-nil bytes)) (go e n s w i b (left ++ bytes) a g.1)))
+        (follow_skip e n s w i b left v (run_refused_13 e i b bytes out t) (subst (λ x. Follows e n s w i b (left ++ x) (uncut e i b (left ++ bytes) cs) cs) (sym (append-nil bytes)) (go e n s w i b (left ++ bytes) a g.1)))
 
-    chunk-14 : (i : Intake) → turn_of e i.session.phase ≡ 14 → NoneHeldUp (numbers e i b (chunk bytes out ∷ cs)) → ⊥
-    chunk-14 i t h = (none_behind e i b (chunk bytes out) cs (untaken 14 i b out) (chunk-refused e i b 14 bytes out t refl) h).0.0 refl
+    chunk_14 : (i : Intake) → turn_of e i.session.phase ≡ 14 → NoneHeldUp (numbers e i b (chunk bytes out ∷ cs)) → ⊥
+    chunk_14 i t h = (none_behind e i b (chunk bytes out) cs (untaken 14 i b out) (chunk_refused e i b 14 bytes out t refl) h).0.0 refl
 
-    follows-chunk : (i : Intake) (left : List ℕ) → At e n s w i left → NoneHeldUp (numbers e i b (chunk bytes out ∷ cs)) → Follows e n s w i b left (uncut e i b left (chunk bytes out ∷ cs)) (chunk bytes out ∷ cs)
-    follows-chunk _ _ (in_turn q f t k) h =
+    follows_chunk : (i : Intake) (left : List ℕ) → At e n s w i left → NoneHeldUp (numbers e i b (chunk bytes out ∷ cs)) → Follows e n s w i b left (uncut e i b left (chunk bytes out ∷ cs)) (chunk bytes out ∷ cs)
+    follows_chunk _ _ (in_turn q f t k) h =
         let c = (turn_says e s.phase).going (λ z. drops_not_reads 13 (sym z ∙ t)) in chunk_read q f (turn_reads e s.phase t) c.0 c.1 k h
-    follows-chunk _ _ (quiet t) h =
+    follows_chunk _ _ (quiet t) h =
         let c = (turn_says e s.phase).going (λ z. not_13 (sym t ∙ z)) in
-        ⊎_elim (λ x. chunk_read start [] x c.0 c.1 none_front h) (λ x. absurd (chunk-14 (emptied s w) x h)) ((turn_says e s.phase).still t)
-    follows-chunk _ _ (over left t) h = let c = (turn_says e s.phase).ended t in chunk-over (emptied s w) left c.1 c.0 (over (left ++ bytes) t) h
-    follows-chunk _ _ (waiting left t) h = let k = (turn_says e s.phase).host t in absurd (chunk-14 (keeping s start left w) (ap₂ turn_of k.0 k.1.1) h)
-    follows-chunk _ _ (stopped left t k m) h =
-        chunk-over (emptied (closed s) []) left (closed_turn_of e) refl (stopped (left ++ bytes) t (cut_append left bytes start [] ∙ ap (λ c. cut_on c bytes) k) m) h
+        ⊎_elim (λ x. chunk_read start [] x c.0 c.1 none_front h) (λ x. absurd (chunk_14 (emptied s w) x h)) ((turn_says e s.phase).still t)
+    follows_chunk _ _ (over left t) h = let c = (turn_says e s.phase).ended t in chunk_over (emptied s w) left c.1 c.0 (over (left ++ bytes) t) h
+    follows_chunk _ _ (waiting left t) h = let k = (turn_says e s.phase).host t in absurd (chunk_14 (keeping s start left w) (ap₂ turn_of k.0 k.1.1) h)
+    follows_chunk _ _ (stopped left t k m) h =
+        chunk_over (emptied (closed s) []) left (closed_turn_of e) refl (stopped (left ++ bytes) t (cut_append left bytes start [] ∙ ap (λ c. cut_on c bytes) k) m) h
 
 -- ---- a reply
 
@@ -525,31 +525,31 @@ client_due Ended h = refl
 client_due Closed h = refl
 
 module _ (i : Intake) (b : Buffers) (r : Response) (body out : List ℕ) where
-  reply-undue : (u : Turn) → turn_at client i.session.phase ≡ u → (u ≡ keeps_back → ⊥) → replied i b r body out ≡ untaken (due_number u) i b out
-  reply-undue u t h = ap (λ d. replied_by d i b r body out) (client_due i.session.phase (λ z. h (sym t ∙ z)) ∙ ap (λ u. undue (due_number u)) t)
+  reply_undue : (u : Turn) → turn_at client i.session.phase ≡ u → (u ≡ keeps_back → ⊥) → replied i b r body out ≡ untaken (due_number u) i b out
+  reply_undue u t h = ap (λ d. replied_by d i b r body out) (client_due i.session.phase (λ z. h (sym t ∙ z)) ∙ ap (λ u. undue (due_number u)) t)
 
   -- in phase two, or at the plugin end, 14
-  reply-14 : (e : End) (u : Turn) → turn_at e i.session.phase ≡ u → (u ≡ keeps_back → ⊥) → due_number u ≡ 14 → outcome_of e i b (reply r body out) ≡ untaken 14 i b out
-  reply-14 client u t h k = reply-undue u t h ∙ ap (λ n. untaken n i b out) k
-  reply-14 plugin u t h k = refl
+  reply_14 : (e : End) (u : Turn) → turn_at e i.session.phase ≡ u → (u ≡ keeps_back → ⊥) → due_number u ≡ 14 → outcome_of e i b (reply r body out) ≡ untaken 14 i b out
+  reply_14 client u t h k = reply_undue u t h ∙ ap (λ n. untaken n i b out) k
+  reply_14 plugin u t h k = refl
 
   -- behind the end 13, at the plugin end 14
-  reply-13 : (e : End) → turn_at e i.session.phase ≡ drops 13 → (outcome_of e i b (reply r body out) ≡ untaken 13 i b out) ⊎ (outcome_of e i b (reply r body out) ≡ untaken 14 i b out)
-  reply-13 client t = inl (reply-undue (drops 13) t (λ z. keeps_not_drops 13 (sym z)))
-  reply-13 plugin t = inr refl
+  reply_13 : (e : End) → turn_at e i.session.phase ≡ drops 13 → (outcome_of e i b (reply r body out) ≡ untaken 13 i b out) ⊎ (outcome_of e i b (reply r body out) ≡ untaken 14 i b out)
+  reply_13 client t = inl (reply_undue (drops 13) t (λ z. keeps_not_drops 13 (sym z)))
+  reply_13 plugin t = inr refl
 
   -- to the command that waits
   module _ (v : WordTwo) (phase : i.session.phase ≡ Awaiting v) where
-    reply-to : replied i b r body out ≡ replied_to v i b r body out
-    reply-to = ap (λ p. replied_by (due_in p) i b r body out) phase
+    reply_to : replied i b r body out ≡ replied_to v i b r body out
+    reply_to = ap (λ p. replied_by (due_in p) i b r body out) phase
 
-    pub reply-unfit : (n : ℕ) → number_replied v r body ≡ n → eqb n 0 ≡ false → replied i b r body out ≡ untaken n i b out
+    pub reply_unfit : (n : ℕ) → number_replied v r body ≡ n → eqb n 0 ≡ false → replied i b r body out ≡ untaken n i b out
     unfolding replied_to
-    reply-unfit n h z = reply-to ∙ rw (h, z)
+    reply_unfit n h z = reply_to ∙ rw (h, z)
 
-    pub reply-fit : number_replied v r body ≡ 0 → replied i b r body out ≡ judged i b out (reply_ahead (stanza_text (response_line r) body) (taken_back i b))
+    pub reply_fit : number_replied v r body ≡ 0 → replied i b r body out ≡ judged i b out (reply_ahead (stanza_text (response_line r) body) (taken_back i b))
     unfolding replied_to
-    reply-fit h = reply-to ∙ rw h
+    reply_fit h = reply_to ∙ rw h
 
 -- the uncut list, by whether a reply is due
 module _ (e : End) (i : Intake) (b : Buffers) (left : List ℕ) (r : Response) (body out : List ℕ) (cs : List Piece) where
@@ -557,13 +557,13 @@ module _ (e : End) (i : Intake) (b : Buffers) (left : List ℕ) (r : Response) (
   after_reply o =
       reply r body ample ∷ pick (is_unfit o) (uncut e o.intake o.buffers left cs) (map alone (parted_back i b).received ++ uncut e o.intake o.buffers (parted_back i b).left cs)
 
-  uncut-undue : (o : Outcome) → outcome_of e i b (reply r body out) ≡ o → is_waiting e i.session.phase ≡ false → uncut e i b left (reply r body out ∷ cs) ≡ uncut e o.intake o.buffers left cs
+  uncut_undue : (o : Outcome) → outcome_of e i b (reply r body out) ≡ o → is_waiting e i.session.phase ≡ false → uncut e i b left (reply r body out ∷ cs) ≡ uncut e o.intake o.buffers left cs
   unfolding uncut
-  uncut-undue o q h = ap (λ (o : Outcome). pick (is_waiting e i.session.phase) (after_reply o) (uncut e o.intake o.buffers left cs)) q ∙ rw h
+  uncut_undue o q h = ap (λ (o : Outcome). pick (is_waiting e i.session.phase) (after_reply o) (uncut e o.intake o.buffers left cs)) q ∙ rw h
 
-  uncut-due : (o : Outcome) → outcome_of e i b (reply r body out) ≡ o → is_waiting e i.session.phase ≡ true → uncut e i b left (reply r body out ∷ cs) ≡ after_reply o
+  uncut_due : (o : Outcome) → outcome_of e i b (reply r body out) ≡ o → is_waiting e i.session.phase ≡ true → uncut e i b left (reply r body out ∷ cs) ≡ after_reply o
   unfolding uncut
-  uncut-due o q h = ap (λ (o : Outcome). pick (is_waiting e i.session.phase) (after_reply o) (uncut e o.intake o.buffers left cs)) q ∙ rw h
+  uncut_due o q h = ap (λ (o : Outcome). pick (is_waiting e i.session.phase) (after_reply o) (uncut e o.intake o.buffers left cs)) q ∙ rw h
 
 -- a response that is written is no longer than 8,192 bytes
 pub reply_short : (v : WordTwo) (r : Response) (body : List ℕ) → number_replied v r body ≡ 0 → length (stanza_text (response_line r) body) ≤ 8192
@@ -583,26 +583,26 @@ pub reply_alone_lem : (s : Session) (w : List ℕ) (b : Buffers) (r : Response) 
 unfolding taken_all cut
 reply_alone_lem s w b r body v phase h =
     let q = reply_ahead (stanza_text (response_line r) body) (no_more 0 (emptied (answered s) []) b) in
-    reply-fit (emptied s w) b r body ample v phase h ∙ judged_held (emptied s w) b ample q (room_fits (stanza_text (response_line r) body ++ []) (reply_room v r body h)) (omega arith)
+    reply_fit (emptied s w) b r body ample v phase h ∙ judged_held (emptied s w) b ample q (room_fits (stanza_text (response_line r) body ++ []) (reply_room v r body h)) (omega arith)
 
 module _ (cs : List Piece) (go : Goes cs) (n : ℕ) (s : Session) (w : List ℕ) (b : Buffers) (r : Response) (body out : List ℕ) where
   abbrev text : List ℕ
   text = stanza_text (response_line r) body
 
   -- none for a reply behind the end
-  reply-over : (e : End) (i : Intake) (left : List ℕ) → turn_at e i.session.phase ≡ drops 13 → At e n s w i left →
+  reply_over : (e : End) (i : Intake) (left : List ℕ) → turn_at e i.session.phase ≡ drops 13 → At e n s w i left →
       NoneHeldUp (numbers e i b (reply r body out ∷ cs)) → Follows e n s w i b left (uncut e i b left (reply r body out ∷ cs)) (reply r body out ∷ cs)
   unfolding text_in
-  reply-over e i left t a h =
+  reply_over e i left t a h =
       ⊎_elim
       (λ (o : outcome_of e i b (reply r body out) ≡ untaken 13 i b out).
       let g = none_behind e i b (reply r body out) cs (untaken 13 i b out) o h in
       let k = (turn_says e i.session.phase).waits (λ z. keeps_not_drops 13 (sym z ∙ t)) in
-      subst (λ x. Follows e n s w i b left x (reply r body out ∷ cs)) (sym (uncut-undue e i b left r body out cs (untaken 13 i b out) o k))
-      (follow-skip e n s w i b left ((turn_says e i.session.phase).ended t).0 (run_one e i b (reply r body out) (untaken 13 i b out) o (λ z. omega arith) (λ z. omega arith))
+      subst (λ x. Follows e n s w i b left x (reply r body out ∷ cs)) (sym (uncut_undue e i b left r body out cs (untaken 13 i b out) o k))
+      (follow_skip e n s w i b left ((turn_says e i.session.phase).ended t).0 (run_one e i b (reply r body out) (untaken 13 i b out) o (λ z. omega arith) (λ z. omega arith))
       (subst (λ x. Follows e n s w i b x (uncut e i b left cs) cs) (sym (append-nil left)) (go e n s w i b left a g.1))))
       (λ o. absurd ((none_behind e i b (reply r body out) cs (untaken 14 i b out) o h).0.0 refl))
-      (reply-13 i b r body out e t)
+      (reply_13 i b r body out e t)
 
   -- to the command that waits
   module _ (v : WordTwo) (phase : s.phase ≡ Awaiting v) (left : List ℕ) where
@@ -613,8 +613,8 @@ module _ (cs : List Piece) (go : Goes cs) (n : ℕ) (s : Session) (w : List ℕ)
     c = reply r body out
 
     -- the uncut list's call, where the reply is taken
-    run-reply : number_replied v r body ≡ 0 → Runs client (emptied s w) b (reply r body ample ∷ []) 0 (emptied (answered s) []) b text
-    run-reply h =
+    run_reply : number_replied v r body ≡ 0 → Runs client (emptied s w) b (reply r body ample ∷ []) 0 (emptied (answered s) []) b text
+    run_reply h =
         let q = reply_ahead text (no_more 0 (emptied (answered s) []) b) in
         subst (Runs client (emptied s w) b (reply r body ample ∷ []) 0 (emptied (answered s) []) b) (append-nil text)
         (run_held client (emptied s w) b (reply r body ample) ample q (reply_alone_lem s w b r body v phase h) (room_fits (text ++ []) (reply_room v r body h)) (λ z. omega arith) (λ z. omega arith))
@@ -629,27 +629,27 @@ module _ (cs : List Piece) (go : Goes cs) (n : ℕ) (s : Session) (w : List ℕ)
     Goal = Follows client n s w i b left (uncut client i b left (c ∷ cs)) (c ∷ cs)
 
     -- one that is not taken
-    reply-untaken : (k : ℕ) → number_replied v r body ≡ k → eqb k 0 ≡ false → NoneHeldUp (numbers client i b (c ∷ cs)) → Goal
+    reply_untaken : (k : ℕ) → number_replied v r body ≡ k → eqb k 0 ≡ false → NoneHeldUp (numbers client i b (c ∷ cs)) → Goal
     unfolding text_in Wholes
-    reply-untaken k q z h =
-        let o : outcome_of client i b c ≡ untaken k i b out = reply-unfit i b r body out v phase k q z in
+    reply_untaken k q z h =
+        let o : outcome_of client i b c ≡ untaken k i b out = reply_unfit i b r body out v phase k q z in
         let g = none_behind client i b c cs (untaken k i b out) o h in
-        subst (λ x. Follows client n s w i b left x (c ∷ cs)) (sym (uncut-due client i b left r body out cs (untaken k i b out) o here))
+        subst (λ x. Follows client n s w i b left x (c ∷ cs)) (sym (uncut_due client i b left r body out cs (untaken k i b out) o here))
         (follow client n s w i b left (reply r body ample ∷ []) (uncut client i b left cs) cs c
-        (run_one client (emptied s w) b (reply r body ample) (untaken k (emptied s w) b ample) (reply-unfit (emptied s w) b r body ample v phase k q z) g.0.0 g.0.1)
+        (run_one client (emptied s w) b (reply r body ample) (untaken k (emptied s w) b ample) (reply_unfit (emptied s w) b r body ample v phase k q z) g.0.0 g.0.1)
         (run_one client i b c (untaken k i b out) o g.0.0 g.0.1) (waiting left keeps) (ap is_closed phase) (sym (append-nil left)) tt (ap is_over phase)
-        (tally_one client (emptied s w) b (reply r body ample) (untaken k (emptied s w) b ample) (reply-unfit (emptied s w) b r body ample v phase k q z)) (tally_one client i b c (untaken k i b out) o)
-        (both_refused (eqb-false k 0 z) (eqb-false k 0 z)) (none_behind_on client i b c cs (untaken k i b out) o) (made-reply client (emptied s w) b r body ample [] here)
+        (tally_one client (emptied s w) b (reply r body ample) (untaken k (emptied s w) b ample) (reply_unfit (emptied s w) b r body ample v phase k q z)) (tally_one client i b c (untaken k i b out) o)
+        (both_refused (eqb-false k 0 z) (eqb-false k 0 z)) (none_behind_on client i b c cs (untaken k i b out) o) (made_reply client (emptied s w) b r body ample [] here)
         (go client k s w i b left (waiting left keeps) g.1))
 
     -- one that is
-    reply-taken : number_replied v r body ≡ 0 → NoneHeldUp (numbers client i b (c ∷ cs)) → Goal
+    reply_taken : number_replied v r body ≡ 0 → NoneHeldUp (numbers client i b (c ∷ cs)) → Goal
     unfolding text_in Wholes
-    reply-taken q h =
+    reply_taken q h =
         let m = taken_back i b in
         let d = reply_ahead text m in
         let p = parted_back i b in
-        let j = reply-fit i b r body out v phase q in
+        let j = reply_fit i b r body out v phase q in
         let x = none_behind client i b c cs (judged i b out d) j h in
         let y = judged_not_15 i b out d x.0.1 in
         let o : outcome_of client i b c ≡ held out d = j ∙ y.0 in
@@ -660,34 +660,34 @@ module _ (cs : List Piece) (go : Goes cs) (n : ℕ) (s : Session) (w : List ℕ)
         let wholes = wholes_alone p.received (parted_whole (cut start [] left).texts client (answered s) b (cut start [] left).rest parts.texts) in
         let z : eqb (length (text ++ m.written)) 0 ≡ false = ne_eqb (length (text ++ m.written)) 0 (λ z. omega arith) in
         subst (λ x. Follows client n s w i b left x (c ∷ cs))
-        (sym (uncut-due client i b left r body out cs (held out d) o here
+        (sym (uncut_due client i b left r body out cs (held out d) o here
         ∙ ap (λ f. reply r body ample ∷ pick f (uncut client m.intake m.buffers left cs) (map alone p.received ++ uncut client m.intake m.buffers p.left cs)) z))
         (follow client n s w i b left (reply r body ample ∷ map alone p.received) (uncut client m.intake m.buffers p.left cs) cs c
-        (run_join client (run-reply q) (λ z. refl) k.runs) (run_held client i b c out d o y.1 g.0.0 g.0.1) k.at (ap is_closed phase) bytes wholes (ap is_over phase)
+        (run_join client (run_reply q) (λ z. refl) k.runs) (run_held client i b c out d o y.1 g.0.0 g.0.1) k.at (ap is_closed phase) bytes wholes (ap is_over phase)
         (tally_join client (tally_one client (emptied s w) b (reply r body ample) (held ample (reply_ahead text (no_more 0 (emptied (answered s) []) b))) (reply_alone_lem s w b r body v phase q)) k.accepts)
-        (tally_one client i b c (held out d) o) k.level (none_behind_on client i b c cs (held out d) o) (made-reply client (emptied s w) b r body ample p.received here)
+        (tally_one client i b c (held out d) o) k.level (none_behind_on client i b c cs (held out d) o) (made_reply client (emptied s w) b r body ample p.received here)
         (go client m.number k.session k.awaited m.intake m.buffers p.left k.at g.1))
 
-    reply-waiting : NoneHeldUp (numbers client i b (c ∷ cs)) → Goal
-    reply-waiting h =
-        cases (eqb (number_replied v r body) 0) (λ z. reply-taken (eqb-true (number_replied v r body) 0 z) h) (λ z. reply-untaken (number_replied v r body) refl z h)
+    reply_waiting : NoneHeldUp (numbers client i b (c ∷ cs)) → Goal
+    reply_waiting h =
+        cases (eqb (number_replied v r body) 0) (λ z. reply_taken (eqb-true (number_replied v r body) 0 z) h) (λ z. reply_untaken (number_replied v r body) refl z h)
 
-  follows-reply : (e : End) (i : Intake) (left : List ℕ) → At e n s w i left → NoneHeldUp (numbers e i b (reply r body out ∷ cs)) →
+  follows_reply : (e : End) (i : Intake) (left : List ℕ) → At e n s w i left → NoneHeldUp (numbers e i b (reply r body out ∷ cs)) →
       Follows e n s w i b left (uncut e i b left (reply r body out ∷ cs)) (reply r body out ∷ cs)
-  follows-reply e _ _ (in_turn q f t k) h =
-      absurd ((none_behind e (keeping s q f w) b (reply r body out) cs _ (reply-14 (keeping s q f w) b r body out e reads t (λ z. keeps_not_reads (sym z)) refl) h).0.0 refl)
-  follows-reply e _ _ (quiet t) h =
-      absurd ((none_behind e (emptied s w) b (reply r body out) cs _ (reply-14 (emptied s w) b r body out e (drops 14) t (λ z. keeps_not_drops 14 (sym z)) refl) h).0.0 refl)
-  follows-reply e _ _ (over left t) h = reply-over e (emptied s w) left t (over left t) h
-  follows-reply client _ _ (waiting left t) h = let k = ((turn_says client s.phase).host t).1 in reply-waiting k.0 k.1 left h
-  follows-reply plugin _ _ (waiting left t) h = absurd ((none_behind plugin (keeping s start left w) b (reply r body out) cs (untaken 14 (keeping s start left w) b out) refl h).0.0 refl)
-  follows-reply e _ _ (stopped left t k m) h = reply-over e (emptied (closed s) []) left (closed_turn e) (stopped left t k m) h
+  follows_reply e _ _ (in_turn q f t k) h =
+      absurd ((none_behind e (keeping s q f w) b (reply r body out) cs _ (reply_14 (keeping s q f w) b r body out e reads t (λ z. keeps_not_reads (sym z)) refl) h).0.0 refl)
+  follows_reply e _ _ (quiet t) h =
+      absurd ((none_behind e (emptied s w) b (reply r body out) cs _ (reply_14 (emptied s w) b r body out e (drops 14) t (λ z. keeps_not_drops 14 (sym z)) refl) h).0.0 refl)
+  follows_reply e _ _ (over left t) h = reply_over e (emptied s w) left t (over left t) h
+  follows_reply client _ _ (waiting left t) h = let k = ((turn_says client s.phase).host t).1 in reply_waiting k.0 k.1 left h
+  follows_reply plugin _ _ (waiting left t) h = absurd ((none_behind plugin (keeping s start left w) b (reply r body out) cs (untaken 14 (keeping s start left w) b out) refl h).0.0 refl)
+  follows_reply e _ _ (stopped left t k m) h = reply_over e (emptied (closed s) []) left (closed_turn e) (stopped left t k m) h
 
 -- the calls of the uncut list follow those of the cut one
 pub follows : (cs : List Piece) → Goes cs
-follows [] e n s w i b left a h = follows-end e n s w b i left a
-follows (chunk bytes out ∷ cs) e n s w i b left a h = follows-chunk cs (follows cs) e n s w b bytes out i left a h
-follows (reply r body out ∷ cs) e n s w i b left a h = follows-reply cs (follows cs) n s w b r body out e i left a h
+follows [] e n s w i b left a h = follows_end e n s w b i left a
+follows (chunk bytes out ∷ cs) e n s w i b left a h = follows_chunk cs (follows cs) e n s w b bytes out i left a h
+follows (reply r body out ∷ cs) e n s w i b left a h = follows_reply cs (follows cs) n s w b r body out e i left a h
 
 -- ---- the theorem
 

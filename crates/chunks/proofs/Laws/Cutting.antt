@@ -156,42 +156,42 @@ module _ (q : State) (f : List ℕ) (h : IsFront q f) (b : ℕ) where
   unfolding cut
   one_more = cut_on_lem f (b ∷ []) start q [] f h.read
 
-  one-more-short : length g ≤ 8192
-  one-more-short = rw length-append (omega (arith, h.short))
+  one_more_short : length g ≤ 8192
+  one_more_short = rw length-append (omega (arith, h.short))
 
-  one-after : after start g ≡ next q b
+  one_after : after start g ≡ next q b
   unfolding after
-  one-after = after_append start f (b ∷ []) ∙ ap (λ p. next p b) (read_after f start q [] f h.read)
+  one_after = after_append start f (b ∷ []) ∙ ap (λ p. next p b) (read_after f start q [] f h.read)
 
   abbrev behind : State → Cut
   behind v = record { texts = []; rest = unfinished (onward v) (front_onward v g) }
 
-  one-more-at : (v : State) → next q b ≡ v → cut start [] g ≡ cut_at v g [] (behind v)
-  one-more-at v e = one_more ∙ ap (λ v. cut_at v g [] (behind v)) e
+  one_more_at : (v : State) → next q b ≡ v → cut start [] g ≡ cut_at v g [] (behind v)
+  one_more_at v e = one_more ∙ ap (λ v. cut_at v g [] (behind v)) e
 
   -- what is impossible stays so
-  impossible-on : (n : ℕ) (x : List ℕ) → cut start [] g ≡ record { texts = []; rest = impossible n (g ++ []) } → cut start [] (g ++ x) ≡ record { texts = []; rest = impossible n (g ++ x) }
-  impossible-on n x e = cut_append g x start [] ∙ ap (λ c. cut_on c x) e ∙ ap (λ y. record { texts = []; rest = impossible n (y ++ x) }) (append-nil g)
+  impossible_on : (n : ℕ) (x : List ℕ) → cut start [] g ≡ record { texts = []; rest = impossible n (g ++ []) } → cut start [] (g ++ x) ≡ record { texts = []; rest = impossible n (g ++ x) }
+  impossible_on n x e = cut_append g x start [] ∙ ap (λ c. cut_on c x) e ∙ ap (λ y. record { texts = []; rest = impossible n (y ++ x) }) (append-nil g)
 
   more_parts : (x : List ℕ) (v : State) → next q b ≡ v → (IsFront (onward v) (front_onward v g) → Parts (cut (onward v) (front_onward v g) x)) → Parts (cut_at v g x (cut (onward v) (front_onward v g) x))
   unfolding cut_at All
   more_parts x =
       by_place (λ v. next q b ≡ v → (IsFront (onward v) (front_onward v g) → Parts (cut (onward v) (front_onward v g) x)) → Parts (cut_at v g x (cut (onward v) (front_onward v g) x)))
-      (λ e k. let p = k none_front in record { texts = (record { alone = one-more-at ended e; at_end = one-after ∙ e; short = one-more-short }, p.texts); rest = p.rest })
-      (λ e k. record { texts = tt; rest = (impossible-on 1 x (one-more-at dead e), inl refl) })
+      (λ e k. let p = k none_front in record { texts = (record { alone = one_more_at ended e; at_end = one_after ∙ e; short = one_more_short }, p.texts); rest = p.rest })
+      (λ e k. record { texts = tt; rest = (impossible_on 1 x (one_more_at dead e), inl refl) })
       (λ v l e k. subst Parts (sym (l.at g x (cut (onward v) (front_onward v g) x))) (live v l e k))
     where
       live : (v : State) (l : Live v) → next q b ≡ v → (IsFront (onward v) (front_onward v g) → Parts (cut (onward v) (front_onward v g) x)) →
           Parts (pick (ltb (length g) 8192) (cut (onward v) (front_onward v g) x) (record { texts = []; rest = impossible 3 (g ++ x) }))
       live v l e k =
-          let r = one-more-at v e ∙ l.at g [] (behind v) in
+          let r = one_more_at v e ∙ l.at g [] (behind v) in
           cases (ltb (length g) 8192)
           (λ t. rw t
           (k (subst₂ IsFront (sym l.on) (sym (l.front g)) (record {
             read = r ∙ ap (λ d. pick d (behind v) (record { texts = []; rest = impossible 3 (g ++ []) })) t ∙ ap₂ (λ p y. record { texts = []; rest = unfinished p y }) l.on (l.front g);
             short = omega (arith, ltb-true (length g) 8192 t);
           }))))
-          (λ t. rw t (record { texts = tt; rest = (impossible-on 3 x (r ∙ ap (λ d. pick d (behind v) (record { texts = []; rest = impossible 3 (g ++ []) })) t), inr refl) }))
+          (λ t. rw t (record { texts = tt; rest = (impossible_on 3 x (r ∙ ap (λ d. pick d (behind v) (record { texts = []; rest = impossible 3 (g ++ []) })) t), inr refl) }))
 
 -- each text is a whole stanza by itself, and so is the rest
 pub cut_parts : (x : List ℕ) (q : State) (f : List ℕ) → IsFront q f → Parts (cut q f x)

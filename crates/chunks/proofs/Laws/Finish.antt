@@ -23,7 +23,7 @@ use Rattle.chunks.specs.Chunks.{turn_of, chunked, replied, finished}
 use Rattle.chunks.specs.Uncut.{is_waiting}
 use Rattle.chunks.specs.Reached.{IsFront}
 use Rattle.chunks.proofs.Laws.Cases.{is_turned, chunk_cases, is_untaken, reply_cases}
-use Rattle.chunks.proofs.Laws.Numbers.{Readable, cut_faulty, all-number}
+use Rattle.chunks.proofs.Laws.Numbers.{Readable, cut_faulty, all_number}
 use Rattle.chunks.proofs.Laws.Cutting.{IsWhole, none_front, cut_parts}
 use Rattle.chunks.proofs.Laws.Stanzas.{whole_read}
 
@@ -39,7 +39,7 @@ whole_not_two t w m h e = let r = whole_read t w in let z : stanza r.line r.body
 -- what a text that is read on from a front comes to
 cut_not_two : (e : End) (s : Session) (b : Buffers) (a : List ℕ) (q : State) (front bytes : List ℕ) → IsFront q front → (taken_all e s b a (cut q front bytes).texts (cut q front bytes).rest).number ≡ 2 → ⊥
 cut_not_two e s b a q front bytes h =
-    all-number NotTwo low_not_two (λ e. omega arith) (λ e. omega arith) e s b a (cut q front bytes).texts (cut q front bytes).rest
+    all_number NotTwo low_not_two (λ e. omega arith) (λ e. omega arith) e s b a (cut q front bytes).texts (cut q front bytes).rest
     (all_weaker whole_not_two (cut q front bytes).texts (cut_parts bytes q front h).texts) (cut_faulty q front bytes)
 
 -- where a chunk is taken nothing waits

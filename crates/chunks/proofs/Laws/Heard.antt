@@ -68,14 +68,14 @@ accepted_open plugin i b (reply r body out) k h = k
 -- such a call takes nothing
 reply_closed : (e : End) (i : Intake) (b : Buffers) (c : Piece) → (is_reply c && is_closed i.session.phase) ≡ true → (n : ℕ) × (out : List ℕ) × (outcome_of e i b c ≡ untaken n i b out)
 reply_closed e i b (chunk bytes out) h = absurd (false≢true h)
-reply_closed client i b (reply r body out) h = (13, out, due-closed i.session.phase h)
+reply_closed client i b (reply r body out) h = (13, out, due_closed i.session.phase h)
   where
-    due-closed : (p : Phase) → is_closed p ≡ true → replied_by (due_in p) i b r body out ≡ untaken 13 i b out
-    due-closed One h = absurd (false≢true h)
-    due-closed Two h = absurd (false≢true h)
-    due-closed (Awaiting w) h = absurd (false≢true h)
-    due-closed Ended h = absurd (false≢true h)
-    due-closed Closed h = refl
+    due_closed : (p : Phase) → is_closed p ≡ true → replied_by (due_in p) i b r body out ≡ untaken 13 i b out
+    due_closed One h = absurd (false≢true h)
+    due_closed Two h = absurd (false≢true h)
+    due_closed (Awaiting w) h = absurd (false≢true h)
+    due_closed Ended h = absurd (false≢true h)
+    due_closed Closed h = refl
 reply_closed plugin i b (reply r body out) h = (14, out, refl)
 
 -- the rest of a list behind a call that takes nothing

@@ -33,12 +33,12 @@ use Rattle.chunks.specs.Orders.{reply_alone, uncut_calls, in_time, IsCut, end_of
 use Rattle.chunks.proofs.Laws.Reading.{cut_whole}
 use Rattle.chunks.proofs.Laws.Cases.{drops_not_reads, held}
 use Rattle.chunks.proofs.Laws.Stanzas.{stanza_open, stepped}
-use Rattle.chunks.proofs.Laws.Cut.{chunk-refused, closed_turn_of, none_behind, none_behind_on, reply-unfit, reply_alone_lem}
+use Rattle.chunks.proofs.Laws.Cut.{chunk_refused, closed_turn_of, none_behind, none_behind_on, reply_unfit, reply_alone_lem}
 use Rattle.chunks.proofs.Laws.Orders.{all_append, starts_ready, cut_calls, order_of_cuts}
-use Rattle.chunks.proofs.Laws.Prefix.{drops-number, empty_apart, some}
+use Rattle.chunks.proofs.Laws.Prefix.{drops_number, empty_apart, some}
 use Rattle.chunks.proofs.Laws.Blocks.{blocks_same}
 use Rattle.chunks.proofs.Laws.Singles.{whole_is}
-use Rattle.chunks.proofs.Laws.Taking.{turn_drops, turn_says, closed_waits, over_ended, alone-accepted, alone-refused, one_alone, refused_one}
+use Rattle.chunks.proofs.Laws.Taking.{turn_drops, turn_says, closed_waits, over_ended, alone_accepted, alone_refused, one_alone, refused_one}
 use Rattle.chunks.proofs.Laws.Written.{cut_wholes}
 
 -- a whole stanza in a chunk of its own, or a reply
@@ -62,7 +62,7 @@ shut_uncut : (cs : List Piece) (e : End) (s : Session) (b : Buffers) (left : Lis
 unfolding uncut text_in
 shut_uncut [] e s b left h = rw (closed_waits e) (ap singles (sym (append-nil left)))
 shut_uncut (chunk bytes out ∷ cs) e s b left h =
-    shut_uncut cs e s b (left ++ bytes) (none_behind e (shut s) b (chunk bytes out) cs (untaken 13 (shut s) b out) (chunk-refused e (shut s) b 13 bytes out (closed_turn_of e) refl) h).1 ∙ ap singles (append_assoc left bytes (text_in cs))
+    shut_uncut cs e s b (left ++ bytes) (none_behind e (shut s) b (chunk bytes out) cs (untaken 13 (shut s) b out) (chunk_refused e (shut s) b 13 bytes out (closed_turn_of e) refl) h).1 ∙ ap singles (append_assoc left bytes (text_in cs))
 shut_uncut (reply r body out ∷ cs) e s b left h =
     let q = shut_reply e s b r body out cs h in
     rw (closed_waits e) (ap (λ (o : Outcome). uncut e o.intake o.buffers left cs) q ∙ shut_uncut cs e s b left (none_behind e (shut s) b (reply r body out) cs (untaken 13 (shut s) b out) q h).1)
@@ -90,7 +90,7 @@ shut_heard : (cs : List Piece) (e : End) (s : Session) (b : Buffers) → All IsA
 unfolding All in_time texts_in
 shut_heard [] e s b h n = refl
 shut_heard (chunk t out ∷ cs) e s b h n =
-    let q = chunk-refused e (shut s) b 13 t out (closed_turn_of e) refl in
+    let q = chunk_refused e (shut s) b 13 t out (closed_turn_of e) refl in
     ap₂ (λ (c : Piece) x. c ∷ x) (ap (chunk t) h.0.0)
     (ap (λ (o : Outcome). in_time e o.intake o.buffers cs) q ∙ shut_heard cs e s b h.1 (none_behind e (shut s) b (chunk t out) cs (untaken 13 (shut s) b out) q n).1)
 shut_heard (reply r body out ∷ cs) e s b h n =
@@ -119,21 +119,21 @@ abbrev Same : End → Session → List ℕ → Buffers → List Piece → Type 0
 Same e s a b cs = uncut e (emptied s a) b [] cs ≡ in_time e (emptied s a) b cs
 
 module _ (e : End) (s : Session) (a : List ℕ) (b : Buffers) (cs : List Piece) where
-  heard-on : (c : Piece) (o : Outcome) → outcome_of e (emptied s a) b c ≡ o → is_closed s.phase ≡ false → in_time e (emptied s a) b (c ∷ cs) ≡ c ∷ in_time e o.intake o.buffers cs
+  heard_on : (c : Piece) (o : Outcome) → outcome_of e (emptied s a) b c ≡ o → is_closed s.phase ≡ false → in_time e (emptied s a) b (c ∷ cs) ≡ c ∷ in_time e o.intake o.buffers cs
   unfolding in_time
-  heard-on c o q h = rw (ap (λ x. is_reply c && x) h ∙ and_false_right (is_reply c)) (ap (λ (o : Outcome). c ∷ in_time e o.intake o.buffers cs) q)
+  heard_on c o q h = rw (ap (λ x. is_reply c && x) h ∙ and_false_right (is_reply c)) (ap (λ (o : Outcome). c ∷ in_time e o.intake o.buffers cs) q)
 
-  chunk-on : (t : List ℕ) (o : Outcome) → outcome_of e (emptied s a) b (alone t) ≡ o → is_over s.phase ≡ false → Whole t → turn_at e s.phase ≡ reads →
+  chunk_on : (t : List ℕ) (o : Outcome) → outcome_of e (emptied s a) b (alone t) ≡ o → is_over s.phase ≡ false → Whole t → turn_at e s.phase ≡ reads →
       uncut e (emptied s a) b [] (alone t ∷ cs) ≡ alone t ∷ uncut e o.intake o.buffers [] cs
   unfolding uncut
-  chunk-on t o q h w u =
+  chunk_on t o q h w u =
       let x = outcome_of e (emptied s a) b (alone t) in
       rw h (ap (λ (p : Parted). map alone p.received ++ uncut e x.intake x.buffers p.left cs) (parted_single e s b a t w u) ∙ ap (λ (o : Outcome). alone t ∷ uncut e o.intake o.buffers [] cs) q)
 
-  reply-on : (r : Response) (body : List ℕ) (o : Outcome) → outcome_of e (emptied s a) b (reply r body ample) ≡ o → is_waiting e s.phase ≡ true →
+  reply_on : (r : Response) (body : List ℕ) (o : Outcome) → outcome_of e (emptied s a) b (reply r body ample) ≡ o → is_waiting e s.phase ≡ true →
       uncut e (emptied s a) b [] (reply r body ample ∷ cs) ≡ reply r body ample ∷ uncut e o.intake o.buffers [] cs
   unfolding uncut cut parted
-  reply-on r body o q h =
+  reply_on r body o q h =
       let x = outcome_of e (emptied s a) b (reply r body ample) in
       rw h (ap (λ x. reply r body ample ∷ x) (same (is_unfit x) (uncut e x.intake x.buffers [] cs)) ∙ ap (λ (o : Outcome). reply r body ample ∷ uncut e o.intake o.buffers [] cs) q)
     where
@@ -160,40 +160,40 @@ module _ (cs : List Piece) (go : Goes cs) (alones : All IsAlone cs) (e : End) (s
       ∙ ap (λ x. c ∷ x) (ap (λ i. uncut e i o.buffers [] cs) k
       ∙ go e s' a' o.buffers v (subst (λ i. NoneHeldUp (numbers e i o.buffers cs)) k (none_behind e (emptied s a) b c cs o q n).1) (subst (λ i. NoneBehind e i o.buffers cs) k (none_behind_on e (emptied s a) b c cs o q d))
       ∙ ap (λ i. in_time e i o.buffers cs) (sym k))
-      ∙ sym (heard-on e s a b cs c o q open_is)
+      ∙ sym (heard_on e s a b cs c o q open_is)
 
   module _ (t : List ℕ) (w : Whole t) (n : NoneHeldUp (numbers e (emptied s a) b (alone t ∷ cs))) (d : NoneBehind e (emptied s a) b (alone t ∷ cs)) where
-    not-14 : (outcome_of e (emptied s a) b (alone t)).number ≡ 14 → ⊥
-    not-14 = (none_behind e (emptied s a) b (alone t) cs (outcome_of e (emptied s a) b (alone t)) refl n).0.0
+    not_14 : (outcome_of e (emptied s a) b (alone t)).number ≡ 14 → ⊥
+    not_14 = (none_behind e (emptied s a) b (alone t) cs (outcome_of e (emptied s a) b (alone t)) refl n).0.0
 
-    taken-goes : (u : turn_at e s.phase ≡ reads) → (outcome s b (stanza_call e s.phase t)).number ≡ 0 → is_over s.phase ≡ false → Same e s a b (alone t ∷ cs)
-    taken-goes u z v =
-        let q = alone-accepted e s a b t (whole_is t w) u z in
+    taken_goes : (u : turn_at e s.phase ≡ reads) → (outcome s b (stanza_call e s.phase t)).number ≡ 0 → is_over s.phase ≡ false → Same e s a b (alone t ∷ cs)
+    taken_goes u z v =
+        let q = alone_accepted e s a b t (whole_is t w) u z in
         let o = held ample (one_alone e s a b t (whole_is t w) u) in
-        on (alone t) o (outcome s b (stanza_call e s.phase t)).session o.intake.awaited q refl (stanza_open e s.phase s b t z) (chunk-on e s a b cs t o q v w u) n d
+        on (alone t) o (outcome s b (stanza_call e s.phase t)).session o.intake.awaited q refl (stanza_open e s.phase s b t z) (chunk_on e s a b cs t o q v w u) n d
 
-    refused-goes : (u : turn_at e s.phase ≡ reads) → ((outcome s b (stanza_call e s.phase t)).number ≡ 0 → ⊥) → is_over s.phase ≡ false → Same e s a b (alone t ∷ cs)
-    refused-goes u z v =
-        let q = alone-refused e s a b t (whole_is t w) u z in
+    refused_goes : (u : turn_at e s.phase ≡ reads) → ((outcome s b (stanza_call e s.phase t)).number ≡ 0 → ⊥) → is_over s.phase ≡ false → Same e s a b (alone t ∷ cs)
+    refused_goes u z v =
+        let q = alone_refused e s a b t (whole_is t w) u z in
         let o = held ample (refused_one e s a b t (whole_is t w) u) in
         let k : o.intake ≡ shut s = ap (λ x. emptied x []) ((stepped s b t (whole_is t w) e u).closing z).session in
-        chunk-on e s a b cs t o q v w u
+        chunk_on e s a b cs t o q v w u
         ∙ ap (λ x. alone t ∷ x) (ap (λ i. uncut e i b [] cs) k ∙ shut_same cs e s b alones (subst (λ i. NoneHeldUp (numbers e i b cs)) k (none_behind e (emptied s a) b (alone t) cs o q n).1) ∙ ap (λ i. in_time e i b cs) (sym k))
-        ∙ sym (heard-on e s a b cs (alone t) o q open_is)
+        ∙ sym (heard_on e s a b cs (alone t) o q open_is)
 
-    chunk-goes : Same e s a b (alone t ∷ cs)
-    chunk-goes = by (turn_at e s.phase) refl
+    chunk_goes : Same e s a b (alone t ∷ cs)
+    chunk_goes = by (turn_at e s.phase) refl
       where
         by : (u : Turn) → turn_at e s.phase ≡ u → Same e s a b (alone t ∷ cs)
         by reads u =
             let v = ((turn_says e s.phase).going (λ z. drops_not_reads 13 (sym z ∙ u))).0 in
-            cases (eqb (outcome s b (stanza_call e s.phase t)).number 0) (λ f. taken-goes u (eqb-true _ 0 f) v) (λ f. refused-goes u (eqb-false _ 0 f) v)
+            cases (eqb (outcome s b (stanza_call e s.phase t)).number 0) (λ f. taken_goes u (eqb-true _ 0 f) v) (λ f. refused_goes u (eqb-false _ 0 f) v)
         by (drops m) u =
             ⊎_elim (λ (z : m ≡ 13). absurd (false≢true (sym (not_ended e (emptied s a) b (alone t) cs d) ∙ over_ended s.phase ((turn_says e s.phase).ended (u ∙ ap drops z)).0 open_is)))
-            (λ (z : m ≡ 14). absurd (not-14 (drops-number e s a b 14 t (u ∙ ap drops z) (ap (λ x. eqb (length x) 0) (sym (append-nil t)) ∙ some t [] (λ z. empty_apart (whole_is t w) z))))) (turn_drops e s.phase m u)
+            (λ (z : m ≡ 14). absurd (not_14 (drops_number e s a b 14 t (u ∙ ap drops z) (ap (λ x. eqb (length x) 0) (sym (append-nil t)) ∙ some t [] (λ z. empty_apart (whole_is t w) z))))) (turn_drops e s.phase m u)
         by keeps_back u =
             let k = (turn_says e s.phase).host u in
-            absurd (not-14 (ap (λ (o : Outcome). o.number) (chunk-refused e (emptied s a) b 14 t ample (ap₂ turn_of k.0 k.1.1) refl)))
+            absurd (not_14 (ap (λ (o : Outcome). o.number) (chunk_refused e (emptied s a) b 14 t ample (ap₂ turn_of k.0 k.1.1) refl)))
 
 -- a reply
 module _ (cs : List Piece) (go : Goes cs) (alones : All IsAlone cs) (s : Session) (a : List ℕ) (b : Buffers) (open_is : is_closed s.phase ≡ false) (r : Response) (body : List ℕ)
@@ -201,20 +201,20 @@ module _ (cs : List Piece) (go : Goes cs) (alones : All IsAlone cs) (s : Session
   abbrev call : Piece
   call = reply r body ample
 
-  due-goes : (v : WordTwo) → s.phase ≡ Awaiting v → Same client s a b (call ∷ cs)
-  due-goes v p =
+  due_goes : (v : WordTwo) → s.phase ≡ Awaiting v → Same client s a b (call ∷ cs)
+  due_goes v p =
       cases (eqb (number_replied v r body) 0)
       (λ f.
       let q = reply_alone_lem s a b r body v p (eqb-true (number_replied v r body) 0 f) in
       let o = held ample (reply_ahead (stanza_text (response_line r) body) (no_more 0 (emptied (answered s) []) b)) in
-      on cs go alones client s a b open_is call o (answered s) [] q refl refl (reply-on client s a b cs r body o q (ap (is_waiting client) p)) n d)
+      on cs go alones client s a b open_is call o (answered s) [] q refl refl (reply_on client s a b cs r body o q (ap (is_waiting client) p)) n d)
       (λ f.
       let k = number_replied v r body in
-      let q = reply-unfit (emptied s a) b r body ample v p k refl f in
-      on cs go alones client s a b open_is call (untaken k (emptied s a) b ample) s a q refl open_is (reply-on client s a b cs r body (untaken k (emptied s a) b ample) q (ap (is_waiting client) p)) n d)
+      let q = reply_unfit (emptied s a) b r body ample v p k refl f in
+      on cs go alones client s a b open_is call (untaken k (emptied s a) b ample) s a q refl open_is (reply_on client s a b cs r body (untaken k (emptied s a) b ample) q (ap (is_waiting client) p)) n d)
 
-  reply-goes : Same client s a b (call ∷ cs)
-  reply-goes = by s.phase refl
+  reply_goes : Same client s a b (call ∷ cs)
+  reply_goes = by s.phase refl
     where
       undue : (p : phases.Phase) → s.phase ≡ p → (replied_by (due_in p) (emptied s a) b r body ample).number ≡ 14 → ⊥
       undue p q k = (none_behind client (emptied s a) b call cs (outcome_of client (emptied s a) b call) refl n).0.0 (ap (λ p. (replied_by (due_in p) (emptied s a) b r body ample).number) q ∙ k)
@@ -222,7 +222,7 @@ module _ (cs : List Piece) (go : Goes cs) (alones : All IsAlone cs) (s : Session
       by : (p : phases.Phase) → s.phase ≡ p → Same client s a b (call ∷ cs)
       by One q = absurd (undue One q refl)
       by Two q = absurd (undue Two q refl)
-      by (Awaiting v) q = due-goes v q
+      by (Awaiting v) q = due_goes v q
       by Ended q = absurd (false≢true (sym (not_ended client (emptied s a) b call cs d) ∙ ap is_ended q))
       by Closed q = absurd (false≢true (sym open_is ∙ ap is_closed q))
 
@@ -235,10 +235,10 @@ itself [] h e s a b v n d = unfold uncut in_time cut in same_either (is_waiting 
     same_either false = refl
 itself (chunk t out ∷ cs) h e s a b v n d =
     subst (λ out. NoneHeldUp (numbers e (emptied s a) b (chunk t out ∷ cs)) → NoneBehind e (emptied s a) b (chunk t out ∷ cs) → Same e s a b (chunk t out ∷ cs)) (sym h.0.0)
-    (λ n d. chunk-goes cs (itself cs h.1) h.1 e s a b v t h.0.1 n d) n d
+    (λ n d. chunk_goes cs (itself cs h.1) h.1 e s a b v t h.0.1 n d) n d
 itself (reply r body out ∷ cs) h client s a b v n d =
     subst (λ out. NoneHeldUp (numbers client (emptied s a) b (reply r body out ∷ cs)) → NoneBehind client (emptied s a) b (reply r body out ∷ cs) → Same client s a b (reply r body out ∷ cs)) (sym h.0)
-    (λ n d. reply-goes cs (itself cs h.1) h.1 s a b v r body n d) n d
+    (λ n d. reply_goes cs (itself cs h.1) h.1 s a b v r body n d) n d
 itself (reply r body out ∷ cs) h plugin s a b v n d = absurd ((none_behind plugin (emptied s a) b (reply r body out) cs (untaken 14 (emptied s a) b out) refl n).0.0 refl)
 
 -- ---- a phase's blocks
@@ -270,12 +270,12 @@ zero_none (n ∷ ns) h = ((λ z. omega (arith, h.0), λ z. omega (arith, h.0)), 
 ended_refused : (e : End) (i : Intake) (b : Buffers) (c : Piece) → (outcome_of e i b c).number ≡ 0 → is_ended i.session.phase ≡ false
 ended_refused e i b c h = by i.session.phase refl
   where
-    of-chunk : (e : End) (bytes out : List ℕ) → i.session.phase ≡ Ended → (outcome_of e i b (chunk bytes out)).number ≡ 13
-    of-chunk client bytes out q = ap (λ (o : Outcome). o.number) (chunk-refused client i b 13 bytes out (ap (turn_of client) q) refl)
-    of-chunk plugin bytes out q = ap (λ (o : Outcome). o.number) (chunk-refused plugin i b 13 bytes out (ap (turn_of plugin) q) refl)
+    of_chunk : (e : End) (bytes out : List ℕ) → i.session.phase ≡ Ended → (outcome_of e i b (chunk bytes out)).number ≡ 13
+    of_chunk client bytes out q = ap (λ (o : Outcome). o.number) (chunk_refused client i b 13 bytes out (ap (turn_of client) q) refl)
+    of_chunk plugin bytes out q = ap (λ (o : Outcome). o.number) (chunk_refused plugin i b 13 bytes out (ap (turn_of plugin) q) refl)
 
     apart : (e : End) (c : Piece) → i.session.phase ≡ Ended → (outcome_of e i b c).number ≡ 0 → ⊥
-    apart e (chunk bytes out) q h = let z = of-chunk e bytes out q in omega arith
+    apart e (chunk bytes out) q h = let z = of_chunk e bytes out q in omega arith
     apart client (reply r body out) q h = let z : (outcome_of client i b (reply r body out)).number ≡ 13 = ap (λ p. (replied_by (due_in p) i b r body out).number) q in omega arith
     apart plugin (reply r body out) q h = omega arith
 

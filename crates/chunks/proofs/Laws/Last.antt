@@ -36,18 +36,18 @@ module _ (e : End) (s : Session) (b : Buffers) where
   unfolding last_from calls_of
   none_last n i d p = record { of_calls = λ l. refl; none = λ z. refl }
 
-  rest-last : (u : Turn) (a : List ℕ) (r : Rest) (p : Parted) → IsLast (taken_rest u s b a r) p
-  rest-last reads a (unfinished q front) p = none_last 0 (keeping s q front a) b p
-  rest-last reads a (impossible n text) p = none_last n (emptied (closed s) []) b p
-  rest-last (drops n) a r p = either (λ x. IsLast x p) (eqb (length (bytes_of r)) 0) (no_more 0 (emptied s a) b) (no_more n (emptied s a) b) (none_last 0 (emptied s a) b p) (none_last n (emptied s a) b p)
-  rest-last keeps_back a r p = none_last 0 (keeping s start (bytes_of r) a) b p
+  rest_last : (u : Turn) (a : List ℕ) (r : Rest) (p : Parted) → IsLast (taken_rest u s b a r) p
+  rest_last reads a (unfinished q front) p = none_last 0 (keeping s q front a) b p
+  rest_last reads a (impossible n text) p = none_last n (emptied (closed s) []) b p
+  rest_last (drops n) a r p = either (λ x. IsLast x p) (eqb (length (bytes_of r)) 0) (no_more 0 (emptied s a) b) (no_more n (emptied s a) b) (none_last 0 (emptied s a) b p) (none_last n (emptied s a) b p)
+  rest_last keeps_back a r p = none_last 0 (keeping s start (bytes_of r) a) b p
 
   -- one stanza more
-  more-last : (t w : List ℕ) (m : Taken) (p : Parted) → (let o = outcome s b (stanza_call e s.phase t) in
+  more_last : (t w : List ℕ) (m : Taken) (p : Parted) → (let o = outcome s b (stanza_call e s.phase t) in
       ((l : Last) → pick (eqb m.count 0) l m.last ≡ last_from l o.session o.buffers (calls_of e o.session o.buffers (map alone (take m.count p.received)))) →
       IsLast (one_more (last_in o.given) w m) (received_more t p))
   unfolding last_from calls_of
-  more-last t w m p k =
+  more_last t w m p k =
       let o = outcome s b (stanza_call e s.phase t) in
       let n : 1 + m.count ≡ suc m.count = omega arith in
       record {
@@ -57,7 +57,7 @@ module _ (e : End) (s : Session) (b : Buffers) where
 
 all_last : (ts : List (List ℕ)) (e : End) (s : Session) (b : Buffers) (a : List ℕ) (r : Rest) → IsLast e s b (taken_all e s b a ts r) (parted e s b ts r)
 unfolding taken_all parted
-all_last [] e s b a r = rest-last e s b (turn_at e s.phase) a r (parted e s b [] r)
+all_last [] e s b a r = rest_last e s b (turn_at e s.phase) a r (parted e s b [] r)
 all_last (t ∷ ts) e s b a r =
     let o = outcome s b (stanza_call e s.phase t) in
     go (turn_at e s.phase) (eqb o.number 0) (all_last ts e o.session o.buffers (awaited_behind e o.session.phase t) r)
@@ -74,7 +74,7 @@ all_last (t ∷ ts) e s b a r =
     go : (u : Turn) (d : Bool) → IsLast e o.session o.buffers more parts →
         IsLast e s b (taken_by u s b a (t ++ joined ts (bytes_of r)) (pick d (one_more (last_in o.given) (written_by s b (stanza_call e s.phase t)) more) (no_more o.number (emptied o.session []) b)))
         (parted_by u (t ++ joined ts (bytes_of r)) (received_more t (pick d parts (record { received = []; left = joined ts (bytes_of r) }))))
-    go reads true k = more-last e s b t (written_by s b (stanza_call e s.phase t)) more parts k.of_calls
+    go reads true k = more_last e s b t (written_by s b (stanza_call e s.phase t)) more parts k.of_calls
     go reads false k = none_last e s b o.number (emptied o.session []) b _
     go (drops n) d k = none_last e s b n (emptied s a) b _
     go keeps_back d k = none_last e s b 0 _ b _

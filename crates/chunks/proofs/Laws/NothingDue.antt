@@ -25,7 +25,7 @@ use Rattle.conversation.specs.SendingTwo.{sent}
 use Rattle.conversation.proofs.Laws.Accepted.{accepted}
 use Rattle.conversation.proofs.Laws.ConditionsTwo.{true_or}
 use Rattle.conversation.proofs.Laws.Refusals.{either, refusal}
-use Rattle.conversation.proofs.Laws.ShapesOne.{behind-done, behind-other}
+use Rattle.conversation.proofs.Laws.ShapesOne.{behind_done, behind_other}
 use Rattle.conversation.proofs.Laws.SumsTwo.{or_false}
 use Rattle.chunks.specs.Cutting.{Rest, unfinished, impossible, bytes_of, Cut, cut}
 use Rattle.chunks.specs.Taking.{plugin, Turn, reads, drops, keeps_back, turn_at, stanza_call, awaited_behind, Intake, Taken, no_more, emptied, one_more, joined, taken_rest, taken_by, taken_all, taken_text, last_in}
@@ -40,7 +40,7 @@ use Rattle.chunks.proofs.Laws.Numbers.{Faulty, cut_faulty}
 use Rattle.chunks.proofs.Laws.Reached.{reached_plugin_awaited}
 use Rattle.chunks.proofs.Laws.Stanzas.{whole_read, stepped}
 use Rattle.chunks.proofs.Laws.Reading.{cut_whole}
-use Rattle.chunks.proofs.Laws.Taking.{closes_not, chunk-held, whole_some}
+use Rattle.chunks.proofs.Laws.Taking.{closes_not, chunk_held, whole_some}
 use Rattle.chunks.proofs.Laws.Texts as texts
 
 -- in phase one, or closed by a refusal
@@ -101,7 +101,7 @@ text_lasting (t ∷ ts) s b a r h = go (text_lasting ts o.session o.buffers (awa
     go k reads q true f z =
         let p = reads_one s.phase h q in
         let y = none_first more.count t parts.received z in
-        let e : o.session.phase ≡ One = subst (λ x. (outcome s b (stanza_call plugin x t)).number ≡ 0 → (outcome s b (stanza_call plugin x t)).session.phase ≡ One) (sym p) (λ z. behind-other s b t z y.0) (eqb-true o.number 0 f) in
+        let e : o.session.phase ≡ One = subst (λ x. (outcome s b (stanza_call plugin x t)).number ≡ 0 → (outcome s b (stanza_call plugin x t)).session.phase ≡ One) (sym p) (λ z. behind_other s b t z y.0) (eqb-true o.number 0 f) in
         k (inl e) y.1
     go k reads q false f z =
         let p = reads_one s.phase h q in
@@ -188,10 +188,10 @@ text_behind (t ∷ ts) s b a r h w f =
     -- behind a stanza that was accepted, by whether it is done
     accepts : (o.session.phase ≡ One → Behind more parts.received) → (d : Bool) → is_done t ≡ d → o.number ≡ 0 → more.number ≡ 14 → (any_done (take (1 + more.count) (t ∷ parts.received)) ≡ true) × (more.intake.session.phase ≡ Two)
     accepts k true e z n =
-        let p : o.session.phase ≡ Two = subst (λ x. (outcome s b (stanza_call plugin x t)).number ≡ 0 → (outcome s b (stanza_call plugin x t)).session.phase ≡ Two) (sym h) (λ z. behind-done s b t z e) z in
+        let p : o.session.phase ≡ Two = subst (λ x. (outcome s b (stanza_call plugin x t)).number ≡ 0 → (outcome s b (stanza_call plugin x t)).session.phase ≡ Two) (sym h) (λ z. behind_done s b t z e) z in
         (any_first more.count t parts.received (inl e), text_dropped ts o.session o.buffers (awaited_behind plugin o.session.phase t) r p)
     accepts k false e z n =
-        let p : o.session.phase ≡ One = subst (λ x. (outcome s b (stanza_call plugin x t)).number ≡ 0 → (outcome s b (stanza_call plugin x t)).session.phase ≡ One) (sym h) (λ z. behind-other s b t z e) z in
+        let p : o.session.phase ≡ One = subst (λ x. (outcome s b (stanza_call plugin x t)).number ≡ 0 → (outcome s b (stanza_call plugin x t)).session.phase ≡ One) (sym h) (λ z. behind_other s b t z e) z in
         let y = k p n in
         (any_first more.count t parts.received (inr y.0), y.1)
 
@@ -245,7 +245,7 @@ OutOfTurn x = (x.number ≡ 14) × (x.written ≡ []) × (x.intake.kept ≡ [])
 out_dropped : (s : Session) (b : Buffers) (x : List ℕ) → s.phase ≡ Two → (x ≡ [] → ⊥) → OutOfTurn (taken_text plugin s b [] x)
 out_dropped s b [] h e = absurd (e refl)
 out_dropped s b (y ∷ x) h e =
-    subst OutOfTurn (sym (texts.text_dropped plugin s b [] 14 (ap (turn_at plugin) h) (y ∷ x) ∙ texts.dropped-some plugin s b [] 14 [] y x)) (refl, refl, refl)
+    subst OutOfTurn (sym (texts.text_dropped plugin s b [] 14 (ap (turn_at plugin) h) (y ∷ x) ∙ texts.dropped_some plugin s b [] 14 [] y x)) (refl, refl, refl)
 
 -- an accepted command ahead
 out_ahead : (s : Session) (b : Buffers) (a t x : List ℕ) → Whole t →
@@ -263,7 +263,7 @@ unfolding All joined one_call.numbers one_call.AllZero
 more_text [] t x s b a w c d e = out_ahead s b a t x w.0 behind c.0
   where
     behind : (let o = outcome s b (receive t) in o.number ≡ 0 → OutOfTurn (taken_text plugin o.session o.buffers [] x))
-    behind z = out_dropped (outcome s b (receive t)).session (outcome s b (receive t)).buffers x (behind-done s b t z d) e
+    behind z = out_dropped (outcome s b (receive t)).session (outcome s b (receive t)).buffers x (behind_done s b t z d) e
 more_text (v ∷ ws) t x s b a w c d e =
     out_ahead s b a v (joined (ws ++ (t ∷ [])) x) w.0
     (λ z. more_text ws t x (outcome s b (receive v)).session (outcome s b (receive v)).buffers [] w.1 c.1 d e) c.0
@@ -276,7 +276,7 @@ chunk_more i b bytes out k h m =
     (ap (taken_text plugin i.session b i.awaited) m.place
     ∙ ap (λ (c : Cut). taken_all plugin i.session b i.awaited c.texts c.rest) (cut_on_lem i.kept bytes start i.reading [] i.kept (k.front refl).read))
     (more_text m.ahead m.last m.more i.session b i.awaited m.whole m.accepted m.done m.some) in
-    ap (λ (o : Outcome). o.number) (chunk-held plugin i b bytes out (taken plugin i b bytes) (ap (turn_of plugin) h) refl
+    ap (λ (o : Outcome). o.number) (chunk_held plugin i b bytes out (taken plugin i b bytes) (ap (turn_of plugin) h) refl
     (omega (arith, ap length y.1)) (omega (arith, ap length y.2))) ∙ y.0
 
 -- no bytes behind done: nothing is dropped
@@ -319,10 +319,10 @@ text_more (t ∷ ts) s b a r h w f n =
       whole = (whole_read t w.0, tt);
       accepted = (z, tt);
       done = e;
-      some = λ y. none_dropped ts o.session o.buffers r (behind-done s b t z e) w.1 y m;
+      some = λ y. none_dropped ts o.session o.buffers r (behind_done s b t z e) w.1 y m;
     }
     accepts k false e z m =
-        let y = k (behind-other s b t z e) in
+        let y = k (behind_other s b t z e) in
         record {
           ahead = t ∷ y.ahead;
           last = y.last;

@@ -21,9 +21,9 @@ use Rattle.conversation.specs.Kinds.{Buffers}
 use Rattle.conversation.specs.Phases.{All, Part, one_part, two_part, Reply, Block, Phase, blocks_of, IsPhase, Supply, reply_calls, block_calls, behind, calls_of, written_in, lending, LongEnough, Starts, SameStart, Rearranged, SameTables, command_in, texts_of}
 use Rattle.conversation.specs.ReceivingTwo.{at_once, text_of}
 use Rattle.conversation.proofs.Laws.Accepted.{accepted}
-use Rattle.conversation.proofs.Laws.AllowedOne.{accepted-iff}
+use Rattle.conversation.proofs.Laws.AllowedOne.{accepted_iff}
 use Rattle.conversation.proofs.Laws.Order.{order}
-use Rattle.conversation.proofs.Laws.OrderTwo.{accepted-two-iff}
+use Rattle.conversation.proofs.Laws.OrderTwo.{accepted_two_iff}
 use Rattle.conversation.proofs.Laws.Reached.{just_done}
 use Rattle.conversation.proofs.Laws.Refusals.{refusal}
 use Rattle.conversation.proofs.Laws.WrittenRead.{front}
@@ -144,7 +144,7 @@ pub cut_allowed_one : (x : State) (p : Phase) (cs : List Piece) → Starts one_p
     AllTaken plugin x cs ↔ Allowed x.session.machine x.session.name x.buffers.first (texts_of p)
 cut_allowed_one x p cs st ph c =
     let u = (cut_calls one_part x p cs st ph c).accepted in
-    let i = accepted-iff x.session.machine x.session.name false x.buffers amples p ph in
+    let i = accepted_iff x.session.machine x.session.name false x.buffers amples p ph in
     (λ k. i.0 (subst (λ s. Accepted s x.buffers (calls_of one_part amples (blocks_of p))) st (u.0 k)), λ k. u.1 (subst (λ s. Accepted s x.buffers (calls_of one_part amples (blocks_of p))) (sym st) (i.1 k)))
 
 -- .. of phase two
@@ -152,7 +152,7 @@ pub cut_allowed_two : (x : State) (p : Phase) (cs : List Piece) → Starts two_p
     AllTaken client x cs ↔ AllowedTwo x.session.machine x.session.screen (left_of x) (capacity_of x.buffers) (blocks_of p)
 cut_allowed_two x p cs st ph c =
     let u = (cut_calls two_part x p cs st ph c).accepted in
-    let i = accepted-two-iff x.session x.buffers (just_done x.session st) p ph amples (roomy_enough x.session x.buffers (calls_of two_part amples (blocks_of p)) (blocks_roomy two_part (blocks_of p))) in
+    let i = accepted_two_iff x.session x.buffers (just_done x.session st) p ph amples (roomy_enough x.session x.buffers (calls_of two_part amples (blocks_of p)) (blocks_roomy two_part (blocks_of p))) in
     (λ k. i.0 (u.0 k), λ k. u.1 (i.1 k))
 
 -- ---- two cuts

@@ -34,10 +34,10 @@ use Rattle.chunks.proofs.Laws.Cutting.{IsWhole, IsRest, cut_joined, cut_parts, n
 use Rattle.chunks.proofs.Laws.Stanzas.{stepped}
 use Rattle.chunks.proofs.Laws.Cases.{held}
 use Rattle.chunks.proofs.Laws.Runs.{judged_not_15}
-use Rattle.chunks.proofs.Laws.Taking.{turn_drops, turn_says, chunked-read, chunk-held, room_fits, one_alone, alone-fits, alone-accepted, alone-refused}
-use Rattle.chunks.proofs.Laws.Cut.{text_alone, last-held, chunk-refused, reply-fit, reply-unfit, reply_room, reply_alone_lem}
+use Rattle.chunks.proofs.Laws.Taking.{turn_drops, turn_says, chunked_read, chunk_held, room_fits, one_alone, alone_fits, alone_accepted, alone_refused}
+use Rattle.chunks.proofs.Laws.Cut.{text_alone, last_held, chunk_refused, reply_fit, reply_unfit, reply_room, reply_alone_lem}
 use Rattle.chunks.proofs.Laws.Finish.{turn_not_waiting}
-use Rattle.chunks.proofs.Laws.Together.{taken-dropped}
+use Rattle.chunks.proofs.Laws.Together.{taken_dropped}
 
 -- ---- accepted calls
 
@@ -83,46 +83,46 @@ pub record Before (e : End) (s : Session) (w : List ℕ) (b : Buffers) (text : L
 
 module _ (e : End) (s : Session) (w : List ℕ) (b : Buffers) where
   -- bytes that are dropped
-  pub drops-number : (n : ℕ) (x : List ℕ) → turn_at e s.phase ≡ drops n → eqb (length x) 0 ≡ false → Refuses e s w b x n
-  drops-number n x h v =
+  pub drops_number : (n : ℕ) (x : List ℕ) → turn_at e s.phase ≡ drops n → eqb (length x) 0 ≡ false → Refuses e s w b x n
+  drops_number n x h v =
       let by = ⊎_elim (λ (z : n ≡ 13). inr (((turn_says e s.phase).ended (h ∙ ap drops z)).1 ∙ sym z)) (λ (z : n ≡ 14). ⊎_elim (λ y. inl y) (λ y. inr (y ∙ sym z)) ((turn_says e s.phase).still (h ∙ ap drops z))) (turn_drops e s.phase n h) in
-      ⊎_elim (λ (z : turn_of e s.phase ≡ 0). ap (λ (o : Outcome). o.number) (chunk-held e (emptied s w) b x ample (no_more n (emptied s w) b) z (all (cut start [] x).texts (cut start [] x).rest (cut_joined x start [])) (omega arith) (omega arith)))
+      ⊎_elim (λ (z : turn_of e s.phase ≡ 0). ap (λ (o : Outcome). o.number) (chunk_held e (emptied s w) b x ample (no_more n (emptied s w) b) z (all (cut start [] x).texts (cut start [] x).rest (cut_joined x start [])) (omega arith) (omega arith)))
       (λ (z : turn_of e s.phase ≡ n). named z (eqb n 0) refl) by
     where
       named : turn_of e s.phase ≡ n → (f : Bool) → eqb n 0 ≡ f → Refuses e s w b x n
       named z true f = ⊎_elim (λ (y : n ≡ 13). let k = eqb-true n 0 f in omega arith) (λ (y : n ≡ 14). let k = eqb-true n 0 f in omega arith) (turn_drops e s.phase n h)
-      named z false f = ap (λ (o : Outcome). o.number) (chunk-refused e (emptied s w) b n x ample z f)
+      named z false f = ap (λ (o : Outcome). o.number) (chunk_refused e (emptied s w) b n x ample z f)
 
       all : (ts : List (List ℕ)) (r : Rest) → joined ts (bytes_of r) ≡ x → taken_all e s b w ts r ≡ no_more n (emptied s w) b
       all [] r k = unfold taken_all joined in (ap (λ u. taken_rest u s b w r) h ∙ ap (λ f. pick f (no_more 0 (emptied s w) b) (no_more n (emptied s w) b)) (ap (λ y. eqb (length y) 0) k ∙ v))
-      all (t ∷ ts) r k = taken-dropped e s w b t ts r n h
+      all (t ∷ ts) r k = taken_dropped e s w b t ts r n h
 
   -- none was taken: the fault closes the session, or bytes are dropped
-  before-none : (n : ℕ) (i : Intake) (x : List ℕ) → i ≡ pick (closes n) (emptied (closed s) []) (emptied s w) → Faulty n → Refuses e s w b x n → Before e s w b x [] (no_more n i b)
+  before_none : (n : ℕ) (i : Intake) (x : List ℕ) → i ≡ pick (closes n) (emptied (closed s) []) (emptied s w) → Faulty n → Refuses e s w b x n → Before e s w b x [] (no_more n i b)
   unfolding joined
-  before-none n i x q f k = record { session = s; awaited = w; accepts = accepts_none e (emptied s w) b; intake = q; number = f; fault = x; later = []; place = append-nil x; refused = k }
+  before_none n i x q f k = record { session = s; awaited = w; accepts = accepts_none e (emptied s w) b; intake = q; number = f; fault = x; later = []; place = append-nil x; refused = k }
 
-  before-closed : (n : ℕ) (x : List ℕ) → closes n ≡ true → Refuses e s w b x n → Before e s w b x [] (no_more n (emptied (closed s) []) b)
-  before-closed n x h k = before-none n (emptied (closed s) []) x (sym (ap (λ d. pick d (emptied (closed s) []) (emptied s w)) h)) (inl h) k
+  before_closed : (n : ℕ) (x : List ℕ) → closes n ≡ true → Refuses e s w b x n → Before e s w b x [] (no_more n (emptied (closed s) []) b)
+  before_closed n x h k = before_none n (emptied (closed s) []) x (sym (ap (λ d. pick d (emptied (closed s) []) (emptied s w)) h)) (inl h) k
 
-  before-dropped : (n : ℕ) (x : List ℕ) → turn_at e s.phase ≡ drops n → eqb (length x) 0 ≡ false → Before e s w b x [] (no_more n (emptied s w) b)
-  before-dropped n x h v =
-      let k = drops-number n x h v in
-      ⊎_elim (λ (z : n ≡ 13). before-none n (emptied s w) x (sym (ap (λ n. pick (closes n) (emptied (closed s) []) (emptied s w)) z)) (inr (inl z)) k)
-      (λ (z : n ≡ 14). before-none n (emptied s w) x (sym (ap (λ n. pick (closes n) (emptied (closed s) []) (emptied s w)) z)) (inr (inr z)) k) (turn_drops e s.phase n h)
+  before_dropped : (n : ℕ) (x : List ℕ) → turn_at e s.phase ≡ drops n → eqb (length x) 0 ≡ false → Before e s w b x [] (no_more n (emptied s w) b)
+  before_dropped n x h v =
+      let k = drops_number n x h v in
+      ⊎_elim (λ (z : n ≡ 13). before_none n (emptied s w) x (sym (ap (λ n. pick (closes n) (emptied (closed s) []) (emptied s w)) z)) (inr (inl z)) k)
+      (λ (z : n ≡ 14). before_none n (emptied s w) x (sym (ap (λ n. pick (closes n) (emptied (closed s) []) (emptied s w)) z)) (inr (inr z)) k) (turn_drops e s.phase n h)
 
   -- what stands behind the stanzas
-  before-rest : (r : Rest) → IsRest r → (u : Turn) → turn_at e s.phase ≡ u → ((taken_rest u s b w r).number ≡ 0 → ⊥) → Before e s w b (bytes_of r) [] (taken_rest u s b w r)
-  before-rest (unfinished q f) k reads h g = absurd (g refl)
-  before-rest (impossible n x) k reads h g =
-      before-closed n x (⊎_elim (λ (z : n ≡ 1). ap closes z) (λ (z : n ≡ 3). ap closes z) k.1)
-      (ap (λ (o : Outcome). o.number) (last-held e 0 s w b x (impossible n x) (no_more n (emptied (closed s) []) b) h k.0 refl refl (omega arith)))
-  before-rest r k (drops n) h g = left (eqb (length (bytes_of r)) 0) refl g
+  before_rest : (r : Rest) → IsRest r → (u : Turn) → turn_at e s.phase ≡ u → ((taken_rest u s b w r).number ≡ 0 → ⊥) → Before e s w b (bytes_of r) [] (taken_rest u s b w r)
+  before_rest (unfinished q f) k reads h g = absurd (g refl)
+  before_rest (impossible n x) k reads h g =
+      before_closed n x (⊎_elim (λ (z : n ≡ 1). ap closes z) (λ (z : n ≡ 3). ap closes z) k.1)
+      (ap (λ (o : Outcome). o.number) (last_held e 0 s w b x (impossible n x) (no_more n (emptied (closed s) []) b) h k.0 refl refl (omega arith)))
+  before_rest r k (drops n) h g = left (eqb (length (bytes_of r)) 0) refl g
     where
       left : (d : Bool) → eqb (length (bytes_of r)) 0 ≡ d → ((pick d (no_more 0 (emptied s w) b) (no_more n (emptied s w) b)).number ≡ 0 → ⊥) → Before e s w b (bytes_of r) [] (pick d (no_more 0 (emptied s w) b) (no_more n (emptied s w) b))
       left true v g = absurd (g refl)
-      left false v g = before-dropped n (bytes_of r) h v
-  before-rest r k keeps_back h g = absurd (g refl)
+      left false v g = before_dropped n (bytes_of r) h v
+  before_rest r k keeps_back h g = absurd (g refl)
 
   module _ (t : List ℕ) (whole : IsWhole t) (turn : turn_at e s.phase ≡ reads) where
     -- one stanza more ahead
@@ -135,7 +135,7 @@ module _ (e : End) (s : Session) (w : List ℕ) (b : Buffers) where
       awaited = k.awaited;
       accepts =
           subst (λ v. Accepts e (emptied s w) b (alone t ∷ map alone zs) (emptied k.session k.awaited) r.buffers (v ++ r.written)) (append-nil (written_by s b (stanza_call e s.phase t)))
-          (accepts_more e (emptied s w) b (alone t) (map alone zs) ample (one_alone e s w b t whole turn) (alone-accepted e s w b t whole turn h) (alone-fits e s w b t whole turn h) refl k.accepts);
+          (accepts_more e (emptied s w) b (alone t) (map alone zs) ample (one_alone e s w b t whole turn) (alone_accepted e s w b t whole turn h) (alone_fits e s w b t whole turn h) refl k.accepts);
       intake = k.intake;
       number = k.number;
       fault = k.fault;
@@ -144,10 +144,10 @@ module _ (e : End) (s : Session) (w : List ℕ) (b : Buffers) where
       refused = k.refused;
     }
 
-    before-refused : ((outcome s b (stanza_call e s.phase t)).number ≡ 0 → ⊥) → (x : List ℕ) →
+    before_refused : ((outcome s b (stanza_call e s.phase t)).number ≡ 0 → ⊥) → (x : List ℕ) →
         Before e s w b (t ++ x) [] (no_more (outcome s b (stanza_call e s.phase t)).number (emptied (outcome s b (stanza_call e s.phase t)).session []) b)
     unfolding joined
-    before-refused h x =
+    before_refused h x =
         let k = stepped s b t whole e turn in
         let n = (outcome s b (stanza_call e s.phase t)).number in
         record {
@@ -159,7 +159,7 @@ module _ (e : End) (s : Session) (w : List ℕ) (b : Buffers) where
           fault = t;
           later = x;
           place = refl;
-          refused = ap (λ (o : Outcome). o.number) (alone-refused e s w b t whole turn h);
+          refused = ap (λ (o : Outcome). o.number) (alone_refused e s w b t whole turn h);
         }
 
 -- a stanza has a byte
@@ -176,7 +176,7 @@ pub before_all : (ts : List (List ℕ)) (e : End) (s : Session) (w : List ℕ) (
     Before e s w b (joined ts (bytes_of r)) (take (taken_all e s b w ts r).count (parted e s b ts r).received) (taken_all e s b w ts r)
 unfolding taken_all parted All joined
 before_all [] e s w b r k l g =
-    subst (λ zs. Before e s w b (bytes_of r) zs (taken_rest (turn_at e s.phase) s b w r)) (sym (take-nil (taken_rest (turn_at e s.phase) s b w r).count)) (before-rest e s w b r l (turn_at e s.phase) refl g)
+    subst (λ zs. Before e s w b (bytes_of r) zs (taken_rest (turn_at e s.phase) s b w r)) (sym (take-nil (taken_rest (turn_at e s.phase) s b w r).count)) (before_rest e s w b r l (turn_at e s.phase) refl g)
 before_all (t ∷ ts) e s w b r k l g =
     let o = outcome s b (stanza_call e s.phase t) in
     go (before_all ts e o.session (awaited_behind e o.session.phase t) o.buffers r k.1 l) (turn_at e s.phase) refl g
@@ -206,30 +206,30 @@ before_all (t ∷ ts) e s w b r k l g =
     read f true d h g =
         let n : 1 + more.count ≡ suc more.count = omega arith in
         subst (λ n. Before e s w b bytes (take n (t ∷ rest.received)) (several true)) (sym n) (before_more e s w b t k.0 h (eqb-true o.number 0 d) (joined ts (bytes_of r)) (take more.count rest.received) more (f g))
-    read f false d h g = before-refused e s w b t k.0 h (eqb-false o.number 0 d) (joined ts (bytes_of r))
+    read f false d h g = before_refused e s w b t k.0 h (eqb-false o.number 0 d) (joined ts (bytes_of r))
 
     go : Behind → (u : Turn) → turn_at e s.phase ≡ u → ((taken_by u s b w bytes (several (eqb o.number 0))).number ≡ 0 → ⊥) →
         Before e s w b bytes (take (taken_by u s b w bytes (several (eqb o.number 0))).count (parted_by u bytes (parts (eqb o.number 0))).received) (taken_by u s b w bytes (several (eqb o.number 0)))
     go f reads h g = read f (eqb o.number 0) refl h g
-    go f (drops n) h g = before-dropped e s w b n bytes h (some t (joined ts (bytes_of r)) (λ z. empty_apart k.0 z))
+    go f (drops n) h g = before_dropped e s w b n bytes h (some t (joined ts (bytes_of r)) (λ z. empty_apart k.0 z))
     go f keeps_back h g = absurd (g refl)
 
 -- ---- the theorem
 
 module _ (e : End) (i : Intake) (b : Buffers) where
   -- the calls xs for what stands before the fault
-  prefix-of : (text : List ℕ) (o : Outcome) (out : List ℕ) (r : Taken) (xs : List Piece) (s : Session) (w : List ℕ) → o ≡ held out r → length r.written ≤ length out →
+  prefix_of : (text : List ℕ) (o : Outcome) (out : List ℕ) (r : Taken) (xs : List Piece) (s : Session) (w : List ℕ) → o ≡ held out r → length r.written ≤ length out →
       Accepts e (emptied i.session i.awaited) b xs (emptied s w) r.buffers r.written → r.intake ≡ pick (closes r.number) (emptied (closed s) []) (emptied s w) → Faulty r.number →
       (fault later : List ℕ) → text_in xs ++ (fault ++ later) ≡ text → Refuses e s w r.buffers fault r.number → Prefix e i b text o xs
-  prefix-of text o out r xs s w q l a k f fault later p v =
+  prefix_of text o out r xs s w q l a k f fault later p v =
       let n = ap (λ (o : Outcome). o.number) q in
       let j = ap (λ (o : Outcome). o.intake) q ∙ k in
       record {
         number = subst Faulty (sym n) f;
         accepted = a.zero;
-        session = ap (λ (i : Intake). i.session) j ∙ in-session (closes r.number) ∙ sym (ap₂ (λ n (z : State). pick (closes n) (closed z.intake.session) z.intake.session) n a.leads);
+        session = ap (λ (i : Intake). i.session) j ∙ in_session (closes r.number) ∙ sym (ap₂ (λ n (z : State). pick (closes n) (closed z.intake.session) z.intake.session) n a.leads);
         tables = ap (λ (i : Intake). i.session.tables) j ∙ in_tables (closes r.number) ∙ sym (ap (λ (z : State). z.intake.session.tables) a.leads);
-        awaited = ap (λ (i : Intake). i.awaited) j ∙ in-awaited (closes r.number) ∙ sym (ap₂ (λ n (z : State). pick (closes n) [] z.intake.awaited) n a.leads);
+        awaited = ap (λ (i : Intake). i.awaited) j ∙ in_awaited (closes r.number) ∙ sym (ap₂ (λ n (z : State). pick (closes n) [] z.intake.awaited) n a.leads);
         buffers = ap (λ (o : Outcome). o.buffers) q ∙ sym (ap (λ (z : State). z.buffers) a.leads);
         output = ap (λ (o : Outcome). take o.size o.output) q ∙ all_written r.written out l ∙ sym a.writes;
         dropped = subst (λ i. i ≡ emptied i.session i.awaited) (sym j) (in_kept (closes r.number));
@@ -239,39 +239,39 @@ module _ (e : End) (i : Intake) (b : Buffers) where
         refused = ap (λ (z : State). (outcome_of e z.intake z.buffers (alone fault)).number) a.leads ∙ v ∙ sym n;
       }
     where
-      in-session : (d : Bool) → (pick d (emptied (closed s) []) (emptied s w)).session ≡ pick d (closed s) s
-      in-session true = refl
-      in-session false = refl
+      in_session : (d : Bool) → (pick d (emptied (closed s) []) (emptied s w)).session ≡ pick d (closed s) s
+      in_session true = refl
+      in_session false = refl
 
       in_tables : (d : Bool) → (pick d (emptied (closed s) []) (emptied s w)).session.tables ≡ s.tables
       in_tables true = refl
       in_tables false = refl
 
-      in-awaited : (d : Bool) → (pick d (emptied (closed s) []) (emptied s w)).awaited ≡ pick d [] w
-      in-awaited true = refl
-      in-awaited false = refl
+      in_awaited : (d : Bool) → (pick d (emptied (closed s) []) (emptied s w)).awaited ≡ pick d [] w
+      in_awaited true = refl
+      in_awaited false = refl
 
       in_kept : (d : Bool) → pick d (emptied (closed s) []) (emptied s w) ≡ emptied (pick d (emptied (closed s) []) (emptied s w)).session (pick d (emptied (closed s) []) (emptied s w)).awaited
       in_kept true = refl
       in_kept false = refl
 
   -- a chunk that is read, from an intake that can be reached: before its fault stand the stanzas that it took
-  pub prefix-chunk : (bytes out : List ℕ) → Bounded e i → turn_of e i.session.phase ≡ 0 → ((chunked e i b bytes out).number ≡ 0 → ⊥) → ((chunked e i b bytes out).number ≡ 15 → ⊥) →
+  pub prefix_chunk : (bytes out : List ℕ) → Bounded e i → turn_of e i.session.phase ≡ 0 → ((chunked e i b bytes out).number ≡ 0 → ⊥) → ((chunked e i b bytes out).number ≡ 15 → ⊥) →
       Prefix e i b (i.kept ++ bytes) (chunked e i b bytes out) (map alone (take (chunked e i b bytes out).count (parted_chunk e i b bytes).received))
-  prefix-chunk bytes out h t f g =
+  prefix_chunk bytes out h t f g =
       let r = taken e i b bytes in
-      let o = chunked-read e i b bytes out t in
+      let o = chunked_read e i b bytes out t in
       let d = judged_not_15 i b out r (λ z. g (ap (λ (o : Outcome). o.number) o ∙ z)) in
       let q = o ∙ d.0 in
       let parts = cut_parts bytes i.reading i.kept (h.front (turn_not_waiting e i.session.phase t)) in
       let k = before_all (cut i.reading i.kept bytes).texts e i.session i.awaited b (cut i.reading i.kept bytes).rest parts.texts parts.rest (λ z. f (ap (λ (o : Outcome). o.number) q ∙ z)) in
       subst (λ n. Prefix e i b (i.kept ++ bytes) (chunked e i b bytes out) (map alone (take n (parted_chunk e i b bytes).received))) (sym (ap (λ (o : Outcome). o.count) q))
-      (prefix-of (i.kept ++ bytes) (chunked e i b bytes out) out r (map alone (take r.count (parted_chunk e i b bytes).received)) k.session k.awaited q d.1 k.accepts k.intake k.number
+      (prefix_of (i.kept ++ bytes) (chunked e i b bytes out) out r (map alone (take r.count (parted_chunk e i b bytes).received)) k.session k.awaited q d.1 k.accepts k.intake k.number
       k.fault k.later (text_alone (take r.count (parted_chunk e i b bytes).received) (k.fault ++ k.later) ∙ k.place ∙ cut_joined bytes i.reading i.kept) k.refused)
 
   -- a chunk that is refused for the phase: everything stays
-  pub prefix-turn : (bytes out : List ℕ) (n : ℕ) → turn_of e i.session.phase ≡ n → (n ≡ 0 → ⊥) → chunked e i b bytes out ≡ untaken n i b out
-  prefix-turn bytes out n t f = chunk-refused e i b n bytes out t (ne_eqb n 0 f)
+  pub prefix_turn : (bytes out : List ℕ) (n : ℕ) → turn_of e i.session.phase ≡ n → (n ≡ 0 → ⊥) → chunked e i b bytes out ≡ untaken n i b out
+  prefix_turn bytes out n t f = chunk_refused e i b n bytes out t (ne_eqb n 0 f)
 
 -- a reply that is taken: before the fault stand the reply and the stanzas that were taken of what was kept back
 pub prefix_reply : (i : Intake) (b : Buffers) (r : Response) (body out : List ℕ) (v : WordTwo) → i.session.phase ≡ Awaiting v → number_replied v r body ≡ 0 →
@@ -283,14 +283,14 @@ prefix_reply i b r body out v t h f g =
     let text = stanza_text (response_line r) body in
     let m = taken_back i b in
     let d = reply_ahead text m in
-    let o = reply-fit i b r body out v t h in
+    let o = reply_fit i b r body out v t h in
     let y = judged_not_15 i b out d (λ z. g (ap (λ (o : Outcome). o.number) o ∙ z)) in
     let q = o ∙ y.0 in
     let parts = cut_parts i.kept start [] none_front in
     let k = before_all (cut start [] i.kept).texts client (answered s) [] b (cut start [] i.kept).rest parts.texts parts.rest (λ z. f (ap (λ (o : Outcome). o.number) q ∙ z)) in
     let a = reply_ahead text (no_more 0 (emptied (answered s) []) b) in
     subst (λ n. Prefix client i b i.kept (replied i b r body out) (reply r body ample ∷ map alone (take n (parted_back i b).received))) (sym (ap (λ (o : Outcome). o.count) q))
-    (prefix-of client i b i.kept (replied i b r body out) out d (reply r body ample ∷ map alone (take m.count (parted_back i b).received)) k.session k.awaited q y.1
+    (prefix_of client i b i.kept (replied i b r body out) out d (reply r body ample ∷ map alone (take m.count (parted_back i b).received)) k.session k.awaited q y.1
     (subst (λ u. Accepts client (emptied s i.awaited) b (reply r body ample ∷ map alone (take m.count (parted_back i b).received)) (emptied k.session k.awaited) m.buffers (u ++ m.written)) (append-nil text)
     (accepts_more client (emptied s i.awaited) b (reply r body ample) (map alone (take m.count (parted_back i b).received)) ample a (reply_alone_lem s i.awaited b r body v t h) (room_fits (text ++ []) (reply_room v r body h)) refl k.accepts))
     k.intake k.number k.fault k.later (text_alone (take m.count (parted_back i b).received) (k.fault ++ k.later) ∙ k.place ∙ cut_joined i.kept start []) k.refused)
@@ -298,4 +298,4 @@ prefix_reply i b r body out v t h f g =
 -- a reply that does not fit or cannot be written: everything stays
 pub prefix_unfit : (i : Intake) (b : Buffers) (r : Response) (body out : List ℕ) (v : WordTwo) → i.session.phase ≡ Awaiting v → (number_replied v r body ≡ 0 → ⊥) →
     replied i b r body out ≡ untaken (number_replied v r body) i b out
-prefix_unfit i b r body out v t f = reply-unfit i b r body out v t (number_replied v r body) refl (ne_eqb (number_replied v r body) 0 f)
+prefix_unfit i b r body out v t f = reply_unfit i b r body out v t (number_replied v r body) refl (ne_eqb (number_replied v r body) 0 f)

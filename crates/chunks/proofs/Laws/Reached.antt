@@ -275,31 +275,31 @@ module _ (e : End) (machine name : List ℕ) (screen : Bool) (cs : List (AnyWith
   abbrev there : Intake
   there = intake_after_all e (emptied (opened machine name screen).session []) cs
 
-  pub reached-empty : is_idle e there.session.phase ≡ true → there ≡ emptied there.session []
-  reached-empty h =
+  pub reached_empty : is_idle e there.session.phase ≡ true → there ≡ emptied there.session []
+  reached_empty h =
       let k = (reached_keeps e machine name screen cs).settled in
       let d = idle_drops e there.session.phase h in
       settled_emptied e there d.0 k d.1 ∙ ap (emptied there.session) (k.awaited.none ((turn_says e there.session.phase).waits (λ z. keeps_not_drops d.0 (sym z ∙ d.1))))
 
   -- a text waits exactly where the host's reply is due, and then it is a whole stanza; so at the plugin end none does
-  pub reached-awaited : (is_waiting e there.session.phase ≡ true) ↔ (there.awaited ≡ [] → ⊥)
-  reached-awaited =
+  pub reached_awaited : (is_waiting e there.session.phase ≡ true) ↔ (there.awaited ≡ [] → ⊥)
+  reached_awaited =
       let k = (reached_keeps e machine name screen cs).settled.awaited in
       (λ h q. empty_not_whole (subst Whole q (k.whole h)), λ h. cases (is_waiting e there.session.phase) (λ f. f) (λ f. absurd (h (k.none f))))
 
-  pub reached-awaited-none : is_waiting e there.session.phase ≡ false → there.awaited ≡ []
-  reached-awaited-none h = (reached_keeps e machine name screen cs).settled.awaited.none h
+  pub reached_awaited_none : is_waiting e there.session.phase ≡ false → there.awaited ≡ []
+  reached_awaited_none h = (reached_keeps e machine name screen cs).settled.awaited.none h
 
-  pub reached-awaited-whole : is_waiting e there.session.phase ≡ true → Whole there.awaited
-  reached-awaited-whole h = (reached_keeps e machine name screen cs).settled.awaited.whole h
+  pub reached_awaited_whole : is_waiting e there.session.phase ≡ true → Whole there.awaited
+  reached_awaited_whole h = (reached_keeps e machine name screen cs).settled.awaited.whole h
 
   -- no chunk gives 2 there, and one that is refused with 13 or 14 and takes no stanza leaves all as it was
-  pub reached-not-two : (b : Buffers) (bytes out : List ℕ) → (chunked e there b bytes out).number ≡ 2 → ⊥
-  reached-not-two b bytes out = chunk_not_two e there b bytes out (reached_keeps e machine name screen cs).settled.front
+  pub reached_not_two : (b : Buffers) (bytes out : List ℕ) → (chunked e there b bytes out).number ≡ 2 → ⊥
+  reached_not_two b bytes out = chunk_not_two e there b bytes out (reached_keeps e machine name screen cs).settled.front
 
-  pub reached-out-of-turn : (b : Buffers) (bytes out : List ℕ) → (chunked e there b bytes out).count ≡ 0 → OutOfTurn (chunked e there b bytes out).number → chunked e there b bytes out ≡ untaken (chunked e there b bytes out).number there b out
-  reached-out-of-turn b bytes out = chunk_out_of_turn e there b bytes out (λ n h. settled_emptied e there n (reached_keeps e machine name screen cs).settled h)
+  pub reached_out_of_turn : (b : Buffers) (bytes out : List ℕ) → (chunked e there b bytes out).count ≡ 0 → OutOfTurn (chunked e there b bytes out).number → chunked e there b bytes out ≡ untaken (chunked e there b bytes out).number there b out
+  reached_out_of_turn b bytes out = chunk_out_of_turn e there b bytes out (λ n h. settled_emptied e there n (reached_keeps e machine name screen cs).settled h)
 
 -- at the plugin end none ever waits
 pub reached_plugin_awaited : (machine name : List ℕ) (cs : List (AnyWith plugin)) → (intake_after_all plugin (emptied (opened machine name false).session []) cs).awaited ≡ []
-reached_plugin_awaited machine name cs = reached-awaited-none plugin machine name false cs refl
+reached_plugin_awaited machine name cs = reached_awaited_none plugin machine name false cs refl

@@ -68,9 +68,9 @@ module _ (s : Session) (b : Buffers) where
   refuses : ℕ → Answer
   refuses n = record { number = n; text = []; given = one_call.nothing; session = s; buffers = b; short = omega arith }
 
-  refusal-lent : (n : ℕ) → (n ≡ 0 → ⊥) → (out : List ℕ) → refused_outcome n out ≡ lent (refuses n) out
+  refusal_lent : (n : ℕ) → (n ≡ 0 → ⊥) → (out : List ℕ) → refused_outcome n out ≡ lent (refuses n) out
   unfolding refuses
-  refusal-lent n h out = rw (ne_eqb n 0 h, ne_eqb n 0 h)
+  refusal_lent n h out = rw (ne_eqb n 0 h, ne_eqb n 0 h)
 
   -- a call whose outcome goes by the buffer so
   module _ (f : List ℕ → Outcome) (a : Answer) (is : (out : List ℕ) → f out ≡ lent a out) where
@@ -102,8 +102,8 @@ module _ (s : Session) (b : Buffers) where
             (λ out. is out ∙ ap (λ d. let n = pick d (shortness a.text out) a.number in pick (eqb n 0) (accepting a out) (refused_outcome n out)) h
             ∙ ap (λ d. pick d (accepting a out) (refused_outcome a.number out)) h)
 
-    room-long : length a.text ≤ length ample
-    room-long = omega (arith, a.short, room_size)
+    room_long : length a.text ≤ length ample
+    room_long = omega (arith, a.short, room_size)
 
     -- it is accepted, and the buffer is long enough
     fits : (out : List ℕ) → (f ample).number ≡ 0 → (f ample).size ≤ length out → f out ≡ with_output (f ample) (filled (take (f ample).size (f ample).output) out)
@@ -111,9 +111,9 @@ module _ (s : Session) (b : Buffers) where
       where
         go : Case → (f ample).number ≡ 0 → (f ample).size ≤ length out → f out ≡ with_output (f ample) (filled (take (f ample).size (f ample).output) out)
         go (accepts z w) n l =
-            let e = w ample room-long in
+            let e = w ample room_long in
             w out (subst (λ (o : Outcome). o.size ≤ length out) e l)
-            ∙ ap (λ y. with_output (accepting a ample) (filled y out)) (sym (all_written a.text ample room-long))
+            ∙ ap (λ y. with_output (accepting a ample) (filled y out)) (sym (all_written a.text ample room_long))
             ∙ sym (ap (λ o. with_output o (filled (take o.size o.output) out)) e)
         go (declines z w) n l = absurd (z (sym (ap (λ (o : Outcome). o.number) (w ample)) ∙ n))
 
@@ -125,7 +125,7 @@ module _ (s : Session) (b : Buffers) where
         go (accepts z w) n l =
             let e : first_of a.number (shortness a.text out) ≡ 15 =
             ap₂ first_of z
-            (ap (λ d. pick d 15 0) (lt-ltb (length out) (length a.text) (subst (λ (o : Outcome). length out < o.size) (w ample room-long) l))) in
+            (ap (λ d. pick d 15 0) (lt-ltb (length out) (length a.text) (subst (λ (o : Outcome). length out < o.size) (w ample room_long) l))) in
             is out ∙ ap (λ n. pick (eqb n 0) (accepting a out) (refused_outcome n out)) e
         go (declines z w) n l = absurd (z (sym (ap (λ (o : Outcome). o.number) (w ample)) ∙ n))
 
@@ -134,7 +134,7 @@ module _ (s : Session) (b : Buffers) where
     declined out = go case
       where
         go : Case → ((f ample).number ≡ 0 → ⊥) → f out ≡ with_output (f ample) out
-        go (accepts z w) n = absurd (n (ap (λ (o : Outcome). o.number) (w ample room-long)))
+        go (accepts z w) n = absurd (n (ap (λ (o : Outcome). o.number) (w ample room_long)))
         go (declines z w) n = w out ∙ sym (ap (λ o. with_output o out) (w ample))
 
 -- ---- a command that the client receives, and a response that the plugin does
@@ -155,10 +155,10 @@ module _ (s : Session) (b : Buffers) (x : List ℕ) where
         short = omega (arith, at_once_short (receiving_two.at_once s.screen c));
       }
 
-  stanza-two : (line body : List ℕ) (k : ℕ) (out : List ℕ) →
+  stanza_two : (line body : List ℕ) (k : ℕ) (out : List ℕ) →
       received_two_outcome b.first (receiving_two.received_stanza s b.second out line body k) ≡ lent s b (answer_two line body k) out
   unfolding receiving_two.received_stanza answer_two
-  stanza-two line body k out =
+  stanza_two line body k out =
       pick_in (eqb (first_of (receiving_two.number_received s b.second line body) (shortness (at_once_text s b line body) out)) 0)
       (received_two_outcome b.first) _ _
 
@@ -166,29 +166,29 @@ module _ (s : Session) (b : Buffers) (x : List ℕ) where
   abbrev Lent : (List ℕ → Outcome) → Type 0
   Lent f = (a : Answer s b) × ((out : List ℕ) → f out ≡ lent s b a out)
 
-  refused-lent : (n : ℕ) → (n ≡ 0 → ⊥) → Lent (refused_outcome s b n)
-  refused-lent n h = (refuses s b n, refusal-lent s b n h)
+  refused_lent : (n : ℕ) → (n ≡ 0 → ⊥) → Lent (refused_outcome s b n)
+  refused_lent n h = (refuses s b n, refusal_lent s b n h)
 
-  command-lent : Lent (λ out. outcome s b (receive_two x out))
+  command_lent : Lent (λ out. outcome s b (receive_two x out))
   unfolding receiving_two.received
-  command-lent = go (eqb (turn_two s.phase) 0) refl
+  command_lent = go (eqb (turn_two s.phase) 0) refl
     where
       as_read_lem : (q : Reading) → read_first x ≡ q → Lent (λ out. received_two_outcome b.first (receiving_two.received_as q s x b.second out))
-      as_read_lem (stanza e n k) h = let q = stanza e n k in (answer_two (line_read q x) (body_read q x) k, stanza-two (line_read q x) (body_read q x) k)
-      as_read_lem (refused n) h = refused-lent n (text_number_lem x n h)
+      as_read_lem (stanza e n k) h = let q = stanza e n k in (answer_two (line_read q x) (body_read q x) k, stanza_two (line_read q x) (body_read q x) k)
+      as_read_lem (refused n) h = refused_lent n (text_number_lem x n h)
 
       go : (d : Bool) → eqb (turn_two s.phase) 0 ≡ d →
           Lent (λ out. received_two_outcome b.first
           (pick d (receiving_two.received_as (read_first x) s x b.second out) (receiving_two.refused_receipt (turn_two s.phase) s b.second out)))
       go true h = as_read_lem (read_first x) refl
-      go false h = refused-lent (turn_two s.phase) (eqb-false (turn_two s.phase) 0 h)
+      go false h = refused_lent (turn_two s.phase) (eqb-false (turn_two s.phase) 0 h)
 
-  response-lent : Lent (λ out. outcome s b (respond x out))
-  response-lent = go s.phase
+  response_lent : Lent (λ out. outcome s b (respond x out))
+  response_lent = go s.phase
     where
       as_response : (w : WordTwo) (r : ResponseRead) (body : List ℕ) (k : ℕ) → length body ≤ 8192 →
           Lent (λ out. responded_outcome b (responding.responded_as w s r body k out))
-      as_response w nothing body k h = unfold responding.responded_as in refused-lent 12 (λ z. omega arith)
+      as_response w nothing body k h = unfold responding.responded_as in refused_lent 12 (λ z. omega arith)
       as_response w (response r) body k h =
           unfold responding.responded_as in (
             record {
@@ -204,37 +204,37 @@ module _ (s : Session) (b : Buffers) (x : List ℕ) where
 
       as_read_lem : (w : WordTwo) (q : Reading) → read_first x ≡ q → Lent (λ out. responded_outcome b (responding.responded_text q w s x out))
       as_read_lem w (stanza e n k) h = let q = stanza e n k in as_response w (response_of (line_read q x)) (body_read q x) k (body_short x q h)
-      as_read_lem w (refused n) h = refused-lent n (text_number_lem x n h)
+      as_read_lem w (refused n) h = refused_lent n (text_number_lem x n h)
 
       go : (p : Phase) → Lent (λ out. responded_outcome b (responding.responded_by (due_in p) s x out))
-      go One = refused-lent 14 (λ z. omega arith)
-      go Two = refused-lent 14 (λ z. omega arith)
+      go One = refused_lent 14 (λ z. omega arith)
+      go Two = refused_lent 14 (λ z. omega arith)
       go (Awaiting w) = as_read_lem w (read_first x) refl
-      go Ended = refused-lent 13 (λ z. omega arith)
-      go Closed = refused-lent 13 (λ z. omega arith)
+      go Ended = refused_lent 13 (λ z. omega arith)
+      go Closed = refused_lent 13 (λ z. omega arith)
 
   -- a command that is answered at once: the answer fits the buffer, or it does not, or the command is refused
-  pub command-fits : (out : List ℕ) → (outcome s b (receive_two x ample)).number ≡ 0 → (outcome s b (receive_two x ample)).size ≤ length out →
+  pub command_fits : (out : List ℕ) → (outcome s b (receive_two x ample)).number ≡ 0 → (outcome s b (receive_two x ample)).size ≤ length out →
       outcome s b (receive_two x out) ≡ with_output (outcome s b (receive_two x ample)) (filled (written_by s b (receive_two x ample)) out)
-  command-fits = fits s b (λ out. outcome s b (receive_two x out)) command-lent.0 command-lent.1
+  command_fits = fits s b (λ out. outcome s b (receive_two x out)) command_lent.0 command_lent.1
 
-  pub command-overflows : (out : List ℕ) → (outcome s b (receive_two x ample)).number ≡ 0 → length out < (outcome s b (receive_two x ample)).size →
+  pub command_overflows : (out : List ℕ) → (outcome s b (receive_two x ample)).number ≡ 0 → length out < (outcome s b (receive_two x ample)).size →
       outcome s b (receive_two x out) ≡ unfitting s b out
-  command-overflows = overflowing s b (λ out. outcome s b (receive_two x out)) command-lent.0 command-lent.1
+  command_overflows = overflowing s b (λ out. outcome s b (receive_two x out)) command_lent.0 command_lent.1
 
-  pub command-declined : (out : List ℕ) → ((outcome s b (receive_two x ample)).number ≡ 0 → ⊥) →
+  pub command_declined : (out : List ℕ) → ((outcome s b (receive_two x ample)).number ≡ 0 → ⊥) →
       outcome s b (receive_two x out) ≡ with_output (outcome s b (receive_two x ample)) out
-  command-declined = declined s b (λ out. outcome s b (receive_two x out)) command-lent.0 command-lent.1
+  command_declined = declined s b (λ out. outcome s b (receive_two x out)) command_lent.0 command_lent.1
 
   -- a response, of which the body is written
-  pub response-fits : (out : List ℕ) → (outcome s b (respond x ample)).number ≡ 0 → (outcome s b (respond x ample)).size ≤ length out →
+  pub response_fits : (out : List ℕ) → (outcome s b (respond x ample)).number ≡ 0 → (outcome s b (respond x ample)).size ≤ length out →
       outcome s b (respond x out) ≡ with_output (outcome s b (respond x ample)) (filled (written_by s b (respond x ample)) out)
-  response-fits = fits s b (λ out. outcome s b (respond x out)) response-lent.0 response-lent.1
+  response_fits = fits s b (λ out. outcome s b (respond x out)) response_lent.0 response_lent.1
 
-  pub response-overflows : (out : List ℕ) → (outcome s b (respond x ample)).number ≡ 0 → length out < (outcome s b (respond x ample)).size →
+  pub response_overflows : (out : List ℕ) → (outcome s b (respond x ample)).number ≡ 0 → length out < (outcome s b (respond x ample)).size →
       outcome s b (respond x out) ≡ unfitting s b out
-  response-overflows = overflowing s b (λ out. outcome s b (respond x out)) response-lent.0 response-lent.1
+  response_overflows = overflowing s b (λ out. outcome s b (respond x out)) response_lent.0 response_lent.1
 
-  pub response-declined : (out : List ℕ) → ((outcome s b (respond x ample)).number ≡ 0 → ⊥) →
+  pub response_declined : (out : List ℕ) → ((outcome s b (respond x ample)).number ≡ 0 → ⊥) →
       outcome s b (respond x out) ≡ with_output (outcome s b (respond x ample)) out
-  response-declined = declined s b (λ out. outcome s b (respond x out)) response-lent.0 response-lent.1
+  response_declined = declined s b (λ out. outcome s b (respond x out)) response_lent.0 response_lent.1

@@ -40,7 +40,7 @@ use Rattle.chunks.specs.Uncut.{chunk, reply, is_waiting, Parted, received_more, 
 use Rattle.chunks.specs.Reached.{AnyCall, piece, sends_one, sends_two, finishes, Has, intake_after, AnyWith, intake_after_all}
 use Rattle.chunks.specs.Screens.{answer_to, AnsweredAtOnce, NothingWaits}
 use Rattle.chunks.proofs.Laws.Cases.{stanza_cases, chunk_cases, reply_cases}
-use Rattle.chunks.proofs.Laws.Reached.{reached-awaited-none}
+use Rattle.chunks.proofs.Laws.Reached.{reached_awaited_none}
 use Rattle.chunks.proofs.Laws.Stanzas.{after_undue}
 
 -- ---- nothing waits
@@ -135,7 +135,7 @@ pub nothing_waits : (machine name : List ℕ) (cs : List (AnyWith client)) → N
 nothing_waits machine name cs =
     let i = emptied (opened machine name false).session [] in
     let k = calls_screenless i cs (record { shown = refl; due = opened_undue machine name false }) in
-    record { due = k.due; awaited = reached-awaited-none client machine name false cs k.due }
+    record { due = k.due; awaited = reached_awaited_none client machine name false cs k.due }
 
 -- ---- each stanza is answered in the same call
 

@@ -21,14 +21,14 @@ use Rattle.conversation.specs.ReceivingTwo.{AtOnce, writes, silent, at_once, tex
 use Rattle.conversation.specs.TurnsTwo.{answered}
 use Rattle.conversation.specs.WrittenRead.{ReadsBack}
 use Rattle.conversation.proofs.Laws.Refusals.{refusal}
-use Rattle.conversation.proofs.Laws.WrittenRead.{phase-one-written, command-written, at-once-text, at-once-written, response-written}
+use Rattle.conversation.proofs.Laws.WrittenRead.{phase_one_written, command_written, at_once_text_lem, at_once_written, response_written}
 use Rattle.chunks.specs.Cutting.{cut}
 use Rattle.chunks.specs.Taking.{End, client, plugin, ample, stanza_call, Intake, emptied, joined}
 use Rattle.chunks.specs.Uncut.{Piece, chunk, reply, outcome_of, after, numbers, NoneHeldUp, is_waiting, is_unfit, uncut, text_in, stanzas_in}
 use Rattle.chunks.specs.Reached.{AnyCall, piece, sends_one, sends_two, finishes, Has, intake_after}
 use Rattle.chunks.specs.AnyCalls.{buffers_after, stanza_calls, calls_in, calls_all}
 use Rattle.chunks.specs.Sent.{sent_at, sent_any, OfBytes, SentStanza, text_sent, at_once_sent, stanzas_by, stanzas_sent, texts_sent}
-use Rattle.chunks.proofs.Laws.AnyCalls.{call_as, joined_front, pick_all, stanzas-all}
+use Rattle.chunks.proofs.Laws.AnyCalls.{call_as, joined_front, pick_all, stanzas_all}
 use Rattle.chunks.proofs.Laws.Orders.{all_append, joined_append}
 use Rattle.chunks.proofs.Laws.Reached.{Keeps, call_keeps}
 use Rattle.chunks.proofs.Laws.Written.{back_whole, chunks_written}
@@ -66,16 +66,16 @@ at_once_sent_lem : (s : Session) (b : Buffers) (text out : List ℕ) → (outcom
 at_once_sent_lem s b text out h = go (at_once s.screen (command_in s.machine text)) refl
   where
     go : (a : AtOnce) → at_once s.screen (command_in s.machine text) ≡ a → AsSent (written_by s b (receive_two text out)) (at_once_sent a)
-    go (writes r) q = one_sent (written_by s b (receive_two text out)) _ (at-once-written s b text out r h q).back
-    go silent q = subst (λ w. AsSent w []) (sym (at-once-text s b text out h ∙ ap text_of q)) none_sent
+    go (writes r) q = one_sent (written_by s b (receive_two text out)) _ (at_once_written s b text out r h q).back
+    go silent q = subst (λ w. AsSent w []) (sym (at_once_text_lem s b text out h ∙ ap text_of q)) none_sent
 
 -- an accepted call
 accepted_sent : (s : Session) (b : Buffers) (c : Call) → Sends c → (outcome s b c).number ≡ 0 → AsSent (written_by s b c) (stanzas_by s c)
 accepted_sent s b (receive text) y h = none_sent
-accepted_sent s b (send word arguments body out) y h = one_sent (written_by s b (send word arguments body out)) _ (phase-one-written s b word arguments body out y h).back
+accepted_sent s b (send word arguments body out) y h = one_sent (written_by s b (send word arguments body out)) _ (phase_one_written s b word arguments body out y h).back
 accepted_sent s b (receive_two text out) y h = at_once_sent_lem s b text out h
-accepted_sent s b (one_call.reply r body out) y h = one_sent (written_by s b (one_call.reply r body out)) _ (response-written s b r body out y h).back
-accepted_sent s b (send_two word arguments body out) y h = one_sent (written_by s b (send_two word arguments body out)) _ (command-written s b word arguments body out y h).back
+accepted_sent s b (one_call.reply r body out) y h = one_sent (written_by s b (one_call.reply r body out)) _ (response_written s b r body out y h).back
+accepted_sent s b (send_two word arguments body out) y h = one_sent (written_by s b (send_two word arguments body out)) _ (command_written s b word arguments body out y h).back
 accepted_sent s b (respond text out) y h = absurd y
 
 -- a refused one writes nothing
@@ -145,11 +145,11 @@ client_calls : (i : Intake) (b : Buffers) (c : AnyCall) → Has client c → OfB
 unfolding All
 client_calls i b (piece (chunk bytes out)) h y =
     let c = cut i.reading i.kept bytes in
-    pick_all Sends client client_sends (eqb (outcome_of client i b (chunk bytes out)).number 15) [] (stanza_calls client i.session b c.texts c.rest) tt (stanzas-all Sends client client_sends c.texts i.session b c.rest)
+    pick_all Sends client client_sends (eqb (outcome_of client i b (chunk bytes out)).number 15) [] (stanza_calls client i.session b c.texts c.rest) tt (stanzas_all Sends client client_sends c.texts i.session b c.rest)
 client_calls i b (piece (reply r body out)) h y =
     let c = cut start [] i.kept in
     pick_all Sends client client_sends (is_unfit (outcome_of client i b (reply r body out))) [] (one_call.reply r body ample ∷ stanza_calls client (answered i.session) b c.texts c.rest) tt
-    (y, stanzas-all Sends client client_sends c.texts (answered i.session) b c.rest)
+    (y, stanzas_all Sends client client_sends c.texts (answered i.session) b c.rest)
 client_calls i b (sends_one word arguments body out) h y = (y, tt)
 client_calls i b (sends_two word arguments body out) h y = absurd h
 client_calls i b finishes h y = tt
@@ -160,7 +160,7 @@ any_sent client i b c h y k = subst (λ w. AsSent w (stanzas_sent i.session b (c
 any_sent plugin i b (piece (chunk bytes out)) h y k =
     let c = cut i.reading i.kept bytes in
     subst (AsSent []) (sym (silent_sent i.session b (calls_in plugin i b (piece (chunk bytes out)))
-    (pick_all Silent plugin plugin_silent (eqb (outcome_of plugin i b (chunk bytes out)).number 15) [] (stanza_calls plugin i.session b c.texts c.rest) tt (stanzas-all Silent plugin plugin_silent c.texts i.session b c.rest)))) none_sent
+    (pick_all Silent plugin plugin_silent (eqb (outcome_of plugin i b (chunk bytes out)).number 15) [] (stanza_calls plugin i.session b c.texts c.rest) tt (stanzas_all Silent plugin plugin_silent c.texts i.session b c.rest)))) none_sent
 any_sent plugin i b (piece (reply r body out)) h y k = subst (AsSent []) (sym (silent_sent i.session b [] tt)) none_sent
 any_sent plugin i b (sends_one word arguments body out) h y k = absurd h
 any_sent plugin i b (sends_two word arguments body out) h y k =

@@ -28,7 +28,7 @@ use Rattle.chunks.specs.Cutting.{Rest, unfinished, impossible, bytes_of, cut}
 use Rattle.chunks.specs.Taking.{End, client, Turn, reads, drops, keeps_back, turn_at, stanza_call, Intake, Taken, emptied, no_more, taken_rest, taken_all, no_stanza}
 use Rattle.chunks.specs.Chunks.{RestStays, untaken, is_held, taken, turn_of, chunked, taken_back, replied_to, replied_by, replied}
 use Rattle.chunks.proofs.Laws.Cases.{drops_not_reads, stanza_cases, held, is_turned, chunk_cases, is_untaken, answering, reply_cases}
-use Rattle.chunks.proofs.Laws.Numbers.{Faulty, cut_faulty, stanza-number, all-number}
+use Rattle.chunks.proofs.Laws.Numbers.{Faulty, cut_faulty, stanza_number, all_number}
 
 -- ---- no stanza by itself is refused with 15
 
@@ -61,7 +61,7 @@ every f [] = tt
 every f (x ∷ xs) = (f x, every f xs)
 
 all_not_short : (e : End) (s : Session) (b : Buffers) (a : List ℕ) (ts : List (List ℕ)) (r : Rest) → Faulty r → (taken_all e s b a ts r).number ≡ 15 → ⊥
-all_not_short e s b a ts r f = all-number NotShort low_not_short (λ e. omega arith) (λ e. omega arith) e s b a ts r (every read_not_short ts) f
+all_not_short e s b a ts r f = all_number NotShort low_not_short (λ e. omega arith) (λ e. omega arith) e s b a ts r (every read_not_short ts) f
 
 -- what a chunk comes to before its lengths are looked at
 pub taken_not_short : (e : End) (i : Intake) (b : Buffers) (bytes : List ℕ) → (taken e i b bytes).number ≡ 15 → ⊥
@@ -131,7 +131,7 @@ low_in_turn n h o = ⊎_elim (λ e. subst (λ n. T (closes n)) e h) (λ e. subst
 
 -- a stanza that is received is in turn
 pub stanza_in_turn : (e : End) (s : Session) (b : Buffers) (t : List ℕ) → turn_at e s.phase ≡ reads → OutOfTurn (outcome s b (stanza_call e s.phase t)).number → ⊥
-stanza_in_turn e s b t h = stanza-number InTurn low_in_turn s b t (read_number InTurn (low_in_turn 1 tt) (⊎_elim (λ e. omega arith) (λ e. omega arith)) (low_in_turn 3 tt) t) e h
+stanza_in_turn e s b t h = stanza_number InTurn low_in_turn s b t (read_number InTurn (low_in_turn 1 tt) (⊎_elim (λ e. omega arith) (λ e. omega arith)) (low_in_turn 3 tt) t) e h
 
 zero_in_turn : OutOfTurn 0 → ⊥
 zero_in_turn o = ⊎_elim (λ e. omega arith) (λ e. omega arith) o
@@ -141,20 +141,20 @@ module _ (s : Session) (b : Buffers) (a : List ℕ) where
   abbrev Dropped : Turn → Taken → Type 0
   Dropped t x = (n : ℕ) × (t ≡ drops n) × (x ≡ no_more n (emptied s a) b)
 
-  rest-dropped : (t : Turn) (r : Rest) → Faulty r → OutOfTurn (taken_rest t s b a r).number → Dropped t (taken_rest t s b a r)
-  rest-dropped reads (unfinished q front) f o = absurd (zero_in_turn o)
-  rest-dropped reads (impossible n text) f o = absurd (⊎_elim (λ e. ⊎_elim (λ z. omega arith) (λ z. omega arith) o) (λ e. ⊎_elim (λ z. omega arith) (λ z. omega arith) o) f)
-  rest-dropped (drops n) r f o = go (eqb (length (bytes_of r)) 0) o
+  rest_dropped : (t : Turn) (r : Rest) → Faulty r → OutOfTurn (taken_rest t s b a r).number → Dropped t (taken_rest t s b a r)
+  rest_dropped reads (unfinished q front) f o = absurd (zero_in_turn o)
+  rest_dropped reads (impossible n text) f o = absurd (⊎_elim (λ e. ⊎_elim (λ z. omega arith) (λ z. omega arith) o) (λ e. ⊎_elim (λ z. omega arith) (λ z. omega arith) o) f)
+  rest_dropped (drops n) r f o = go (eqb (length (bytes_of r)) 0) o
     where
       go : (f : Bool) → OutOfTurn (pick f (no_more 0 (emptied s a) b) (no_more n (emptied s a) b)).number → Dropped (drops n) (pick f (no_more 0 (emptied s a) b) (no_more n (emptied s a) b))
       go true o = absurd (zero_in_turn o)
       go false o = (n, refl, refl)
-  rest-dropped keeps_back r f o = absurd (zero_in_turn o)
+  rest_dropped keeps_back r f o = absurd (zero_in_turn o)
 
 -- where no stanza is taken and the number is none of a stanza that is received, bytes were dropped
 all_dropped : (e : End) (s : Session) (b : Buffers) (a : List ℕ) (ts : List (List ℕ)) (r : Rest) → Faulty r → (taken_all e s b a ts r).count ≡ 0 → OutOfTurn (taken_all e s b a ts r).number → Dropped s b a (turn_at e s.phase) (taken_all e s b a ts r)
 unfolding taken_all
-all_dropped e s b a [] r f = λ c o. rest-dropped s b a (turn_at e s.phase) r f o
+all_dropped e s b a [] r f = λ c o. rest_dropped s b a (turn_at e s.phase) r f o
 all_dropped e s b a (t ∷ ts) r f =
     stanza_cases (λ x. x.count ≡ 0 → OutOfTurn x.number → Dropped s b a (turn_at e s.phase) x) e s b a t ts r
     (λ q z c o. absurd (omega arith)) (λ q z c o. absurd (stanza_in_turn e s b t q o)) (λ n q c o. (n, q, refl)) (λ q c o. absurd (zero_in_turn o))

@@ -41,7 +41,7 @@ use Rattle.chunks.specs.Uncut.{outcome_of, alone, is_waiting}
 use Rattle.chunks.proofs.Laws.Cases.{held}
 use Rattle.chunks.proofs.Laws.Cutting.{IsWhole}
 use Rattle.chunks.proofs.Laws.Reading.{cut_whole}
-use Rattle.chunks.proofs.Laws.Taking.{chunk-held, one_alone, alone-fits, alone-accepted, alone-refused}
+use Rattle.chunks.proofs.Laws.Taking.{chunk_held, one_alone, alone_fits, alone_accepted, alone_refused}
 
 -- ---- a call on chunks and a call of one stanza are alike: the number, the session, the buffers and what is written; nothing is kept
 pub record Alike (x : one_call.Outcome) (o : Outcome) : Type 0 where
@@ -58,57 +58,57 @@ whole_is t w =
 
 module _ (s : Session) (a : List ℕ) (b : Buffers) (t : List ℕ) (w : Whole t) where
   -- where bytes are read it is the call that takes the stanza: the client's in phase two; the plugin's in phase one, and where a response is due
-  pub chunk-single : (e : End) → turn_at e s.phase ≡ reads → Alike (outcome s b (stanza_call e s.phase t)) (chunked e (emptied s a) b t ample)
-  chunk-single e h =
+  pub chunk_single : (e : End) → turn_at e s.phase ≡ reads → Alike (outcome s b (stanza_call e s.phase t)) (chunked e (emptied s a) b t ample)
+  chunk_single e h =
       let c = stanza_call e s.phase t in
       let v = whole_is t w in
       cases (eqb (outcome s b c).number 0)
       (λ f. let z = eqb-true (outcome s b c).number 0 f in
-      subst (Alike (outcome s b c)) (sym (alone-accepted e s a b t v h z))
-      (record { number = sym z; intake = refl; buffers = refl; written = all_written (one_alone e s a b t v h).written ample (alone-fits e s a b t v h z) ∙ append-nil (written_by s b c) }))
+      subst (Alike (outcome s b c)) (sym (alone_accepted e s a b t v h z))
+      (record { number = sym z; intake = refl; buffers = refl; written = all_written (one_alone e s a b t v h).written ample (alone_fits e s a b t v h z) ∙ append-nil (written_by s b c) }))
       (λ f. let z = eqb-false (outcome s b c).number 0 f in
       let r = refusal s b c z in
-      subst (Alike (outcome s b c)) (sym (alone-refused e s a b t v h z))
+      subst (Alike (outcome s b c)) (sym (alone_refused e s a b t v h z))
       (record { number = refl; intake = refl; buffers = sym r.buffers; written = sym (ap (λ n. take n (outcome s b c).output) r.size) }))
 
   -- where it is not its turn nothing is taken either way
-  out-of-turn-alike : (e : End) (c : Call) (n : ℕ) → turn_of e s.phase ≡ n → eqb n 0 ≡ false → (outcome s b c).number ≡ n → (outcome s b c).session ≡ s → Alike (outcome s b c) (chunked e (emptied s a) b t ample)
+  out_of_turn_alike : (e : End) (c : Call) (n : ℕ) → turn_of e s.phase ≡ n → eqb n 0 ≡ false → (outcome s b c).number ≡ n → (outcome s b c).session ≡ s → Alike (outcome s b c) (chunked e (emptied s a) b t ample)
   unfolding chunked
-  out-of-turn-alike e c n h f q z =
+  out_of_turn_alike e c n h f q z =
       let r = refusal s b c (λ y. eqb-false n 0 f (sym q ∙ y)) in
       rw (h, f) (record { number = sym q; intake = ap (λ s. emptied s a) (sym z); buffers = sym r.buffers; written = sym (ap (λ n. take n (outcome s b c).output) r.size) })
 
   -- the client's, in every phase
-  pub chunk-client : Alike (outcome s b (receive_two t ample)) (chunked client (emptied s a) b t ample)
-  chunk-client =
+  pub chunk_client : Alike (outcome s b (receive_two t ample)) (chunked client (emptied s a) b t ample)
+  chunk_client =
       cases (eqb (turn_two s.phase) 0)
-      (λ f. chunk-single client (ap (turn_at client) (turn_second s.phase (eqb-true (turn_two s.phase) 0 f))))
+      (λ f. chunk_single client (ap (turn_at client) (turn_second s.phase (eqb-true (turn_two s.phase) 0 f))))
       (λ f. let e = received_two_out_of_turn s t b.second ample (turn_two s.phase) refl f in
-      out-of-turn-alike client (receive_two t ample) (turn_two s.phase) refl f (sym (ap (λ r. taking_two_number r.answer) e)) (sym (ap (λ r. r.session) e)))
+      out_of_turn_alike client (receive_two t ample) (turn_two s.phase) refl f (sym (ap (λ r. taking_two_number r.answer) e)) (sym (ap (λ r. r.session) e)))
 
   -- bytes that no response is due for are dropped
-  chunk-dropped : s.phase ≡ Two → outcome_of plugin (emptied s a) b (alone t) ≡ held ample (no_more 14 (emptied s a) b)
+  chunk_dropped : s.phase ≡ Two → outcome_of plugin (emptied s a) b (alone t) ≡ held ample (no_more 14 (emptied s a) b)
   unfolding taken_all joined
-  chunk-dropped q =
-      chunk-held plugin (emptied s a) b t ample (no_more 14 (emptied s a) b) (ap (turn_of plugin) q)
+  chunk_dropped q =
+      chunk_held plugin (emptied s a) b t ample (no_more 14 (emptied s a) b) (ap (turn_of plugin) q)
       (ap (λ c. taken_all plugin s b a c.texts c.rest) (cut_whole t w) ∙ rw (ap (turn_at plugin) q) refl) (omega arith) (omega arith)
 
   -- the plugin's where no response is due
-  pub chunk-plugin : is_waiting client s.phase ≡ false → Alike (outcome s b (receive t)) (chunked plugin (emptied s a) b t ample)
-  chunk-plugin h = go s.phase refl h
+  pub chunk_plugin : is_waiting client s.phase ≡ false → Alike (outcome s b (receive t)) (chunked plugin (emptied s a) b t ample)
+  chunk_plugin h = go s.phase refl h
     where
       out : eqb (turn_one s.phase) 0 ≡ false → turn_of plugin s.phase ≡ turn_one s.phase → Alike (outcome s b (receive t)) (chunked plugin (emptied s a) b t ample)
       out f q =
           let e = received_out_of_turn s t b.first (turn_one s.phase) refl f in
-          out-of-turn-alike plugin (receive t) (turn_one s.phase) q f (sym (ap (λ r. taking_number r.answer) e)) (sym (ap (λ r. r.session) e))
+          out_of_turn_alike plugin (receive t) (turn_one s.phase) q f (sym (ap (λ r. taking_number r.answer) e)) (sym (ap (λ r. r.session) e))
 
       go : (p : Phase) → s.phase ≡ p → is_waiting client p ≡ false → Alike (outcome s b (receive t)) (chunked plugin (emptied s a) b t ample)
-      go One q h = subst (λ p. Alike (outcome s b (stanza_call plugin p t)) (chunked plugin (emptied s a) b t ample)) q (chunk-single plugin (ap (turn_at plugin) q))
+      go One q h = subst (λ p. Alike (outcome s b (stanza_call plugin p t)) (chunked plugin (emptied s a) b t ample)) q (chunk_single plugin (ap (turn_at plugin) q))
       go Two q h =
           let e = received_out_of_turn s t b.first (turn_one s.phase) refl (ap (λ p. eqb (turn_one p) 0) q) in
           let n : (outcome s b (receive t)).number ≡ 14 = sym (ap (λ r. taking_number r.answer) e) ∙ ap turn_one q in
           let r = refusal s b (receive t) (λ y. let x : ◌≡◌ {A = ℕ} 14 0 = sym n ∙ y in omega arith) in
-          subst (Alike (outcome s b (receive t))) (sym (chunk-dropped q))
+          subst (Alike (outcome s b (receive t))) (sym (chunk_dropped q))
           (record { number = sym n; intake = ap (λ s. emptied s a) (ap (λ r. r.session) e); buffers = sym r.buffers; written = sym (ap (λ n. take n (outcome s b (receive t)).output) r.size) })
       go (Awaiting w) q h = absurd (false≢true (sym h))
       go Ended q h = out (ap (λ p. eqb (turn_one p) 0) q) (ap (turn_of plugin) q ∙ sym (ap turn_one q))

@@ -32,7 +32,7 @@ use Rattle.conversation.proofs.Laws.WrittenRead.{front}
 use Rattle.chunks.specs.Taking.{End, client, plugin, reads, turn_at, ample, stanza_call}
 use Rattle.chunks.specs.Uncut.{is_closed, is_waiting}
 use Rattle.chunks.proofs.Laws.Cutting.{IsWhole}
-use Rattle.chunks.proofs.Laws.Numbers.{room_size, stanza-number}
+use Rattle.chunks.proofs.Laws.Numbers.{room_size, stanza_number}
 
 -- ---- an accepted stanza leaves the session open
 
@@ -139,15 +139,15 @@ closes_behind plugin Closed s t n h = rw h
 pub stepped : (s : Session) (b : Buffers) (t : List ℕ) → IsWhole t → (e : End) → turn_at e s.phase ≡ reads → Stepped s b (stanza_call e s.phase t)
 stepped s b t w e turn =
     let c = stanza_call e s.phase t in
-    let n = stanza-number (λ n. closes n ≡ true) closes-true s b t (λ m h. absurd (stanza_not_refused m (sym (whole_read t w).read ∙ h))) e turn in
+    let n = stanza_number (λ n. closes n ≡ true) closes_true s b t (λ m h. absurd (stanza_not_refused m (sym (whole_read t w).read ∙ h))) e turn in
     record {
       number = n;
       stands = λ h. record { going = stanza_open e s.phase s b t h; short = omega (arith, call_fits s b c, stanza_room e s.phase t, room_size) };
       closing = λ h. let r = refusal s b c h in record { session = r.session ∙ closes_behind e s.phase s t (outcome s b c).number n; buffers = r.buffers };
     }
   where
-    closes-true : (n : ℕ) → T (closes n) → closes n ≡ true
-    closes-true n = go (closes n)
+    closes_true : (n : ℕ) → T (closes n) → closes n ≡ true
+    closes_true n = go (closes n)
       where
         go : (f : Bool) → T f → f ≡ true
         go true h = refl

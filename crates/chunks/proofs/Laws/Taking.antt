@@ -138,12 +138,12 @@ closed_waits plugin = refl
 -- ---- a chunk that is read
 
 module _ (e : End) (i : Intake) (b : Buffers) (bytes out : List ℕ) where
-  pub chunked-read : turn_of e i.session.phase ≡ 0 → chunked e i b bytes out ≡ judged i b out (taken e i b bytes)
+  pub chunked_read : turn_of e i.session.phase ≡ 0 → chunked e i b bytes out ≡ judged i b out (taken e i b bytes)
   unfolding chunked
-  chunked-read h = rw h
+  chunked_read h = rw h
 
-  pub chunk-held : (r : Taken) → turn_of e i.session.phase ≡ 0 → taken e i b bytes ≡ r → length r.written ≤ length out → length r.intake.kept ≤ 8192 → outcome_of e i b (chunk bytes out) ≡ held out r
-  chunk-held r h q l k = chunked-read h ∙ ap (judged i b out) q ∙ judged_held i b out r l k
+  pub chunk_held : (r : Taken) → turn_of e i.session.phase ≡ 0 → taken e i b bytes ≡ r → length r.written ≤ length out → length r.intake.kept ≤ 8192 → outcome_of e i b (chunk bytes out) ≡ held out r
+  chunk_held r h q l k = chunked_read h ∙ ap (judged i b out) q ∙ judged_held i b out r l k
 
 pub room_fits : (x : List ℕ) → length x ≤ 8192 → length x ≤ length ample
 room_fits x h = subst (λ k. length x ≤ k) (sym room_size) h
@@ -169,40 +169,40 @@ module _ (e : End) (s : Session) (w : List ℕ) (b : Buffers) (t : List ℕ) (wh
   abbrev pub refused_one : Taken
   refused_one = no_more (outcome s b call).number (emptied (outcome s b call).session []) b
 
-  taken-alone : taken e (emptied s w) b t ≡ pick (eqb (outcome s b call).number 0) one_alone refused_one
+  taken_alone : taken e (emptied s w) b t ≡ pick (eqb (outcome s b call).number 0) one_alone refused_one
   unfolding taken_all joined
-  taken-alone =
+  taken_alone =
       ap (λ c. taken_all e s b w c.texts c.rest) whole.alone
       ∙ ap (λ u. taken_by u s b w (t ++ []) (pick (eqb (outcome s b call).number 0) (one_more (last_in (outcome s b call).given) (written_by s b call) (taken_rest (turn_at e (outcome s b call).session.phase) (outcome s b call).session (outcome s b call).buffers behind (unfinished start []))) refused_one)) turn
       ∙ ap (λ r. pick (eqb (outcome s b call).number 0) (one_more (last_in (outcome s b call).given) (written_by s b call) r) refused_one) (rest_none (turn_at e (outcome s b call).session.phase) (outcome s b call).session (outcome s b call).buffers behind)
 
   -- its call
-  alone-is : (r : Taken) → pick (eqb (outcome s b call).number 0) one_alone refused_one ≡ r → length r.written ≤ 8192 → r.intake.kept ≡ [] → outcome_of e (emptied s w) b (alone t) ≡ held ample r
-  alone-is r q l k =
-      chunked-read e (emptied s w) b t ample (turn_reads e s.phase turn) ∙ ap (judged (emptied s w) b ample) (taken-alone ∙ q)
+  alone_is : (r : Taken) → pick (eqb (outcome s b call).number 0) one_alone refused_one ≡ r → length r.written ≤ 8192 → r.intake.kept ≡ [] → outcome_of e (emptied s w) b (alone t) ≡ held ample r
+  alone_is r q l k =
+      chunked_read e (emptied s w) b t ample (turn_reads e s.phase turn) ∙ ap (judged (emptied s w) b ample) (taken_alone ∙ q)
       ∙ judged_held (emptied s w) b ample r (room_fits r.written l) (subst (λ x. length x ≤ 8192) (sym k) (omega arith))
 
-  one-short : (outcome s b call).number ≡ 0 → length one_alone.written ≤ 8192
-  one-short h = subst (λ x. length x ≤ 8192) (sym (append-nil (written_by s b call))) ((stepped s b t whole e turn).stands h).short
+  one_short : (outcome s b call).number ≡ 0 → length one_alone.written ≤ 8192
+  one_short h = subst (λ x. length x ≤ 8192) (sym (append-nil (written_by s b call))) ((stepped s b t whole e turn).stands h).short
 
-  pub alone-fits : (outcome s b call).number ≡ 0 → length one_alone.written ≤ length ample
-  alone-fits h = room_fits one_alone.written (one-short h)
+  pub alone_fits : (outcome s b call).number ≡ 0 → length one_alone.written ≤ length ample
+  alone_fits h = room_fits one_alone.written (one_short h)
 
-  pub alone-accepted : (outcome s b call).number ≡ 0 → outcome_of e (emptied s w) b (alone t) ≡ held ample one_alone
-  alone-accepted h = alone-is one_alone (ap (λ k. pick (eqb k 0) one_alone refused_one) h) (one-short h) refl
+  pub alone_accepted : (outcome s b call).number ≡ 0 → outcome_of e (emptied s w) b (alone t) ≡ held ample one_alone
+  alone_accepted h = alone_is one_alone (ap (λ k. pick (eqb k 0) one_alone refused_one) h) (one_short h) refl
 
-  pub run-accepted : (outcome s b call).number ≡ 0 → Runs e (emptied s w) b (alone t ∷ []) 0 (emptied (outcome s b call).session behind) (outcome s b call).buffers (written_by s b call)
-  run-accepted h =
+  pub run_accepted : (outcome s b call).number ≡ 0 → Runs e (emptied s w) b (alone t ∷ []) 0 (emptied (outcome s b call).session behind) (outcome s b call).buffers (written_by s b call)
+  run_accepted h =
       subst (Runs e (emptied s w) b (alone t ∷ []) 0 (emptied (outcome s b call).session behind) (outcome s b call).buffers) (append-nil (written_by s b call))
-      (run_held e (emptied s w) b (alone t) ample one_alone (alone-accepted h) (alone-fits h) (λ z. omega arith) (λ z. omega arith))
+      (run_held e (emptied s w) b (alone t) ample one_alone (alone_accepted h) (alone_fits h) (λ z. omega arith) (λ z. omega arith))
 
-  pub alone-refused : ((outcome s b call).number ≡ 0 → ⊥) → outcome_of e (emptied s w) b (alone t) ≡ held ample refused_one
-  alone-refused h = alone-is refused_one (ap (λ f. pick f one_alone refused_one) (ne_eqb (outcome s b call).number 0 h)) (omega arith) refl
+  pub alone_refused : ((outcome s b call).number ≡ 0 → ⊥) → outcome_of e (emptied s w) b (alone t) ≡ held ample refused_one
+  alone_refused h = alone_is refused_one (ap (λ f. pick f one_alone refused_one) (ne_eqb (outcome s b call).number 0 h)) (omega arith) refl
 
-  pub run-refused : ((outcome s b call).number ≡ 0 → ⊥) → Runs e (emptied s w) b (alone t ∷ []) (outcome s b call).number (emptied (outcome s b call).session []) b []
-  run-refused h =
+  pub run_refused : ((outcome s b call).number ≡ 0 → ⊥) → Runs e (emptied s w) b (alone t ∷ []) (outcome s b call).number (emptied (outcome s b call).session []) b []
+  run_refused h =
       let n = (stepped s b t whole e turn).number in
-      run_held e (emptied s w) b (alone t) ample refused_one (alone-refused h) (room_fits [] (omega arith))
+      run_held e (emptied s w) b (alone t) ample refused_one (alone_refused h) (room_fits [] (omega arith))
       (closes_not (outcome s b call).number 14 refl n) (closes_not (outcome s b call).number 15 refl n)
 
 -- ---- where the two stand
@@ -271,22 +271,22 @@ module _ (e : End) (s : Session) (w : List ℕ) (b : Buffers) where
   received_none : (n : ℕ) (i : Intake) (left : List ℕ) → At e n s w i left → Level i left 0 n → Received e s w b (no_more n i b) (unread left)
   received_none n i left a l = record { session = s; awaited = w; runs = run_none e (emptied s w) b n; at = a; fault = 0; accepts = tally_none e (emptied s w) b; level = l }
 
-  received-dropped : (n : ℕ) (left : List ℕ) → turn_at e s.phase ≡ drops n → (n ≡ 14 → ⊥) → (left ≡ [] → ⊥) → Received e s w b (no_more n (emptied s w) b) (unread left)
-  received-dropped n left h f some =
+  received_dropped : (n : ℕ) (left : List ℕ) → turn_at e s.phase ≡ drops n → (n ≡ 14 → ⊥) → (left ≡ [] → ⊥) → Received e s w b (no_more n (emptied s w) b) (unread left)
+  received_dropped n left h f some =
       ⊎_elim (λ (z : n ≡ 13). received_none n (emptied s w) left (over left (h ∙ ap drops z)) (late (λ k. omega arith) ((turn_says e s.phase).ended (h ∙ ap drops z)).0 some)) (λ z. absurd (f z)) (turn_drops e s.phase n h)
 
   -- in its turn, or waiting, the session has not ended
-  going-level : (i : Intake) (left : List ℕ) → i.session ≡ s → (turn_at e s.phase ≡ drops 13 → ⊥) → Level i left 0 0
-  going-level i left q h =
+  going_level : (i : Intake) (left : List ℕ) → i.session ≡ s → (turn_at e s.phase ≡ drops 13 → ⊥) → Level i left 0 0
+  going_level i left q h =
       let k = (turn_says e s.phase).going h in
       even refl refl (ap (λ (s : Session). is_closed s.phase) q ∙ k.1) (λ z. absurd (going_not_ended s.phase k.0 (sym (ap (λ (s : Session). is_ended s.phase) q) ∙ z)))
 
   -- what stands behind the stanzas
-  received-rest : is_closed s.phase ≡ false → (r : Rest) → IsRest r → (u : Turn) → turn_at e s.phase ≡ u → ((taken_rest u s b w r).number ≡ 14 → ⊥) → Received e s w b (taken_rest u s b w r) (unread (bytes_of r))
-  received-rest going (unfinished q f) k reads h g = received_none 0 (keeping s q f w) f (in_turn q f h k) (going-level (keeping s q f w) f refl (λ z. drops_not_reads 13 (sym z ∙ h)))
-  received-rest going (impossible n x) k reads h g =
+  received_rest : is_closed s.phase ≡ false → (r : Rest) → IsRest r → (u : Turn) → turn_at e s.phase ≡ u → ((taken_rest u s b w r).number ≡ 14 → ⊥) → Received e s w b (taken_rest u s b w r) (unread (bytes_of r))
+  received_rest going (unfinished q f) k reads h g = received_none 0 (keeping s q f w) f (in_turn q f h k) (going_level (keeping s q f w) f refl (λ z. drops_not_reads 13 (sym z ∙ h)))
+  received_rest going (impossible n x) k reads h g =
       received_none n (emptied (closed s) []) x (stopped x h k.0 k.1) (late (λ z. ⊎_elim (λ (m : n ≡ 1). omega arith) (λ (m : n ≡ 3). omega arith) k.1) refl (impossible_some n x k.0))
-  received-rest going r k (drops n) h g = left (eqb (length (bytes_of r)) 0) refl g
+  received_rest going r k (drops n) h g = left (eqb (length (bytes_of r)) 0) refl g
     where
       left : (d : Bool) → eqb (length (bytes_of r)) 0 ≡ d → ((pick d (no_more 0 (emptied s w) b) (no_more n (emptied s w) b)).number ≡ 14 → ⊥) →
           Received e s w b (pick d (no_more 0 (emptied s w) b) (no_more n (emptied s w) b)) (unread (bytes_of r))
@@ -294,37 +294,37 @@ module _ (e : End) (s : Session) (w : List ℕ) (b : Buffers) where
           let l : Level (emptied s w) (bytes_of r) 0 0 = even refl refl going (λ z. no_bytes (bytes_of r) d) in
           ⊎_elim (λ (z : n ≡ 13). received_none 0 (emptied s w) (bytes_of r) (over (bytes_of r) (h ∙ ap drops z)) l)
           (λ (z : n ≡ 14). received_none 0 (emptied s w) (bytes_of r) (subst (At e 0 s w (emptied s w)) (sym (no_bytes (bytes_of r) d)) (quiet (h ∙ ap drops z))) l) (turn_drops e s.phase n h)
-      left false d g = received-dropped n (bytes_of r) h g (λ z. eqb-false (length (bytes_of r)) 0 d (ap length z))
-  received-rest going r k keeps_back h g =
-      received_none 0 (keeping s start (bytes_of r) w) (bytes_of r) (waiting (bytes_of r) h) (going-level (keeping s start (bytes_of r) w) (bytes_of r) refl (λ z. keeps_not_drops 13 (sym h ∙ z)))
+      left false d g = received_dropped n (bytes_of r) h g (λ z. eqb-false (length (bytes_of r)) 0 d (ap length z))
+  received_rest going r k keeps_back h g =
+      received_none 0 (keeping s start (bytes_of r) w) (bytes_of r) (waiting (bytes_of r) h) (going_level (keeping s start (bytes_of r) w) (bytes_of r) refl (λ z. keeps_not_drops 13 (sym h ∙ z)))
 
 -- one stanza more ahead
 module _ (e : End) (s : Session) (w : List ℕ) (b : Buffers) (t : List ℕ) (whole : IsWhole t) (turn : turn_at e s.phase ≡ reads) where
-  abbrev o-session : Session
-  o-session = (outcome s b (stanza_call e s.phase t)).session
+  abbrev o_session : Session
+  o_session = (outcome s b (stanza_call e s.phase t)).session
 
   received_more_lem : (outcome s b (stanza_call e s.phase t)).number ≡ 0 → (r : Taken) (p : Parted) →
-      Received e o-session (awaited_behind e o-session.phase t) (outcome s b (stanza_call e s.phase t)).buffers r p →
+      Received e o_session (awaited_behind e o_session.phase t) (outcome s b (stanza_call e s.phase t)).buffers r p →
       Received e s w b (one_more (last_in (outcome s b (stanza_call e s.phase t)).given) (written_by s b (stanza_call e s.phase t)) r) (received_more t p)
   received_more_lem h r p k = record {
     session = k.session;
     awaited = k.awaited;
-    runs = run_join e (run-accepted e s w b t whole turn h) (λ k. ((stepped s b t whole e turn).stands h).going) k.runs;
+    runs = run_join e (run_accepted e s w b t whole turn h) (λ k. ((stepped s b t whole e turn).stands h).going) k.runs;
     at = k.at;
     fault = k.fault;
-    accepts = tally_join e (tally_one e (emptied s w) b (alone t) (held ample (one_alone e s w b t whole turn)) (alone-accepted e s w b t whole turn h)) k.accepts;
+    accepts = tally_join e (tally_one e (emptied s w) b (alone t) (held ample (one_alone e s w b t whole turn)) (alone_accepted e s w b t whole turn h)) k.accepts;
     level = k.level;
   }
 
-  received-refused : ((outcome s b (stanza_call e s.phase t)).number ≡ 0 → ⊥) → (left : List ℕ) →
-      Received e s w b (no_more (outcome s b (stanza_call e s.phase t)).number (emptied o-session []) b) (record { received = t ∷ []; left = left })
-  received-refused h left = record {
-    session = o-session;
+  received_refused : ((outcome s b (stanza_call e s.phase t)).number ≡ 0 → ⊥) → (left : List ℕ) →
+      Received e s w b (no_more (outcome s b (stanza_call e s.phase t)).number (emptied o_session []) b) (record { received = t ∷ []; left = left })
+  received_refused h left = record {
+    session = o_session;
     awaited = [];
-    runs = run-refused e s w b t whole turn h;
+    runs = run_refused e s w b t whole turn h;
     at = over left (ap (λ x. turn_at e x.phase) ((stepped s b t whole e turn).closing h).session ∙ closed_turn e);
     fault = (outcome s b (stanza_call e s.phase t)).number;
-    accepts = tally_one e (emptied s w) b (alone t) (held ample (refused_one e s w b t whole turn)) (alone-refused e s w b t whole turn h);
+    accepts = tally_one e (emptied s w) b (alone t) (held ample (refused_one e s w b t whole turn)) (alone_refused e s w b t whole turn h);
     level = both_refused h h;
   }
 
@@ -332,7 +332,7 @@ module _ (e : End) (s : Session) (w : List ℕ) (b : Buffers) (t : List ℕ) (wh
 pub received_all : (ts : List (List ℕ)) (e : End) (s : Session) (w : List ℕ) (b : Buffers) (r : Rest) → is_closed s.phase ≡ false → All IsWhole ts → IsRest r → ((taken_all e s b w ts r).number ≡ 14 → ⊥) →
     Received e s w b (taken_all e s b w ts r) (parted e s b ts r)
 unfolding taken_all parted All
-received_all [] e s w b r going k l g = received-rest e s w b going r l (turn_at e s.phase) refl g
+received_all [] e s w b r going k l g = received_rest e s w b going r l (turn_at e s.phase) refl g
 received_all (t ∷ ts) e s w b r going k l g =
     let o = outcome s b (stanza_call e s.phase t) in
     go (λ v. received_all ts e o.session (awaited_behind e o.session.phase t) o.buffers r v k.1 l) (turn_at e s.phase) refl g
@@ -357,10 +357,10 @@ received_all (t ∷ ts) e s w b r going k l g =
 
     read : Behind → (d : Bool) → eqb o.number 0 ≡ d → turn_at e s.phase ≡ reads → ((several d).number ≡ 14 → ⊥) → Received e s w b (several d) (parts d)
     read f true d h g = received_more_lem e s w b t k.0 h (eqb-true o.number 0 d) more (parted e o.session o.buffers ts r) (f ((stepped s b t k.0 e h).stands (eqb-true o.number 0 d)).going g)
-    read f false d h g = received-refused e s w b t k.0 h (eqb-false o.number 0 d) (joined ts (bytes_of r))
+    read f false d h g = received_refused e s w b t k.0 h (eqb-false o.number 0 d) (joined ts (bytes_of r))
 
     go : Behind → (u : Turn) → turn_at e s.phase ≡ u → ((taken_by u s b w bytes (several (eqb o.number 0))).number ≡ 14 → ⊥) →
         Received e s w b (taken_by u s b w bytes (several (eqb o.number 0))) (parted_by u bytes (parts (eqb o.number 0)))
     go f reads h g = read f (eqb o.number 0) refl h g
-    go f (drops n) h g = received-dropped e s w b n bytes h g (whole_some t (joined ts (bytes_of r)) k.0)
-    go f keeps_back h g = received_none e s w b 0 (keeping s start bytes w) bytes (waiting bytes h) (going-level e s w b (keeping s start bytes w) bytes refl (λ z. keeps_not_drops 13 (sym h ∙ z)))
+    go f (drops n) h g = received_dropped e s w b n bytes h g (whole_some t (joined ts (bytes_of r)) k.0)
+    go f keeps_back h g = received_none e s w b 0 (keeping s start bytes w) bytes (waiting bytes h) (going_level e s w b (keeping s start bytes w) bytes refl (λ z. keeps_not_drops 13 (sym h ∙ z)))

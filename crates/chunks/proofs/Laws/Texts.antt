@@ -54,67 +54,67 @@ module _ (x : List ℕ) (l m k : ℕ) (h : read_first x ≡ stanza l m k) where
   body = body_of (drop (l + 1) (take k x))
 
   -- a text whose first k bytes are these is read so
-  read-so : (t : List ℕ) → exact.Taken t k → take k t ≡ take k x → read_first t ≡ stanza (length line + 3) (length body) k
-  read-so t w e =
+  read_so : (t : List ℕ) → exact.Taken t k → take k t ≡ take k x → read_first t ≡ stanza (length line + 3) (length body) k
+  read_so t w e =
       let a = written_read x l m k h in
       read_text t line body k w (e ∙ sym a.text) (and_true (is_line line) (leb (length (stanza_text line body)) 8192) a.writable).0 a.bytes
 
   first : read_first x ≡ stanza (length line + 3) (length body) k
-  first = read-so x ((taken_iff x k).0 (l, m, h)) refl
+  first = read_so x ((taken_iff x k).0 (l, m, h)) refl
 
-  pub stanza-alone : read_first (take k x) ≡ stanza l m k
-  stanza-alone =
+  pub stanza_alone : read_first (take k x) ≡ stanza l m k
+  stanza_alone =
       let w = (taken_iff x k).0 (l, m, h) in
       let e : take k (take k x) ≡ take k x = take-take k k x (omega arith) in
-      read-so (take k x) (record { within = omega (arith, length-take-le k x w.within); limit = w.limit; whole = subst IsStanza (sym e) w.whole }) e
+      read_so (take k x) (record { within = omega (arith, length-take-le k x w.within); limit = w.limit; whole = subst IsStanza (sym e) w.whole }) e
       ∙ sym first ∙ h
 
   -- its arguments' text is the same, and its body
-  line-alone : drop 3 (take l (take k x)) ≡ line
-  line-alone =
+  line_alone : drop 3 (take l (take k x)) ≡ line
+  line_alone =
       let w = (taken_iff x k).0 (l, m, h) in
       let z : stanza l m k ≡ stanza (length line + 3) (length body) k = sym h ∙ first in
       let n : l ≡ length line + 3 = cc in
       ap (drop 3) (take-take l k x (omega (arith, ap length (written_read x l m k h).text, text_length line body, length-take-le k x w.within)))
 
-  body-alone : body_of (drop (l + 1) (take k (take k x))) ≡ body
-  body-alone = ap (λ t. body_of (drop (l + 1) t)) (take-take k k x (omega arith))
+  body_alone : body_of (drop (l + 1) (take k (take k x))) ≡ body
+  body_alone = ap (λ t. body_of (drop (l + 1) t)) (take-take k k x (omega arith))
 
   -- so the call that takes it does the same
   module _ (s : Session) (b : Buffers) where
-    received-alone : outcome s b (receive (take k x)) ≡ outcome s b (receive x)
+    received_alone : outcome s b (receive (take k x)) ≡ outcome s b (receive x)
     unfolding receiving.received
-    received-alone =
+    received_alone =
         ap (λ r. received_outcome b.second (pick (eqb (turn_one s.phase) 0) r (receiving.refused_receipt (turn_one s.phase) s b.first)))
-        (ap (λ r. receiving.received_as r s (take k x) b.first) stanza-alone ∙ ap₂ (λ y z. receiving.received_stanza s b.first y z k) line-alone body-alone
+        (ap (λ r. receiving.received_as r s (take k x) b.first) stanza_alone ∙ ap₂ (λ y z. receiving.received_stanza s b.first y z k) line_alone body_alone
         ∙ sym (ap (λ r. receiving.received_as r s x b.first) h))
 
     module _ (out : List ℕ) where
-      received-two-alone : outcome s b (receive_two (take k x) out) ≡ outcome s b (receive_two x out)
+      received_two_alone : outcome s b (receive_two (take k x) out) ≡ outcome s b (receive_two x out)
       unfolding receiving_two.received
-      received-two-alone =
+      received_two_alone =
           ap (λ r. received_two_outcome b.first (pick (eqb (turn_two s.phase) 0) r (receiving_two.refused_receipt (turn_two s.phase) s b.second out)))
-          (ap (λ r. receiving_two.received_as r s (take k x) b.second out) stanza-alone
-          ∙ ap₂ (λ y z. receiving_two.received_stanza s b.second out y z k) line-alone body-alone
+          (ap (λ r. receiving_two.received_as r s (take k x) b.second out) stanza_alone
+          ∙ ap₂ (λ y z. receiving_two.received_stanza s b.second out y z k) line_alone body_alone
           ∙ sym (ap (λ r. receiving_two.received_as r s x b.second out) h))
 
-      responded-alone : outcome s b (respond (take k x) out) ≡ outcome s b (respond x out)
-      responded-alone = ap (responded_outcome b) (go (due_in s.phase))
+      responded_alone : outcome s b (respond (take k x) out) ≡ outcome s b (respond x out)
+      responded_alone = ap (responded_outcome b) (go (due_in s.phase))
         where
           go : (d : Due) → responding.responded_by d s (take k x) out ≡ responding.responded_by d s x out
           go (due w) =
-              ap (λ r. responding.responded_text r w s (take k x) out) stanza-alone
-              ∙ ap₂ (λ y z. responding.responded_as w s (response_of y) z k out) line-alone body-alone
+              ap (λ r. responding.responded_text r w s (take k x) out) stanza_alone
+              ∙ ap₂ (λ y z. responding.responded_as w s (response_of y) z k out) line_alone body_alone
               ∙ sym (ap (λ r. responding.responded_text r w s x out) h)
           go (undue n) = refl
 
-    pub call-alone : (e : End) (p : Phase) → outcome s b (stanza_call e p (take k x)) ≡ outcome s b (stanza_call e p x)
-    call-alone client p = received-two-alone ample
-    call-alone plugin One = received-alone
-    call-alone plugin Two = responded-alone ample
-    call-alone plugin (Awaiting w) = responded-alone ample
-    call-alone plugin Ended = responded-alone ample
-    call-alone plugin Closed = responded-alone ample
+    pub call_alone : (e : End) (p : Phase) → outcome s b (stanza_call e p (take k x)) ≡ outcome s b (stanza_call e p x)
+    call_alone client p = received_two_alone ample
+    call_alone plugin One = received_alone
+    call_alone plugin Two = responded_alone ample
+    call_alone plugin (Awaiting w) = responded_alone ample
+    call_alone plugin Ended = responded_alone ample
+    call_alone plugin Closed = responded_alone ample
 
 -- ---- what a text comes to, by whose turn it is
 
@@ -139,80 +139,80 @@ module _ (e : End) (s : Session) (b : Buffers) (a : List ℕ) where
       (no_more o.number (emptied o.session []) b)
 
   -- .. by the turn
-  stanza-by : (u : Turn) → turn_at e s.phase ≡ u → (t : List ℕ) (ts : List (List ℕ)) (r : Rest) →
+  stanza_by : (u : Turn) → turn_at e s.phase ≡ u → (t : List ℕ) (ts : List (List ℕ)) (r : Rest) →
       taken_all e s b a (t ∷ ts) r ≡ taken_by u s b a (t ++ joined ts (bytes_of r)) (ahead_read t ts r)
   unfolding taken_all
-  stanza-by u turn t ts r = ap (λ u. taken_by u s b a (t ++ joined ts (bytes_of r)) (ahead_read t ts r)) turn
+  stanza_by u turn t ts r = ap (λ u. taken_by u s b a (t ++ joined ts (bytes_of r)) (ahead_read t ts r)) turn
 
-  rest-by : (u : Turn) → turn_at e s.phase ≡ u → (r : Rest) → taken_all e s b a [] r ≡ taken_rest u s b a r
+  rest_by : (u : Turn) → turn_at e s.phase ≡ u → (r : Rest) → taken_all e s b a [] r ≡ taken_rest u s b a r
   unfolding taken_all
-  rest-by u turn r = ap (λ u. taken_rest u s b a r) turn
+  rest_by u turn r = ap (λ u. taken_rest u s b a r) turn
 
   -- bytes that are dropped: the number, where there are any
   abbrev pub dropped : ℕ → List ℕ → Taken
   dropped n x = pick (eqb (length x) 0) (no_more 0 (emptied s a) b) (no_more n (emptied s a) b)
 
-  pub dropped-some : (n : ℕ) (front : List ℕ) (c : ℕ) (t : List ℕ) → dropped n (front ++ c ∷ t) ≡ no_more n (emptied s a) b
-  dropped-some n front c t =
+  pub dropped_some : (n : ℕ) (front : List ℕ) (c : ℕ) (t : List ℕ) → dropped n (front ++ c ∷ t) ≡ no_more n (emptied s a) b
+  dropped_some n front c t =
       ap (λ f. pick f (no_more 0 (emptied s a) b) (no_more n (emptied s a) b))
       (ne_eqb (length (front ++ c ∷ t)) 0 (λ z. omega (arith, length-append front (c ∷ t))))
 
   module _ (n : ℕ) (turn : turn_at e s.phase ≡ drops n) where
-    pub front-dropped : (x : List ℕ) (q : State) (front : List ℕ) → taken_cut (cut q front x) ≡ dropped n (front ++ x)
+    pub front_dropped : (x : List ℕ) (q : State) (front : List ℕ) → taken_cut (cut q front x) ≡ dropped n (front ++ x)
     unfolding cut
-    front-dropped [] q front = rest-by (drops n) turn (unfinished q front) ∙ ap (dropped n) (sym (append-nil front))
-    front-dropped (c ∷ t) q front = go (front-dropped t) (step q front c)
+    front_dropped [] q front = rest_by (drops n) turn (unfinished q front) ∙ ap (dropped n) (sym (append-nil front))
+    front_dropped (c ∷ t) q front = go (front_dropped t) (step q front c)
       where
         go : ((q : State) (front : List ℕ) → taken_cut (cut q front t) ≡ dropped n (front ++ t)) → Step q front c →
             taken_cut (cut q front (c ∷ t)) ≡ dropped n (front ++ c ∷ t)
         go i (ends z w) =
-            ap taken_cut (w t) ∙ stanza-by (drops n) turn (front ++ (c ∷ [])) (cut start [] t).texts (cut start [] t).rest ∙ sym (dropped-some n front c t)
-        go i (fails z w) = ap taken_cut (w t) ∙ rest-by (drops n) turn (impossible 1 (front ++ c ∷ t))
+            ap taken_cut (w t) ∙ stanza_by (drops n) turn (front ++ (c ∷ [])) (cut start [] t).texts (cut start [] t).rest ∙ sym (dropped_some n front c t)
+        go i (fails z w) = ap taken_cut (w t) ∙ rest_by (drops n) turn (impossible 1 (front ++ c ∷ t))
         go i (goes_on y z m w) = ap taken_cut (w t) ∙ i (next q c) (front ++ (c ∷ [])) ∙ ap (dropped n) (append_assoc front (c ∷ []) t)
-        go i (overruns y z m w) = ap taken_cut (w t) ∙ rest-by (drops n) turn (impossible 3 (front ++ c ∷ t))
+        go i (overruns y z m w) = ap taken_cut (w t) ∙ rest_by (drops n) turn (impossible 3 (front ++ c ∷ t))
 
     pub text_dropped : (x : List ℕ) → taken_text e s b a x ≡ dropped n x
-    text_dropped x = front-dropped x start []
+    text_dropped x = front_dropped x start []
 
   module _ (turn : turn_at e s.phase ≡ keeps_back) where
-    all-kept-back : (ts : List (List ℕ)) (r : Rest) → taken_all e s b a ts r ≡ no_more 0 (keeping s start (joined ts (bytes_of r)) a) b
+    all_kept_back : (ts : List (List ℕ)) (r : Rest) → taken_all e s b a ts r ≡ no_more 0 (keeping s start (joined ts (bytes_of r)) a) b
     unfolding joined
-    all-kept-back [] r = rest-by keeps_back turn r
-    all-kept-back (t ∷ ts) r = stanza-by keeps_back turn t ts r
+    all_kept_back [] r = rest_by keeps_back turn r
+    all_kept_back (t ∷ ts) r = stanza_by keeps_back turn t ts r
 
-    pub front-kept-back : (q : State) (front x : List ℕ) → taken_cut (cut q front x) ≡ no_more 0 (keeping s start (front ++ x) a) b
-    front-kept-back q front x = all-kept-back (cut q front x).texts (cut q front x).rest ∙ ap (λ y. no_more 0 (keeping s start y a) b) (cut_joined x q front)
+    pub front_kept_back : (q : State) (front x : List ℕ) → taken_cut (cut q front x) ≡ no_more 0 (keeping s start (front ++ x) a) b
+    front_kept_back q front x = all_kept_back (cut q front x).texts (cut q front x).rest ∙ ap (λ y. no_more 0 (keeping s start y a) b) (cut_joined x q front)
 
-    pub text-kept-back : (x : List ℕ) → taken_text e s b a x ≡ no_more 0 (keeping s start x a) b
-    text-kept-back x = front-kept-back start [] x
+    pub text_kept_back : (x : List ℕ) → taken_text e s b a x ≡ no_more 0 (keeping s start x a) b
+    text_kept_back x = front_kept_back start [] x
 
   module _ (turn : turn_at e s.phase ≡ reads) where
     -- the bytes are over before their stanza is
-    pub front-left : (q v : State) (front x : List ℕ) → continued q (length front) x ≡ resuming.unfinished v →
+    pub front_left : (q v : State) (front x : List ℕ) → continued q (length front) x ≡ resuming.unfinished v →
         taken_cut (cut q front x) ≡ no_more 0 (keeping s v (front ++ x) a) b
-    front-left q v front x h = ap taken_cut (front_unfinished q v front x h) ∙ rest-by reads turn (unfinished v (front ++ x))
+    front_left q v front x h = ap taken_cut (front_unfinished q v front x h) ∙ rest_by reads turn (unfinished v (front ++ x))
 
-    pub text-left : (x : List ℕ) → read_first x ≡ refused 2 → taken_text e s b a x ≡ no_more 0 (keeping s (after start x) x a) b
-    text-left x h = front-left start (after start x) [] x ((unfinished_iff x).1 h)
+    pub text_left : (x : List ℕ) → read_first x ≡ refused 2 → taken_text e s b a x ≡ no_more 0 (keeping s (after start x) x a) b
+    text_left x h = front_left start (after start x) [] x ((unfinished_iff x).1 h)
 
     -- no stanza goes on so, or it is too long
-    pub front-fault : (q : State) (front x : List ℕ) (m : ℕ) → length front < 8192 → continued q (length front) x ≡ resuming.refused m →
+    pub front_fault : (q : State) (front x : List ℕ) (m : ℕ) → length front < 8192 → continued q (length front) x ≡ resuming.refused m →
         taken_cut (cut q front x) ≡ no_more m (emptied (closed s) []) b
-    front-fault q front x m l h = ap taken_cut (front_refused q front x m l h) ∙ rest-by reads turn (impossible m (front ++ x))
+    front_fault q front x m l h = ap taken_cut (front_refused q front x m l h) ∙ rest_by reads turn (impossible m (front ++ x))
 
-    pub text-fault : (x : List ℕ) (m : ℕ) → (m ≡ 2 → ⊥) → read_first x ≡ refused m → taken_text e s b a x ≡ no_more m (emptied (closed s) []) b
-    text-fault x m l h = front-fault start [] x m (omega arith) ((refused_iff x m l).1 h)
+    pub text_fault : (x : List ℕ) (m : ℕ) → (m ≡ 2 → ⊥) → read_first x ≡ refused m → taken_text e s b a x ≡ no_more m (emptied (closed s) []) b
+    text_fault x m l h = front_fault start [] x m (omega arith) ((refused_iff x m l).1 h)
 
     -- a whole stanza
-    pub front-stanza : (q : State) (front x : List ℕ) (k : ℕ) → continued q (length front) x ≡ whole k →
+    pub front_stanza : (q : State) (front x : List ℕ) (k : ℕ) → continued q (length front) x ≡ whole k →
         taken_cut (cut q front x) ≡ stanza_taken e b (outcome s b (stanza_call e s.phase (front ++ take k x))) (front ++ take k x) (drop k x)
-    front-stanza q front x k h =
-        ap taken_cut (front_whole q front x k h) ∙ stanza-by reads turn (front ++ take k x) (cut start [] (drop k x)).texts (cut start [] (drop k x)).rest
+    front_stanza q front x k h =
+        ap taken_cut (front_whole q front x k h) ∙ stanza_by reads turn (front ++ take k x) (cut start [] (drop k x)).texts (cut start [] (drop k x)).rest
 
-    pub text-stanza : (x : List ℕ) (l m k : ℕ) → read_first x ≡ stanza l m k →
+    pub text_stanza : (x : List ℕ) (l m k : ℕ) → read_first x ≡ stanza l m k →
         taken_text e s b a x ≡ stanza_taken e b (outcome s b (stanza_call e s.phase x)) (take k x) (drop k x)
-    text-stanza x l m k h =
-        front-stanza start [] x k ((whole_iff x k).1 (l, m, h)) ∙ ap (λ o. stanza_taken e b o (take k x) (drop k x)) (call-alone x l m k h s b e s.phase)
+    text_stanza x l m k h =
+        front_stanza start [] x k ((whole_iff x k).1 (l, m, h)) ∙ ap (λ o. stanza_taken e b o (take k x) (drop k x)) (call_alone x l m k h s b e s.phase)
 
 -- ---- behind some stanzas
 

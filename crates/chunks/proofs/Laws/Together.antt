@@ -28,43 +28,43 @@ use Rattle.chunks.proofs.Laws.Stanzas.{stepped}
 use Rattle.chunks.proofs.Laws.Cases.{drops_not_reads, held}
 use Rattle.chunks.proofs.Laws.Runs.{judged_not_15}
 use Rattle.chunks.proofs.Laws.Finish.{turn_not_waiting}
-use Rattle.chunks.proofs.Laws.Texts.{front-dropped}
-use Rattle.chunks.proofs.Laws.Taking.{turn_reads, turn_waits, closed_turn, chunked-read}
-use Rattle.chunks.proofs.Laws.Cut.{chunk-refused}
+use Rattle.chunks.proofs.Laws.Texts.{front_dropped}
+use Rattle.chunks.proofs.Laws.Taking.{turn_reads, turn_waits, closed_turn, chunked_read}
+use Rattle.chunks.proofs.Laws.Cut.{chunk_refused}
 
 -- ---- one stanza ahead of others
 
 module _ (e : End) (s : Session) (w : List ℕ) (b : Buffers) (t : List ℕ) (ts : List (List ℕ)) (r : Rest) where
-  abbrev o-number : ℕ
-  o-number = (outcome s b (stanza_call e s.phase t)).number
+  abbrev o_number : ℕ
+  o_number = (outcome s b (stanza_call e s.phase t)).number
 
-  abbrev o-session : Session
-  o-session = (outcome s b (stanza_call e s.phase t)).session
+  abbrev o_session : Session
+  o_session = (outcome s b (stanza_call e s.phase t)).session
 
   abbrev more : Taken
-  more = taken_all e o-session (outcome s b (stanza_call e s.phase t)).buffers (awaited_behind e o-session.phase t) ts r
+  more = taken_all e o_session (outcome s b (stanza_call e s.phase t)).buffers (awaited_behind e o_session.phase t) ts r
 
   abbrev ahead : Taken
   ahead = one_more (last_in (outcome s b (stanza_call e s.phase t)).given) (written_by s b (stanza_call e s.phase t)) more
 
   abbrev either : Bool → Taken
-  either d = pick d ahead (no_more o-number (emptied o-session []) b)
+  either d = pick d ahead (no_more o_number (emptied o_session []) b)
 
-  by_turn : (u : Turn) → turn_at e s.phase ≡ u → taken_all e s b w (t ∷ ts) r ≡ taken_by u s b w (t ++ joined ts (bytes_of r)) (either (eqb o-number 0))
+  by_turn : (u : Turn) → turn_at e s.phase ≡ u → taken_all e s b w (t ∷ ts) r ≡ taken_by u s b w (t ++ joined ts (bytes_of r)) (either (eqb o_number 0))
   unfolding taken_all
-  by_turn u h = ap (λ u. taken_by u s b w (t ++ joined ts (bytes_of r)) (either (eqb o-number 0))) h
+  by_turn u h = ap (λ u. taken_by u s b w (t ++ joined ts (bytes_of r)) (either (eqb o_number 0))) h
 
-  pub taken_more : turn_at e s.phase ≡ reads → o-number ≡ 0 → taken_all e s b w (t ∷ ts) r ≡ ahead
-  taken_more h z = by_turn reads h ∙ ap (λ n. pick (eqb n 0) ahead (no_more o-number (emptied o-session []) b)) z
+  pub taken_more : turn_at e s.phase ≡ reads → o_number ≡ 0 → taken_all e s b w (t ∷ ts) r ≡ ahead
+  taken_more h z = by_turn reads h ∙ ap (λ n. pick (eqb n 0) ahead (no_more o_number (emptied o_session []) b)) z
 
-  pub taken_refused : turn_at e s.phase ≡ reads → (o-number ≡ 0 → ⊥) → taken_all e s b w (t ∷ ts) r ≡ no_more o-number (emptied o-session []) b
-  taken_refused h z = by_turn reads h ∙ ap either (ne_eqb o-number 0 z)
+  pub taken_refused : turn_at e s.phase ≡ reads → (o_number ≡ 0 → ⊥) → taken_all e s b w (t ∷ ts) r ≡ no_more o_number (emptied o_session []) b
+  taken_refused h z = by_turn reads h ∙ ap either (ne_eqb o_number 0 z)
 
-  pub taken-dropped : (n : ℕ) → turn_at e s.phase ≡ drops n → taken_all e s b w (t ∷ ts) r ≡ no_more n (emptied s w) b
-  taken-dropped n h = by_turn (drops n) h
+  pub taken_dropped : (n : ℕ) → turn_at e s.phase ≡ drops n → taken_all e s b w (t ∷ ts) r ≡ no_more n (emptied s w) b
+  taken_dropped n h = by_turn (drops n) h
 
-  pub taken-kept : turn_at e s.phase ≡ keeps_back → taken_all e s b w (t ∷ ts) r ≡ no_more 0 (keeping s start (t ++ joined ts (bytes_of r)) w) b
-  taken-kept h = by_turn keeps_back h
+  pub taken_kept : turn_at e s.phase ≡ keeps_back → taken_all e s b w (t ∷ ts) r ≡ no_more 0 (keeping s start (t ++ joined ts (bytes_of r)) w) b
+  taken_kept h = by_turn keeps_back h
 
 -- ---- the course of a text's stanzas, whatever stands behind them
 
@@ -86,15 +86,15 @@ ahead_is : (v : List ℕ) (r x : Taken) → x ≡ r → v ≡ [] → Ahead v r x
 ahead_is v r x q z = record { number = ap (λ x. x.number) q; intake = ap (λ x. x.intake) q; buffers = ap (λ x. x.buffers) q; written = ap (λ x. x.written) q ∙ ap (λ v. v ++ r.written) (sym z) }
 
 module _ (e : End) (s : Session) (w : List ℕ) (b : Buffers) (t : List ℕ) (whole : IsWhole t) where
-  course-more : (ts : List (List ℕ)) → turn_at e s.phase ≡ reads → (outcome s b (stanza_call e s.phase t)).number ≡ 0 →
+  course_more : (ts : List (List ℕ)) → turn_at e s.phase ≡ reads → (outcome s b (stanza_call e s.phase t)).number ≡ 0 →
       Course e (outcome s b (stanza_call e s.phase t)).session (awaited_behind e (outcome s b (stanza_call e s.phase t)).session.phase t) (outcome s b (stanza_call e s.phase t)).buffers ts → Course e s w b (t ∷ ts)
-  course-more ts h z = to
+  course_more ts h z = to
     where
       u : List ℕ
       u = written_by s b (stanza_call e s.phase t)
 
-      more-ahead : (v : List ℕ) (us : List (List ℕ)) (r : Rest) (x : Taken) → Ahead v x (more e s w b t (ts ++ us) r) → Ahead (u ++ v) x (taken_all e s b w (t ∷ (ts ++ us)) r)
-      more-ahead v us r x a =
+      more_ahead : (v : List ℕ) (us : List (List ℕ)) (r : Rest) (x : Taken) → Ahead v x (more e s w b t (ts ++ us) r) → Ahead (u ++ v) x (taken_all e s b w (t ∷ (ts ++ us)) r)
+      more_ahead v us r x a =
           let q = taken_more e s w b t (ts ++ us) r h z in
           record {
             number = ap (λ x. x.number) q ∙ a.number;
@@ -104,27 +104,27 @@ module _ (e : End) (s : Session) (w : List ℕ) (b : Buffers) (t : List ℕ) (wh
           }
 
       to : Course e (outcome s b (stanza_call e s.phase t)).session (awaited_behind e (outcome s b (stanza_call e s.phase t)).session.phase t) (outcome s b (stanza_call e s.phase t)).buffers ts → Course e s w b (t ∷ ts)
-      to (goes_on s' w' b' v k) = goes_on s' w' b' (u ++ v) (λ us r. more-ahead v us r (taken_all e s' b' w' us r) (k us r))
-      to (stops n m s' w' b' v c k) = stops n m s' w' b' (u ++ v) c (λ us r. more-ahead v us r (no_more n (emptied s' w') b') (k us r))
+      to (goes_on s' w' b' v k) = goes_on s' w' b' (u ++ v) (λ us r. more_ahead v us r (taken_all e s' b' w' us r) (k us r))
+      to (stops n m s' w' b' v c k) = stops n m s' w' b' (u ++ v) c (λ us r. more_ahead v us r (no_more n (emptied s' w') b') (k us r))
       to (waits k) = waits (λ us r. ap (λ x. is_waiting e x.intake.session.phase) (taken_more e s w b t (ts ++ us) r h z) ∙ k us r)
 
-  course-one : (ts : List (List ℕ)) (u : Turn) → turn_at e s.phase ≡ u → (turn_at e s.phase ≡ reads → (outcome s b (stanza_call e s.phase t)).number ≡ 0 → Course e s w b (t ∷ ts)) → Course e s w b (t ∷ ts)
-  course-one ts reads h f =
+  course_one : (ts : List (List ℕ)) (u : Turn) → turn_at e s.phase ≡ u → (turn_at e s.phase ≡ reads → (outcome s b (stanza_call e s.phase t)).number ≡ 0 → Course e s w b (t ∷ ts)) → Course e s w b (t ∷ ts)
+  course_one ts reads h f =
       let n = (outcome s b (stanza_call e s.phase t)).number in
       cases (eqb n 0) (λ z. f h (eqb-true n 0 z))
       (λ z. stops n 13 (outcome s b (stanza_call e s.phase t)).session [] b []
       (ap (λ x. turn_at e x.phase) ((stepped s b t whole e h).closing (eqb-false n 0 z)).session ∙ closed_turn e)
       (λ us r. ahead_is [] _ _ (taken_refused e s w b t (ts ++ us) r h (eqb-false n 0 z)) refl))
-  course-one ts (drops n) h f = stops n n s w b [] h (λ us r. ahead_is [] _ _ (taken-dropped e s w b t (ts ++ us) r n h) refl)
-  course-one ts keeps_back h f = waits (λ us r. ap (λ x. is_waiting e x.intake.session.phase) (taken-kept e s w b t (ts ++ us) r h) ∙ turn_waits e s.phase h)
+  course_one ts (drops n) h f = stops n n s w b [] h (λ us r. ahead_is [] _ _ (taken_dropped e s w b t (ts ++ us) r n h) refl)
+  course_one ts keeps_back h f = waits (λ us r. ap (λ x. is_waiting e x.intake.session.phase) (taken_kept e s w b t (ts ++ us) r h) ∙ turn_waits e s.phase h)
 
 pub course : (ts : List (List ℕ)) (e : End) (s : Session) (w : List ℕ) (b : Buffers) → All IsWhole ts → Course e s w b ts
 unfolding All
 course [] e s w b k = goes_on s w b [] (λ us r. ahead_is [] _ _ refl refl)
 course (t ∷ ts) e s w b k =
     let o = outcome s b (stanza_call e s.phase t) in
-    course-one e s w b t k.0 ts (turn_at e s.phase) refl
-    (λ h z. course-more e s w b t k.0 ts h z (course ts e o.session (awaited_behind e o.session.phase t) o.buffers k.1))
+    course_one e s w b t k.0 ts (turn_at e s.phase) refl
+    (λ h z. course_more e s w b t k.0 ts h z (course ts e o.session (awaited_behind e o.session.phase t) o.buffers k.1))
 
 -- ---- what a call comes to
 
@@ -156,15 +156,15 @@ drops_taken [] e s w b n h r = pass (eqb (length (bytes_of r)) 0) (ap (λ u. tak
     pass : {x : Taken} (d : Bool) → x ≡ pick d (no_more 0 (emptied s w) b) (no_more n (emptied s w) b) → (m : ℕ) × (x ≡ no_more m (emptied s w) b)
     pass true q = (0, q)
     pass false q = (n, q)
-drops_taken (t ∷ us) e s w b n h r = (n, taken-dropped e s w b t us r n h)
+drops_taken (t ∷ us) e s w b n h r = (n, taken_dropped e s w b t us r n h)
 
 chunk_drops : (e : End) (s : Session) (w : List ℕ) (b : Buffers) (n : ℕ) (y out : List ℕ) → turn_at e s.phase ≡ drops n → Is (chunked e (emptied s w) b y out) (emptied s w) b []
 chunk_drops e s w b n y out h =
     cases (eqb (turn_of e s.phase) 0)
     (λ z.
     let m = drops_taken (cut start [] y).texts e s w b n h (cut start [] y).rest in
-    pass m.0 (is_held (no_more m.0 (emptied s w) b) out) (chunked-read e (emptied s w) b y out (eqb-true (turn_of e s.phase) 0 z) ∙ ap (judged (emptied s w) b out) m.1))
-    (λ z. is_untaken_lem _ (turn_of e s.phase) (emptied s w) b out (chunk-refused e (emptied s w) b (turn_of e s.phase) y out refl z))
+    pass m.0 (is_held (no_more m.0 (emptied s w) b) out) (chunked_read e (emptied s w) b y out (eqb-true (turn_of e s.phase) 0 z) ∙ ap (judged (emptied s w) b out) m.1))
+    (λ z. is_untaken_lem _ (turn_of e s.phase) (emptied s w) b out (chunk_refused e (emptied s w) b (turn_of e s.phase) y out refl z))
   where
     pass : {o : Outcome} (m : ℕ) (d : Bool) → o ≡ pick d (held out (no_more m (emptied s w) b)) (untaken 15 (emptied s w) b out) → Is o (emptied s w) b []
     pass m true q = record { intake = ap (λ (o : Outcome). o.intake) q; buffers = ap (λ (o : Outcome). o.buffers) q; output = ap (λ (o : Outcome). take o.size o.output) q }
@@ -187,8 +187,8 @@ module _ (e : End) (i : Intake) (b : Buffers) (x y first_out second-out whole_ou
   abbrev whole : Outcome
   whole = chunked e i b (x ++ y) whole_out
 
-  together-of : {i' j : Intake} {b' c : Buffers} {v v' u : List ℕ} → Is first i' b' v → Is (chunked e i' b' y second-out) j c v' → Is whole j c u → v ++ v' ≡ u → Together first second whole
-  together-of f g h q =
+  together_of : {i' j : Intake} {b' c : Buffers} {v v' u : List ℕ} → Is first i' b' v → Is (chunked e i' b' y second-out) j c v' → Is whole j c u → v ++ v' ≡ u → Together first second whole
+  together_of f g h q =
       let k = ap₂ (λ i b. chunked e i b y second-out) f.intake f.buffers in
       record {
         intake = ap (λ (o : Outcome). o.intake) k ∙ g.intake ∙ sym h.intake;
@@ -204,149 +204,149 @@ module _ (e : End) (i : Intake) (b : Buffers) (x y first_out second-out whole_ou
   pub record Joint : Type 0 where
     pub together : Together first second whole
     pub number : turn_at e first.intake.session.phase ≡ reads → second.number ≡ whole.number
-    pub first-number : FirstNumber
+    pub first_number : FirstNumber
 
   -- where bytes are dropped behind the first, nothing is read on
-  joint-dropped : (s : Session) (w : List ℕ) (n : ℕ) → turn_at e s.phase ≡ drops n → first.intake ≡ emptied s w → FirstNumber → Together first second whole → Joint
-  joint-dropped s w n t f m g = record { together = g; number = λ u. absurd (drops_not_reads n (sym (ap (λ (i : Intake). turn_at e i.session.phase) f ∙ t) ∙ u)); first-number = m }
+  joint_dropped : (s : Session) (w : List ℕ) (n : ℕ) → turn_at e s.phase ≡ drops n → first.intake ≡ emptied s w → FirstNumber → Together first second whole → Joint
+  joint_dropped s w n t f m g = record { together = g; number = λ u. absurd (drops_not_reads n (sym (ap (λ (i : Intake). turn_at e i.session.phase) f ∙ t) ∙ u)); first_number = m }
 
-  together-over : (s : Session) (w : List ℕ) (b' : Buffers) (n : ℕ) (v : List ℕ) → turn_at e s.phase ≡ drops n → Is first (emptied s w) b' v → Is whole (emptied s w) b' v → FirstNumber → Joint
-  together-over s w b' n v t f h m = joint-dropped s w n t f.intake m (together-of f (chunk_drops e s w b' n y second-out t) h (append-nil v))
+  together_over : (s : Session) (w : List ℕ) (b' : Buffers) (n : ℕ) (v : List ℕ) → turn_at e s.phase ≡ drops n → Is first (emptied s w) b' v → Is whole (emptied s w) b' v → FirstNumber → Joint
+  together_over s w b' n v t f h m = joint_dropped s w n t f.intake m (together_of f (chunk_drops e s w b' n y second-out t) h (append-nil v))
 
   -- the first chunk's stanzas and rest, and both chunks'
-  abbrev cut-first : Cut
-  cut-first = cut i.reading i.kept x
+  abbrev cut_first : Cut
+  cut_first = cut i.reading i.kept x
 
-  module _ (fits : length (taken e i b x).written ≤ length first_out) (first-is : first ≡ held first_out (taken e i b x))
+  module _ (fits : length (taken e i b x).written ≤ length first_out) (first_is : first ≡ held first_out (taken e i b x))
       (fits_whole : length (taken e i b (x ++ y)).written ≤ length whole_out) (whole_is : whole ≡ held whole_out (taken e i b (x ++ y))) where
-    is-first : (v : List ℕ) (r : Taken) → Ahead v r (taken e i b x) → Is first r.intake r.buffers (v ++ r.written)
-    is-first v r a = is_held_lem first first_out v r (taken e i b x) first-is fits a
+    is_first : (v : List ℕ) (r : Taken) → Ahead v r (taken e i b x) → Is first r.intake r.buffers (v ++ r.written)
+    is_first v r a = is_held_lem first first_out v r (taken e i b x) first_is fits a
 
-    is-whole : (v : List ℕ) (r : Taken) → Ahead v r (taken e i b (x ++ y)) → Is whole r.intake r.buffers (v ++ r.written)
-    is-whole v r a = is_held_lem whole whole_out v r (taken e i b (x ++ y)) whole_is fits_whole a
+    is_whole : (v : List ℕ) (r : Taken) → Ahead v r (taken e i b (x ++ y)) → Is whole r.intake r.buffers (v ++ r.written)
+    is_whole v r a = is_held_lem whole whole_out v r (taken e i b (x ++ y)) whole_is fits_whole a
 
-    first-number : (v : List ℕ) (r : Taken) → Ahead v r (taken e i b x) → first.number ≡ r.number
-    first-number v r a = ap (λ (o : Outcome). o.number) first-is ∙ a.number
+    first_number : (v : List ℕ) (r : Taken) → Ahead v r (taken e i b x) → first.number ≡ r.number
+    first_number v r a = ap (λ (o : Outcome). o.number) first_is ∙ a.number
 
-    whole-number : (v : List ℕ) (r : Taken) → Ahead v r (taken e i b (x ++ y)) → whole.number ≡ r.number
-    whole-number v r a = ap (λ (o : Outcome). o.number) whole_is ∙ a.number
+    whole_number : (v : List ℕ) (r : Taken) → Ahead v r (taken e i b (x ++ y)) → whole.number ≡ r.number
+    whole_number v r a = ap (λ (o : Outcome). o.number) whole_is ∙ a.number
 
     -- by the first chunk's stanzas
-    of-first : (P : Taken → Type 0) → ((us : List (List ℕ)) (r : Rest) → P (taken_all e i.session b i.awaited (cut-first.texts ++ us) r)) → P (taken e i b x)
-    of-first P f = subst (λ ts. P (taken_all e i.session b i.awaited ts cut-first.rest)) (append-nil cut-first.texts) (f [] cut-first.rest)
+    of_first : (P : Taken → Type 0) → ((us : List (List ℕ)) (r : Rest) → P (taken_all e i.session b i.awaited (cut_first.texts ++ us) r)) → P (taken e i b x)
+    of_first P f = subst (λ ts. P (taken_all e i.session b i.awaited ts cut_first.rest)) (append-nil cut_first.texts) (f [] cut_first.rest)
 
-    of-whole : (P : Taken → Type 0) → ((us : List (List ℕ)) (r : Rest) → P (taken_all e i.session b i.awaited (cut-first.texts ++ us) r)) → P (taken e i b (x ++ y))
-    of-whole P f =
-        let z = rest_split cut-first.rest cut-first.texts y in
+    of_whole : (P : Taken → Type 0) → ((us : List (List ℕ)) (r : Rest) → P (taken_all e i.session b i.awaited (cut_first.texts ++ us) r)) → P (taken e i b (x ++ y))
+    of_whole P f =
+        let z = rest_split cut_first.rest cut_first.texts y in
         subst (λ k. P (taken_all e i.session b i.awaited k.texts k.rest)) (sym (cut_append x y i.reading i.kept ∙ z.2)) (f z.0 z.1)
 
     -- where all of the first chunk's stanzas are taken
     module _ (s : Session) (w : List ℕ) (b' : Buffers) (v : List ℕ)
-        (k : (us : List (List ℕ)) (r : Rest) → Ahead v (taken_all e s b' w us r) (taken_all e i.session b i.awaited (cut-first.texts ++ us) r)) where
-      at_rest : (r : Rest) → cut-first.rest ≡ r → (u : Turn) → turn_at e s.phase ≡ u → Ahead v (taken_rest u s b' w r) (taken e i b x)
+        (k : (us : List (List ℕ)) (r : Rest) → Ahead v (taken_all e s b' w us r) (taken_all e i.session b i.awaited (cut_first.texts ++ us) r)) where
+      at_rest : (r : Rest) → cut_first.rest ≡ r → (u : Turn) → turn_at e s.phase ≡ u → Ahead v (taken_rest u s b' w r) (taken e i b x)
       unfolding taken_all
       at_rest r h u t =
           subst (λ y. Ahead v y (taken e i b x)) (ap₂ (λ u r. taken_rest u s b' w r) t h)
-          (subst (λ ts. Ahead v (taken_all e s b' w [] cut-first.rest) (taken_all e i.session b i.awaited ts cut-first.rest)) (append-nil cut-first.texts) (k [] cut-first.rest))
+          (subst (λ ts. Ahead v (taken_all e s b' w [] cut_first.rest) (taken_all e i.session b i.awaited ts cut_first.rest)) (append-nil cut_first.texts) (k [] cut_first.rest))
 
       -- what both chunks are cut into
-      both : (us : List (List ℕ)) (r : Rest) → cut i.reading i.kept (x ++ y) ≡ record { texts = cut-first.texts ++ us; rest = r } → Ahead v (taken_all e s b' w us r) (taken e i b (x ++ y))
+      both : (us : List (List ℕ)) (r : Rest) → cut i.reading i.kept (x ++ y) ≡ record { texts = cut_first.texts ++ us; rest = r } → Ahead v (taken_all e s b' w us r) (taken e i b (x ++ y))
       both us r h = subst (λ c. Ahead v (taken_all e s b' w us r) (taken_all e i.session b i.awaited c.texts c.rest)) (sym h) (k us r)
 
       -- .. and the rest is read
-      read-on : (r : Rest) → cut-first.rest ≡ r → turn_at e s.phase ≡ reads → (second.number ≡ 15 → ⊥) → Joint
+      read_on : (r : Rest) → cut_first.rest ≡ r → turn_at e s.phase ≡ reads → (second.number ≡ 15 → ⊥) → Joint
       unfolding taken_all
-      read-on (unfinished q f) h t g =
+      read_on (unfinished q f) h t g =
           let i' = keeping s q f w in
           let r = taken e i' b' y in
-          let a = is-first v (no_more 0 i' b') (at_rest (unfinished q f) h reads t) in
+          let a = is_first v (no_more 0 i' b') (at_rest (unfinished q f) h reads t) in
           let j = ap₂ (λ i b. chunked e i b y second-out) a.intake a.buffers in
-          let o = chunked-read e i' b' y second-out (turn_reads e s.phase t) in
+          let o = chunked_read e i' b' y second-out (turn_reads e s.phase t) in
           let d = judged_not_15 i' b' second-out r (λ z. g (ap (λ (o : Outcome). o.number) (j ∙ o) ∙ z)) in
-          let m = both (cut q f y).texts (cut q f y).rest (cut_append x y i.reading i.kept ∙ ap (λ r. rest_on r cut-first.texts y) h) in
+          let m = both (cut q f y).texts (cut q f y).rest (cut_append x y i.reading i.kept ∙ ap (λ r. rest_on r cut_first.texts y) h) in
           record {
-            together = together-of a (is_held_lem (chunked e i' b' y second-out) second-out [] r r (o ∙ d.0) d.1 (ahead_is [] r r refl refl)) (is-whole v r m) (ap (λ u. u ++ r.written) (append-nil v));
-            number = λ u. ap (λ (o : Outcome). o.number) (j ∙ o ∙ d.0) ∙ sym (whole-number v r m);
-            first-number = inl (first-number v (no_more 0 i' b') (at_rest (unfinished q f) h reads t));
+            together = together_of a (is_held_lem (chunked e i' b' y second-out) second-out [] r r (o ∙ d.0) d.1 (ahead_is [] r r refl refl)) (is_whole v r m) (ap (λ u. u ++ r.written) (append-nil v));
+            number = λ u. ap (λ (o : Outcome). o.number) (j ∙ o ∙ d.0) ∙ sym (whole_number v r m);
+            first_number = inl (first_number v (no_more 0 i' b') (at_rest (unfinished q f) h reads t));
           }
-      read-on (impossible n z) h t g =
+      read_on (impossible n z) h t g =
           let i' = emptied (closed s) [] in
           let m = both [] (impossible n (z ++ y))
-          (cut_append x y i.reading i.kept ∙ ap (λ r. rest_on r cut-first.texts y) h ∙ ap (λ u. record { texts = u; rest = impossible n (z ++ y) }) (sym (append-nil cut-first.texts))) in
+          (cut_append x y i.reading i.kept ∙ ap (λ r. rest_on r cut_first.texts y) h ∙ ap (λ u. record { texts = u; rest = impossible n (z ++ y) }) (sym (append-nil cut_first.texts))) in
           let a = at_rest (impossible n z) h reads t in
           let c = subst (λ r. Ahead v r (taken e i b (x ++ y))) (ap (λ u. taken_rest u s b' w (impossible n (z ++ y))) t) m in
-          together-over (closed s) [] b' 13 (v ++ []) (closed_turn e) (is-first v (no_more n i' b') a) (is-whole v (no_more n i' b') c)
-          (inr (whole-number v (no_more n i' b') c ∙ sym (first-number v (no_more n i' b') a)))
+          together_over (closed s) [] b' 13 (v ++ []) (closed_turn e) (is_first v (no_more n i' b') a) (is_whole v (no_more n i' b') c)
+          (inr (whole_number v (no_more n i' b') c ∙ sym (first_number v (no_more n i' b') a)))
 
       goes : (u : Turn) → turn_at e s.phase ≡ u → (second.number ≡ 15 → ⊥) → is_waiting e first.intake.session.phase ≡ false → Joint
       unfolding taken_all
-      goes reads t g z = read-on cut-first.rest refl t g
+      goes reads t g z = read_on cut_first.rest refl t g
       goes (drops n) t g z =
-          let a = of-first Dropped dropped in
-          let c = of-whole Dropped dropped in
-          let f = is-first v (no_more a.0 (emptied s w) b') a.1 in
-          joint-dropped s w n t f.intake (dropped-number cut-first.rest refl) (together-of f (chunk_drops e s w b' n y second-out t) (is-whole v (no_more c.0 (emptied s w) b') c.1) (append-nil (v ++ [])))
+          let a = of_first Dropped dropped in
+          let c = of_whole Dropped dropped in
+          let f = is_first v (no_more a.0 (emptied s w) b') a.1 in
+          joint_dropped s w n t f.intake (dropped_number cut_first.rest refl) (together_of f (chunk_drops e s w b' n y second-out t) (is_whole v (no_more c.0 (emptied s w) b') c.1) (append-nil (v ++ [])))
         where
-          pick-number : (d : Bool) → (pick d (no_more 0 (emptied s w) b') (no_more n (emptied s w) b')).number ≡ pick d 0 n
-          pick-number true = refl
-          pick-number false = refl
+          pick_number : (d : Bool) → (pick d (no_more 0 (emptied s w) b') (no_more n (emptied s w) b')).number ≡ pick d 0 n
+          pick_number true = refl
+          pick_number false = refl
 
           number_of : (f : List ℕ) → first.number ≡ pick (eqb (length f) 0) 0 n → whole.number ≡ pick (eqb (length (f ++ y)) 0) 0 n → FirstNumber
           number_of f p q = ⊎_elim (λ h. inl (p ∙ h)) (λ h. inr (q ∙ h ∙ sym p)) (more_dropped f y n)
 
           -- the bytes behind the first chunk's stanzas are among those behind them in both
-          dropped-number : (r : Rest) → cut-first.rest ≡ r → FirstNumber
-          dropped-number (unfinished q f) h =
+          dropped_number : (r : Rest) → cut_first.rest ≡ r → FirstNumber
+          dropped_number (unfinished q f) h =
               number_of f
-              (first-number v _ (at_rest (unfinished q f) h (drops n) t) ∙ pick-number (eqb (length f) 0))
-              (whole-number v _ (both (cut q f y).texts (cut q f y).rest (cut_append x y i.reading i.kept ∙ ap (λ r. rest_on r cut-first.texts y) h))
-              ∙ ap (λ (r : Taken). r.number) (front-dropped e s b' w n t y q f) ∙ pick-number (eqb (length (f ++ y)) 0))
-          dropped-number (impossible m z) h =
+              (first_number v _ (at_rest (unfinished q f) h (drops n) t) ∙ pick_number (eqb (length f) 0))
+              (whole_number v _ (both (cut q f y).texts (cut q f y).rest (cut_append x y i.reading i.kept ∙ ap (λ r. rest_on r cut_first.texts y) h))
+              ∙ ap (λ (r : Taken). r.number) (front_dropped e s b' w n t y q f) ∙ pick_number (eqb (length (f ++ y)) 0))
+          dropped_number (impossible m z) h =
               number_of z
-              (first-number v _ (at_rest (impossible m z) h (drops n) t) ∙ pick-number (eqb (length z) 0))
-              (whole-number v _ (both [] (impossible m (z ++ y))
-              (cut_append x y i.reading i.kept ∙ ap (λ r. rest_on r cut-first.texts y) h ∙ ap (λ u. record { texts = u; rest = impossible m (z ++ y) }) (sym (append-nil cut-first.texts))))
-              ∙ ap (λ u. (taken_rest u s b' w (impossible m (z ++ y))).number) t ∙ pick-number (eqb (length (z ++ y)) 0))
+              (first_number v _ (at_rest (impossible m z) h (drops n) t) ∙ pick_number (eqb (length z) 0))
+              (whole_number v _ (both [] (impossible m (z ++ y))
+              (cut_append x y i.reading i.kept ∙ ap (λ r. rest_on r cut_first.texts y) h ∙ ap (λ u. record { texts = u; rest = impossible m (z ++ y) }) (sym (append-nil cut_first.texts))))
+              ∙ ap (λ u. (taken_rest u s b' w (impossible m (z ++ y))).number) t ∙ pick_number (eqb (length (z ++ y)) 0))
 
           Dropped : Taken → Type 0
           Dropped r = (m : ℕ) × Ahead v (no_more m (emptied s w) b') r
 
-          dropped : (us : List (List ℕ)) (r : Rest) → Dropped (taken_all e i.session b i.awaited (cut-first.texts ++ us) r)
-          dropped us r = let d = drops_taken us e s w b' n t r in (d.0, subst (λ q. Ahead v q (taken_all e i.session b i.awaited (cut-first.texts ++ us) r)) d.1 (k us r))
+          dropped : (us : List (List ℕ)) (r : Rest) → Dropped (taken_all e i.session b i.awaited (cut_first.texts ++ us) r)
+          dropped us r = let d = drops_taken us e s w b' n t r in (d.0, subst (λ q. Ahead v q (taken_all e i.session b i.awaited (cut_first.texts ++ us) r)) d.1 (k us r))
       goes keeps_back t g z =
-          absurd (false≢true (sym z ∙ ap (λ (o : Outcome). is_waiting e o.intake.session.phase) first-is ∙ ap (λ (i : Intake). is_waiting e i.session.phase) (at_rest cut-first.rest refl keeps_back t).intake ∙ turn_waits e s.phase t))
+          absurd (false≢true (sym z ∙ ap (λ (o : Outcome). is_waiting e o.intake.session.phase) first_is ∙ ap (λ (i : Intake). is_waiting e i.session.phase) (at_rest cut_first.rest refl keeps_back t).intake ∙ turn_waits e s.phase t))
 
-    by-course : Course e i.session i.awaited b cut-first.texts → (second.number ≡ 15 → ⊥) → is_waiting e first.intake.session.phase ≡ false → Joint
-    by-course (goes_on s w b' v k) g z = goes s w b' v k (turn_at e s.phase) refl g z
-    by-course (stops n m s w b' v t k) g z =
+    by_course : Course e i.session i.awaited b cut_first.texts → (second.number ≡ 15 → ⊥) → is_waiting e first.intake.session.phase ≡ false → Joint
+    by_course (goes_on s w b' v k) g z = goes s w b' v k (turn_at e s.phase) refl g z
+    by_course (stops n m s w b' v t k) g z =
         let r = no_more n (emptied s w) b' in
-        let a = of-first (Ahead v r) k in
-        let c = of-whole (Ahead v r) k in
-        together-over s w b' m (v ++ []) t (is-first v r a) (is-whole v r c) (inr (whole-number v r c ∙ sym (first-number v r a)))
-    by-course (waits k) g z = absurd (false≢true (sym z ∙ ap (λ (o : Outcome). is_waiting e o.intake.session.phase) first-is ∙ of-first (λ r. is_waiting e r.intake.session.phase ≡ true) k))
+        let a = of_first (Ahead v r) k in
+        let c = of_whole (Ahead v r) k in
+        together_over s w b' m (v ++ []) t (is_first v r a) (is_whole v r c) (inr (whole_number v r c ∙ sym (first_number v r a)))
+    by_course (waits k) g z = absurd (false≢true (sym z ∙ ap (λ (o : Outcome). is_waiting e o.intake.session.phase) first_is ∙ of_first (λ r. is_waiting e r.intake.session.phase ≡ true) k))
 
   -- a chunk and then another, from an intake that can be reached: where bytes are dropped with 14, too
   pub joint : Bounded e i → (first.number ≡ 15 → ⊥) → (second.number ≡ 15 → ⊥) → (whole.number ≡ 15 → ⊥) → is_waiting e first.intake.session.phase ≡ false → Joint
-  joint h f g k z = cases (eqb (turn_of e i.session.phase) 0) in_turn out-of-turn
+  joint h f g k z = cases (eqb (turn_of e i.session.phase) 0) in_turn out_of_turn
     where
       in_turn : eqb (turn_of e i.session.phase) 0 ≡ true → Joint
       in_turn t =
           let n = eqb-true (turn_of e i.session.phase) 0 t in
-          let o = chunked-read e i b x first_out n in
-          let p = chunked-read e i b (x ++ y) whole_out n in
+          let o = chunked_read e i b x first_out n in
+          let p = chunked_read e i b (x ++ y) whole_out n in
           let c = judged_not_15 i b first_out (taken e i b x) (λ z. f (ap (λ (o : Outcome). o.number) o ∙ z)) in
           let d = judged_not_15 i b whole_out (taken e i b (x ++ y)) (λ z. k (ap (λ (o : Outcome). o.number) p ∙ z)) in
-          by-course c.1 (o ∙ c.0) d.1 (p ∙ d.0) (course cut-first.texts e i.session i.awaited b (cut_parts x i.reading i.kept (h.front (turn_not_waiting e i.session.phase n))).texts) g z
+          by_course c.1 (o ∙ c.0) d.1 (p ∙ d.0) (course cut_first.texts e i.session i.awaited b (cut_parts x i.reading i.kept (h.front (turn_not_waiting e i.session.phase n))).texts) g z
 
-      out-of-turn : eqb (turn_of e i.session.phase) 0 ≡ false → Joint
-      out-of-turn t =
+      out_of_turn : eqb (turn_of e i.session.phase) 0 ≡ false → Joint
+      out_of_turn t =
           let n = turn_of e i.session.phase in
-          let q = chunk-refused e i b n x first_out refl t in
+          let q = chunk_refused e i b n x first_out refl t in
           record {
-            together = together-of (is_untaken_lem first n i b first_out q) (is_untaken_lem (chunked e i b y second-out) n i b second-out (chunk-refused e i b n y second-out refl t))
-                (is_untaken_lem whole n i b whole_out (chunk-refused e i b n (x ++ y) whole_out refl t)) refl;
+            together = together_of (is_untaken_lem first n i b first_out q) (is_untaken_lem (chunked e i b y second-out) n i b second-out (chunk_refused e i b n y second-out refl t))
+                (is_untaken_lem whole n i b whole_out (chunk_refused e i b n (x ++ y) whole_out refl t)) refl;
             number = λ u. absurd (eqb-false n 0 t (turn_reads e i.session.phase (sym (ap (λ (o : Outcome). turn_at e o.intake.session.phase) q) ∙ u)));
-            first-number = inr (ap (λ (o : Outcome). o.number) (chunk-refused e i b n (x ++ y) whole_out refl t) ∙ sym (ap (λ (o : Outcome). o.number) q));
+            first_number = inr (ap (λ (o : Outcome). o.number) (chunk_refused e i b n (x ++ y) whole_out refl t) ∙ sym (ap (λ (o : Outcome). o.number) q));
           }
 
   -- .. where none of the three is refused with 14 or 15

@@ -37,8 +37,8 @@ use Rattle.client_room.specs.declared.stanzas.Step.{Step as CodeStep}
 use Rattle.client_room.proofs.Laws.Stanzas.{line_of, body_behind}
 use Rattle.client_receiving.specs.Stanzas.{step_said}
 use Rattle.client_receiving.specs.Texts.{lent, behind_answer, MayTake, Answers}
-use Rattle.client_receiving.proofs.Laws.Stanzas.{filled_front, TookOn, took-on, declined-is, fault_is}
-use Rattle.client_receiving.proofs.Laws.Texts.{none_lent, answers-says, stop_says, back_short}
+use Rattle.client_receiving.proofs.Laws.Stanzas.{filled_front, TookOn, took_on, declined_is, fault_is}
+use Rattle.client_receiving.proofs.Laws.Texts.{none_lent, answers_says, stop_says, back_short}
 
 -- the host's reply is due where bytes are kept back
 pub waits_back : (p : Phase) → is_waiting client p ≡ true → keeps_back ≡ turn_at client p
@@ -87,12 +87,12 @@ module _ (given : CodeSession) (xs hs : List (List ℕ)) (e s d front text out :
   now = session_of given xs hs
 
   -- no stanza begins it
-  pub front-fault : (b : BuffersOne) (n : Refusal) (v : CodeSession) (x : CodeReceived) (input : List ℕ) → read_first front ≡ refused (number_of n) →
+  pub front_fault : (b : BuffersOne) (n : Refusal) (v : CodeSession) (x : CodeReceived) (input : List ℕ) → read_first front ≡ refused (number_of n) →
       session_of v xs hs ≡ (refused_receipt (number_of n) now (two.buffers_of e s d) ample).session → x ≡ stopped n v →
       Answers x xs hs input input (lent b e s d) out out (stanza_ahead now (lent b e s d) front text)
-  front-fault b n v x input h sv xz =
+  front_fault b n v x input h sv xz =
       subst (λ x. Answers x xs hs input input (lent b e s d) out out (stanza_ahead now (lent b e s d) front text)) (sym xz)
-      (answers-says (stopped n v) xs hs input input (lent b e s d) out out 0 _ _ (stop_says 0 Nothing 0 n v xs hs input [] (lent b e s d))
+      (answers_says (stopped n v) xs hs input input (lent b e s d) out out 0 _ _ (stop_says 0 Nothing 0 n v xs hs input [] (lent b e s d))
       (fault_is now (lent b e s d) front text (number_of n) second h ∙ ap (λ q. behind 0 no_stanza [] (no_more (number_of n) (emptied q []) (lent b e s d))) (sym sv)) refl (omega arith) refl refl)
 
   module _ (l m k : ℕ) (h : read_first front ≡ stanza l m k) (y : CodeStep) (xs' : List (List ℕ)) (e' s' d' o' : List ℕ)
@@ -103,34 +103,34 @@ module _ (given : CodeSession) (xs hs : List (List ℕ)) (e s d front text out :
         Answers x xs' hs input input (lent b e' s' d') out o' (stanza_ahead now (lent b e s d) front text)
     front_refused b n x input z xz =
         let u = stanza_ahead now (lent b e s d) front text in
-        let t = declined-is now (lent b e s d) front l m k out second h (step_said y xs' hs e' s' d' o') q front text (number_of n) z
+        let t = declined_is now (lent b e s d) front l m k out second h (step_said y xs' hs e' s' d' o') q front text (number_of n) z
         (leb-true (length u.written) (length out) (and_true (leb (length u.written) (length out)) (leb (length u.intake.kept) 8192) (held b)).0) in
         subst (λ x. Answers x xs' hs input input (lent b e' s' d') out o' u) (sym xz)
-        (answers-says (stopped n y.session) xs' hs input input (lent b e' s' d') out o' 0 _ _ (stop_says 0 Nothing 0 n y.session xs' hs input [] (lent b e' s' d'))
+        (answers_says (stopped n y.session) xs' hs input input (lent b e' s' d') out o' 0 _ _ (stop_says 0 Nothing 0 n y.session xs' hs input [] (lent b e' s' d'))
         t.same refl (omega arith) (ap length t.output) t.output)
 
     module _ (w : WordTwo) (i j : ℕ) (z : taking_said y.answer ≡ took w i j) where
-      took-here : (b : BuffersOne) → TookOn (stanza_ahead now (lent b e s d) front text) w j (step_said y xs' hs e' s' d' o') (lent b e s d) out front text
-      took-here b = took-on now (lent b e s d) front l m k out second h (step_said y xs' hs e' s' d' o') q front text w i j z
+      took_here : (b : BuffersOne) → TookOn (stanza_ahead now (lent b e s d) front text) w j (step_said y xs' hs e' s' d' o') (lent b e s d) out front text
+      took_here b = took_on now (lent b e s d) front l m k out second h (step_said y xs' hs e' s' d' o') q front text w i j z
 
       pub front_fits : j ≤ length out
-      front_fits = (took-here none_lent).fits
+      front_fits = (took_here none_lent).fits
 
       module _ (x : CodeReceived) (count : x.count ≡ 1) (last : x.last ≡ CommandTwo w) (written : x.written ≡ j) (session : x.session ≡ y.session) where
         same : (b : BuffersOne) → stanza_ahead now (lent b e s d) front text ≡ behind_answer x xs' hs (lent b e' s' d') (awaited_behind client x.session.phase front) text o'
-        same b = (took-here b).same ∙ sym (ap₂ (λ n g. behind n g (take x.written o') (taken_text client (session_of x.session xs' hs) (lent b e' s' d') (awaited_behind client x.session.phase front) text)) count (ap last_said last)
+        same b = (took_here b).same ∙ sym (ap₂ (λ n g. behind n g (take x.written o') (taken_text client (session_of x.session xs' hs) (lent b e' s' d') (awaited_behind client x.session.phase front) text)) count (ap last_said last)
             ∙ ap₂ (λ v c. behind 1 (command (text_of_word w)) (take v o') (taken_text client (session_of c xs' hs) (lent b e' s' d') (awaited_behind client c.phase front) text)) written session)
 
         size : length o' ≡ length out
-        size = (took-here none_lent).size
+        size = (took_here none_lent).size
 
         held_on : (b : BuffersOne) → is_held (behind_answer x xs' hs (lent b e' s' d') (awaited_behind client x.session.phase front) text o') out ≡ true
         held_on b = subst (λ t. is_held t out ≡ true) (same b) (held b)
 
         -- it waits
-        pub front-settles : (b : BuffersOne) (input : List ℕ) → is_waiting client x.session.phase ≡ true → length front ≤ 8192 → 16384 ≤ length input →
+        pub front_settles : (b : BuffersOne) (input : List ℕ) → is_waiting client x.session.phase ≡ true → length front ≤ 8192 → 16384 ≤ length input →
             MaySettle client x.session.phase keeps_back front text input
-        front-settles b input v f i = record {
+        front_settles b input v f i = record {
           turn = sym (waits_back x.session.phase v);
           none_waits = λ z. absurd (z refl);
           no_stanza = λ z. absurd (keeps_not_reads z);
@@ -138,35 +138,35 @@ module _ (given : CodeSession) (xs hs : List (List ℕ)) (e s d front text out :
           long = omega arith;
         }
 
-        pub front-settled : (b : BuffersOne) (r : CodeReceived) (input after : List ℕ) → is_waiting client x.session.phase ≡ true →
+        pub front_settled : (b : BuffersOne) (r : CodeReceived) (input after : List ℕ) → is_waiting client x.session.phase ≡ true →
             Says client r xs' hs input after (take x.written o') (lent b e' s' d')
             (behind x.count (last_said x.last) (take x.written o') (taken_text client (session_of x.session xs' hs) (lent b e' s' d') front text)) → r.written ≡ x.written →
             Answers r xs' hs input after (lent b e' s' d') out o' (stanza_ahead now (lent b e s d) front text)
-        front-settled b r input after v a v' =
-            answers-says r xs' hs input after (lent b e' s' d') out o' x.written _ _ a
+        front_settled b r input after v a v' =
+            answers_says r xs' hs input after (lent b e' s' d') out o' x.written _ _ a
             (same b ∙ ap (λ a. behind_answer x xs' hs (lent b e' s' d') a text o') (awaited_front x.session.phase front v)) v'
-            (omega (arith, written, size, (took-here none_lent).fits)) size (rw written (took-here none_lent).rest)
+            (omega (arith, written, size, (took_here none_lent).fits)) size (rw written (took_here none_lent).rest)
 
         -- or the text behind it is received
-        pub front-takes : (input : List ℕ) → is_waiting client x.session.phase ≡ false → 16384 ≤ length input → MayTake x xs' hs e' s' d' text input o'
-        front-takes input v i = record {
+        pub front_takes : (input : List ℕ) → is_waiting client x.session.phase ≡ false → 16384 ≤ length input → MayTake x xs' hs e' s' d' text input o'
+        front_takes input v i = record {
           few = omega arith;
-          within = omega (arith, written, size, (took-here none_lent).fits);
+          within = omega (arith, written, size, (took_here none_lent).fits);
           long = i;
           held = λ b. ap (λ n. has_room (behind_answer x xs' hs (lent b e' s' d') [] text o') n) size
               ∙ subst (λ a. is_held (behind_answer x xs' hs (lent b e' s' d') a text o') out ≡ true) (none_front x.session.phase front v) (held_on b);
         }
 
-        pub front-taken : (b : BuffersOne) (r : CodeReceived) (xs'' : List (List ℕ)) (input after e'' s'' d'' o'' : List ℕ) → is_waiting client x.session.phase ≡ false →
+        pub front_taken : (b : BuffersOne) (r : CodeReceived) (xs'' : List (List ℕ)) (input after e'' s'' d'' o'' : List ℕ) → is_waiting client x.session.phase ≡ false →
             Answers r xs'' hs input after (lent b e'' s'' d'') o' o'' (behind_answer x xs' hs (lent b e' s' d') [] text o') →
             Answers r xs'' hs input after (lent b e'' s'' d'') out o'' (stanza_ahead now (lent b e s d) front text)
-        front-taken b r xs'' input after e'' s'' d'' o'' v a =
+        front_taken b r xs'' input after e'' s'' d'' o'' v a =
             let u = taken_text client (session_of x.session xs' hs) (lent b e' s' d') [] text in
             let t = behind_answer x xs' hs (lent b e' s' d') [] text o' in
             let g : stanza_ahead now (lent b e s d) front text ≡ t = same b ∙ ap (λ a. behind_answer x xs' hs (lent b e' s' d') a text o') (none_front x.session.phase front v) in
             let k : length t.written ≤ length out = leb-true (length t.written) (length out) (and_true (leb (length t.written) (length out)) (leb (length t.intake.kept) 8192) (subst (λ t. is_held t out ≡ true) g (held b))).0 in
-            let n : length t.written ≡ j + length u.written = length-append (take x.written o') u.written ∙ ap (λ i. i + length u.written) (length-take-le x.written o' (omega (arith, written, size, (took-here none_lent).fits)) ∙ written) in
-            let r' : drop (length t.written) o' ≡ drop (length t.written) out = ap (λ i. drop i o') n ∙ sym (drop-drop (length u.written) j o') ∙ ap (drop (length u.written)) (took-here none_lent).rest ∙ drop-drop (length u.written) j out ∙ ap (λ i. drop i out) (sym n) in
+            let n : length t.written ≡ j + length u.written = length-append (take x.written o') u.written ∙ ap (λ i. i + length u.written) (length-take-le x.written o' (omega (arith, written, size, (took_here none_lent).fits)) ∙ written) in
+            let r' : drop (length t.written) o' ≡ drop (length t.written) out = ap (λ i. drop i o') n ∙ sym (drop-drop (length u.written) j o') ∙ ap (drop (length u.written)) (took_here none_lent).rest ∙ drop-drop (length u.written) j out ∙ ap (λ i. drop i out) (sym n) in
             subst (λ t. Answers r xs'' hs input after (lent b e'' s'' d'') out o'' t) (sym g)
             (record {
               says = a.says;

@@ -22,7 +22,7 @@ use Rattle.intake.specs.Intake.{intake_of, last_said, taken_said, received_said,
 use Rattle.intake.specs.declared.answers.Last.TheVariants.{Nothing}
 use Rattle.intake.specs.declared.answers.Received.{Received as CodeReceived}
 use Rattle.intake.specs.Fronts.{front_of}
-use Rattle.intake.proofs.Laws.Fronts.{chunk-begins, chunk-ends}
+use Rattle.intake.proofs.Laws.Fronts.{chunk_begins, chunk_ends}
 use Rattle.intake.proofs.Laws.Keeping.{stored_own}
 use Rattle.client_room.specs.Room.{stanza_ahead}
 use Rattle.client_receiving.specs.Texts.{Answers, behind_answer}
@@ -41,12 +41,12 @@ module _ (given : CodeSession) (xs hs : List (List ℕ)) (input x : List ℕ) (b
       ap₂ (λ n g. behind n g (take r.written out) (taken_text client (session_of r.session xs hs) b [] x)) c (ap last_said l)
       ∙ ap₂ (λ v c. behind 0 no_stanza (take v out) (taken_text client (session_of c xs hs) b [] x)) w s
       ∙ behind_none client now b [] (cut start [] x).texts (cut start [] x).rest
-      ∙ sym (chunk-begins client given xs hs input (ap (turn_at client) second) long x b h)
+      ∙ sym (chunk_begins client given xs hs input (ap (turn_at client) second) long x b h)
 
   -- or a stanza ends in it
   pub whole_is : (k : ℕ) → front_of given.reading (min given.kept 8191) x ≡ whole k → (k ≡ 0 → ⊥) →
       here ≡ stanza_ahead now b (take (min given.kept 8191) input ++ take k x) (drop k x)
-  whole_is k h some = chunk-ends client given xs hs input (ap (turn_at client) second) long x b k h some
+  whole_is k h some = chunk_ends client given xs hs input (ap (turn_at client) second) long x b k h some
 
 -- ---- what a call comes to
 
@@ -55,8 +55,8 @@ said t n o = record { number = t.number; count = t.count; last = t.last; size = 
 
 module _ (i : Intake) (b : Buffers) (out : List ℕ) (t : Taken) where
   -- 15
-  pub judged-short : is_held t out ≡ false → untaken 15 i b out ≡ judged i b out t
-  judged-short f = ap (λ d. pick d (said t (length t.written) (filled t.written out)) (untaken 15 i b out)) (sym f)
+  pub judged_short : is_held t out ≡ false → untaken 15 i b out ≡ judged i b out t
+  judged_short f = ap (λ d. pick d (said t (length t.written) (filled t.written out)) (untaken 15 i b out)) (sym f)
 
   pub judged_held : is_held t out ≡ true → (r : CodeReceived) (xs hs : List (List ℕ)) (before after : List ℕ) (b' : Buffers) (out' : List ℕ) →
       Answers r xs hs before after b' out out' t → received_said client r xs hs after b' out' ≡ judged i b out t
@@ -70,15 +70,15 @@ module _ (i : Intake) (b : Buffers) (x out : List ℕ) where
   unfolding chunked
   in_turn n e = ap (λ n. pick (eqb n 0) (judged i b out (taken client i b x)) (untaken n i b out)) e
 
-  pub out-of-turn : (n : ℕ) → n ≡ turn_two i.session.phase → eqb n 0 ≡ false → untaken n i b out ≡ chunked client i b x out
-  out-of-turn n e f = ap (λ d. pick d (judged i b out (taken client i b x)) (untaken n i b out)) (sym f) ∙ in_turn n e
+  pub out_of_turn : (n : ℕ) → n ≡ turn_two i.session.phase → eqb n 0 ≡ false → untaken n i b out ≡ chunked client i b x out
+  out_of_turn n e f = ap (λ d. pick d (judged i b out (taken client i b x)) (untaken n i b out)) (sym f) ∙ in_turn n e
 
   pub no_room : 0 ≡ turn_two i.session.phase → is_held (taken client i b x) out ≡ false → untaken 15 i b out ≡ chunked client i b x out
-  no_room e f = judged-short i b out (taken client i b x) f ∙ in_turn 0 e
+  no_room e f = judged_short i b out (taken client i b x) f ∙ in_turn 0 e
 
-  pub with-room : 0 ≡ turn_two i.session.phase → is_held (taken client i b x) out ≡ true → (r : CodeReceived) (xs hs : List (List ℕ)) (before after : List ℕ) (b' : Buffers) (out' : List ℕ) →
+  pub with_room : 0 ≡ turn_two i.session.phase → is_held (taken client i b x) out ≡ true → (r : CodeReceived) (xs hs : List (List ℕ)) (before after : List ℕ) (b' : Buffers) (out' : List ℕ) →
       Answers r xs hs before after b' out out' (taken client i b x) → received_said client r xs hs after b' out' ≡ chunked client i b x out
-  with-room e f r xs hs before after b' out' a = judged_held i b out (taken client i b x) f r xs hs before after b' out' a ∙ in_turn 0 e
+  with_room e f r xs hs before after b' out' a = judged_held i b out (taken client i b x) f r xs hs before after b' out' a ∙ in_turn 0 e
 
 -- nothing is stored by a call that takes nothing
 pub untaken_input : (given : CodeSession) (xs hs : List (List ℕ)) (input : List ℕ) (n : ℕ) (b : Buffers) (out : List ℕ) (r : CodeReceived) →

@@ -33,7 +33,7 @@ use Rattle.intake.specs.Intake.{intake_of}
 use Rattle.intake.specs.declared.answers.Last.TheVariants.{Nothing}
 use Rattle.intake.specs.declared.answers.Received.{Received as CodeReceived}
 use Rattle.client_room.specs.Room.{has_room}
-use Rattle.client_room.proofs.Laws.Room.{more_room, less-room}
+use Rattle.client_room.proofs.Laws.Room.{more_room, less_room}
 use Rattle.client_receiving.specs.Replying.{due_sized, answered_with}
 use Rattle.client_receiving.specs.Texts.{lent, behind_answer, MayTake, Answers}
 use Rattle.client_receiving.proofs.Laws.Stanzas.{filled_front}
@@ -50,10 +50,10 @@ abbrev sized_by : Bool → Bool → ℕ → Answer
 sized_by f z k = pick f (pick z (bytes k) (refused 17)) (refused 12)
 
 module _ (i : Intake) (b : Buffers) (out : List ℕ) (o : Outcome) where
-  by-refused : (f z : Bool) (n k : ℕ) → refused n ≡ sized_by f z k → untaken n i b out ≡ pick (eqb (number f z) 0) o (untaken (number f z) i b out)
-  by-refused true true n k h = let z : ◌≡◌ {A = ℕ} 0 1 = cc in absurd (omega arith)
-  by-refused true false n k h = let z : n ≡ 17 = cc in ap (λ n. untaken n i b out) z
-  by-refused false z n k h = let z : n ≡ 12 = cc in ap (λ n. untaken n i b out) z
+  by_refused : (f z : Bool) (n k : ℕ) → refused n ≡ sized_by f z k → untaken n i b out ≡ pick (eqb (number f z) 0) o (untaken (number f z) i b out)
+  by_refused true true n k h = let z : ◌≡◌ {A = ℕ} 0 1 = cc in absurd (omega arith)
+  by_refused true false n k h = let z : n ≡ 17 = cc in ap (λ n. untaken n i b out) z
+  by_refused false z n k h = let z : n ≡ 12 = cc in ap (λ n. untaken n i b out) z
 
   by_bytes : (f z : Bool) (n k : ℕ) → bytes n ≡ sized_by f z k → (z ≡ true) × (n ≡ k) × (o ≡ pick (eqb (number f z) 0) o (untaken (number f z) i b out))
   by_bytes true true n k h = (refl, cc, refl)
@@ -68,25 +68,25 @@ pub record Fits (i : Intake) (b : Buffers) (r : Response) (body out : List ℕ) 
   pub same : judged i b out (answered_with i.session b r body i.kept) ≡ replied i b r body out
 
 module _ (i : Intake) (b : Buffers) (r : Response) (body out : List ℕ) (n : ℕ) where
-  pub reply-refused : refused n ≡ due_sized (due_in i.session.phase) r body → untaken n i b out ≡ replied i b r body out
+  pub reply_refused : refused n ≡ due_sized (due_in i.session.phase) r body → untaken n i b out ≡ replied i b r body out
   unfolding replied_to
-  reply-refused = go (due_in i.session.phase)
+  reply_refused = go (due_in i.session.phase)
     where
       go : (d : Due) → refused n ≡ due_sized d r body → untaken n i b out ≡ replied_by d i b r body out
       go (due w) h =
-          by-refused i b out (judged i b out (answered_with i.session b r body i.kept)) (fits_whole w r body) (is_writable (response_line r) body) n (length (stanza_text (response_line r) body)) h
+          by_refused i b out (judged i b out (answered_with i.session b r body i.kept)) (fits_whole w r body) (is_writable (response_line r) body) n (length (stanza_text (response_line r) body)) h
       go (undue m) h = let z : n ≡ m = cc in ap (λ n. untaken n i b out) z
 
-  due-waits : (p : Phase) → bytes n ≡ due_sized (due_in p) r body → is_waiting client p ≡ true
-  due-waits One h = let z : ◌≡◌ {A = ℕ} 0 1 = cc in absurd (omega arith)
-  due-waits Two h = let z : ◌≡◌ {A = ℕ} 0 1 = cc in absurd (omega arith)
-  due-waits (Awaiting w) h = refl
-  due-waits Ended h = let z : ◌≡◌ {A = ℕ} 0 1 = cc in absurd (omega arith)
-  due-waits Closed h = let z : ◌≡◌ {A = ℕ} 0 1 = cc in absurd (omega arith)
+  due_waits : (p : Phase) → bytes n ≡ due_sized (due_in p) r body → is_waiting client p ≡ true
+  due_waits One h = let z : ◌≡◌ {A = ℕ} 0 1 = cc in absurd (omega arith)
+  due_waits Two h = let z : ◌≡◌ {A = ℕ} 0 1 = cc in absurd (omega arith)
+  due_waits (Awaiting w) h = refl
+  due_waits Ended h = let z : ◌≡◌ {A = ℕ} 0 1 = cc in absurd (omega arith)
+  due_waits Closed h = let z : ◌≡◌ {A = ℕ} 0 1 = cc in absurd (omega arith)
 
-  pub reply-fits : bytes n ≡ due_sized (due_in i.session.phase) r body → Fits i b r body out n
+  pub reply_fits : bytes n ≡ due_sized (due_in i.session.phase) r body → Fits i b r body out n
   unfolding replied_to
-  reply-fits h = let z = go (due_in i.session.phase) h in record { waits = due-waits i.session.phase h; writable = z.0; size = z.1; same = z.2 }
+  reply_fits h = let z = go (due_in i.session.phase) h in record { waits = due_waits i.session.phase h; writable = z.0; size = z.1; same = z.2 }
     where
       go : (d : Due) → bytes n ≡ due_sized d r body →
           (is_writable (response_line r) body ≡ true) × (n ≡ length (stanza_text (response_line r) body)) × (judged i b out (answered_with i.session b r body i.kept) ≡ replied_by d i b r body out)
@@ -107,7 +107,7 @@ module _ (s : CodeSession) (xs hs : List (List ℕ)) (input : List ℕ) (waits :
 
 -- the response is longer than the output buffer
 pub reply_short : (w : List ℕ) (u : Taken) (n m : ℕ) → length w ≡ m → n < m → false ≡ has_room (reply_ahead w u) n
-reply_short w u n m e h = sym (less-room no_stanza w u n (omega (arith, e)))
+reply_short w u n m e h = sym (less_room no_stanza w u n (omega (arith, e)))
 
 -- or there is room left for what stands behind it
 pub reply_room : (w : List ℕ) (u : Taken) (n m : ℕ) → length w ≡ m → m ≤ n → has_room u (n - m) ≡ has_room (reply_ahead w u) n
@@ -139,19 +139,19 @@ module _ (s : CodeSession) (xs hs : List (List ℕ)) (r : Response) (body back o
   ahead b = answered_with (session_of s xs hs) b r body back
 
   module _ (e t d : List ℕ) (held : (b : BuffersOne) → is_held (ahead (lent b e t d)) out ≡ true) where
-    whole-fits : (b : BuffersOne) → length (ahead (lent b e t d)).written ≤ length out
-    whole-fits b =
+    whole_fits : (b : BuffersOne) → length (ahead (lent b e t d)).written ≤ length out
+    whole_fits b =
         let u = ahead (lent b e t d) in
         leb-true (length u.written) (length out) (and_true (leb (length u.written) (length out)) (leb (length u.intake.kept) 8192) (held b)).0
 
     fits : length text ≤ length out
-    fits = omega (arith, whole-fits none_lent, length-append text (taken_text client (answered (session_of s xs hs)) (lent none_lent e t d) [] back).written)
+    fits = omega (arith, whole_fits none_lent, length-append text (taken_text client (answered (session_of s xs hs)) (lent none_lent e t d) [] back).written)
 
     put_front : out' ≡ text ++ drop (length text) out
     put_front = put ∙ ap (λ f. pick f (filled text out) out) writable ∙ filled_front text out fits
 
-    put-size : length out' ≡ length out
-    put-size = let l = ap length put_front ∙ length-append text (drop (length text) out) in omega (arith, l, length-drop (length text) out, fits)
+    put_size : length out' ≡ length out
+    put_size = let l = ap length put_front ∙ length-append text (drop (length text) out) in omega (arith, l, length-drop (length text) out, fits)
 
     same : (b : BuffersOne) → behind_answer g xs hs (lent b e t d) [] back out' ≡ ahead (lent b e t d)
     same b =
@@ -161,19 +161,19 @@ module _ (s : CodeSession) (xs hs : List (List ℕ)) (r : Response) (body back o
         ∙ ap (reply_ahead text) (behind_none client (answered (session_of s xs hs)) (lent b e t d) [] (cut start [] back).texts (cut start [] back).rest)
 
     -- what was kept back may be received
-    pub reply-takes : (input : List ℕ) → 16384 ≤ length input → MayTake g xs hs e t d back input out'
-    reply-takes input i = record {
+    pub reply_takes : (input : List ℕ) → 16384 ≤ length input → MayTake g xs hs e t d back input out'
+    reply_takes input i = record {
       few = omega (arith, ap (λ g. g.count) begun);
-      within = omega (arith, ap (λ g. g.written) begun, size, put-size, fits);
+      within = omega (arith, ap (λ g. g.written) begun, size, put_size, fits);
       long = i;
-      held = λ b. ap (λ t. is_held t out') (same b) ∙ ap (λ n. has_room (ahead (lent b e t d)) n) put-size ∙ held b;
+      held = λ b. ap (λ t. is_held t out') (same b) ∙ ap (λ n. has_room (ahead (lent b e t d)) n) put_size ∙ held b;
     }
 
     -- the response stands before what was written for it
-    pub reply-taken : (b : BuffersOne) (x : CodeReceived) (xs' : List (List ℕ)) (input after e' t' d' out'' : List ℕ) →
+    pub reply_taken : (b : BuffersOne) (x : CodeReceived) (xs' : List (List ℕ)) (input after e' t' d' out'' : List ℕ) →
         Answers x xs' hs input after (lent b e' t' d') out' out'' (behind_answer g xs hs (lent b e t d) [] back out') →
         Answers x xs' hs input after (lent b e' t' d') out out'' (ahead (lent b e t d))
-    reply-taken b x xs' input after e' t' d' out'' h =
+    reply_taken b x xs' input after e' t' d' out'' h =
         let a = subst (λ t. Answers x xs' hs input after (lent b e' t' d') out' out'' t) (same b) h in
         let v = (taken_text client (answered (session_of s xs hs)) (lent b e t d) [] back).written in
         let w = (ahead (lent b e t d)).written in
@@ -183,7 +183,7 @@ module _ (s : CodeSession) (xs hs : List (List ℕ)) (r : Response) (body back o
         record {
           says = a.says;
           size = a.size;
-          output = a.output ∙ filled_front w out' (omega (arith, whole-fits b, put-size)) ∙ ap (λ i. w ++ i) rest ∙ sym (filled_front w out (whole-fits b));
+          output = a.output ∙ filled_front w out' (omega (arith, whole_fits b, put_size)) ∙ ap (λ i. w ++ i) rest ∙ sym (filled_front w out (whole_fits b));
         }
 
 -- ---- the copy
@@ -194,13 +194,13 @@ module _ (input store store' : List ℕ) (at k m : ℕ) (same : m ≡ k) (within
   abbrev part : List ℕ
   part = take m (drop at input)
 
-  part-long : length part ≡ k
-  part-long = length-take-le m (drop at input) (omega (arith, length-drop at input)) ∙ same
+  part_long : length part ≡ k
+  part_long = length-take-le m (drop at input) (omega (arith, length-drop at input)) ∙ same
 
-  pub back-copied : take k store' ≡ take k (drop at input)
-  back-copied =
-      ap₂ take (sym part-long) (copied ∙ filled_front part store (omega (arith, part-long))) ∙ take-append_seam part (drop (length part) store)
+  pub back_copied : take k store' ≡ take k (drop at input)
+  back_copied =
+      ap₂ take (sym part_long) (copied ∙ filled_front part store (omega (arith, part_long))) ∙ take-append_seam part (drop (length part) store)
       ∙ ap (λ m. take m (drop at input)) same
 
   pub back_long : k ≡ length (take k store')
-  back_long = sym (ap length back-copied ∙ length-take-le k (drop at input) (omega (arith, length-drop at input)))
+  back_long = sym (ap length back_copied ∙ length-take-le k (drop at input) (omega (arith, length-drop at input)))

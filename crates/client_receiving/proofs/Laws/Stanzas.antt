@@ -62,22 +62,22 @@ module _ (s : Session) (b : BuffersTwo) (line body : List ℕ) (k : ℕ) where
   abbrev by : ℕ → List ℕ → Received
   by n out = pick (eqb n 0) (accepted out) (refused_receipt n s b out)
 
-  by-is : (out : List ℕ) → received_stanza s b out line body k ≡ by (first_of number (shortness answer out)) out
+  by_is : (out : List ℕ) → received_stanza s b out line body k ≡ by (first_of number (shortness answer out)) out
   unfolding received_stanza
-  by-is out = refl
+  by_is out = refl
 
-  answer-room : length answer ≤ length ample
-  answer-room = omega (arith, at_once_short (at_once s.screen cmd), room_size)
+  answer_room : length answer ≤ length ample
+  answer_room = omega (arith, at_once_short (at_once s.screen cmd), room_size)
 
-  by-long : (out : List ℕ) → length answer ≤ length out → number ≡ 0 → received_stanza s b out line body k ≡ accepted out
-  by-long out l z = by-is out ∙ ap (λ n. by n out) (ap₂ first_of z (ap (λ f. pick f 15 0) (le-ltb (length out) (length answer) l)))
+  by_long : (out : List ℕ) → length answer ≤ length out → number ≡ 0 → received_stanza s b out line body k ≡ accepted out
+  by_long out l z = by_is out ∙ ap (λ n. by n out) (ap₂ first_of z (ap (λ f. pick f 15 0) (le-ltb (length out) (length answer) l)))
 
-  by-short : (out : List ℕ) → length out < length answer → number ≡ 0 → received_stanza s b out line body k ≡ refused_receipt 15 s b out
-  by-short out l z = by-is out ∙ ap (λ n. by n out) (ap₂ first_of z (ap (λ f. pick f 15 0) (lt-ltb (length out) (length answer) l)))
+  by_short : (out : List ℕ) → length out < length answer → number ≡ 0 → received_stanza s b out line body k ≡ refused_receipt 15 s b out
+  by_short out l z = by_is out ∙ ap (λ n. by n out) (ap₂ first_of z (ap (λ f. pick f 15 0) (lt-ltb (length out) (length answer) l)))
 
-  by-refused : (out : List ℕ) → (number ≡ 0 → ⊥) → received_stanza s b out line body k ≡ refused_receipt number s b out
-  by-refused out z =
-      by-is out ∙ ap (λ f. by (pick f (shortness answer out) number) out) (ne_eqb number 0 z)
+  by_refused : (out : List ℕ) → (number ≡ 0 → ⊥) → received_stanza s b out line body k ≡ refused_receipt number s b out
+  by_refused out z =
+      by_is out ∙ ap (λ f. by (pick f (shortness answer out) number) out) (ne_eqb number 0 z)
       ∙ ap (λ f. pick f (accepted out) (refused_receipt number s b out)) (ne_eqb number 0 z)
 
   judged : (out : List ℕ) → Judged out
@@ -86,11 +86,11 @@ module _ (s : Session) (b : BuffersTwo) (line body : List ℕ) (k : ℕ) where
       go : (d : Bool) → eqb number 0 ≡ d → (f : Bool) → ltb (length out) (length answer) ≡ f → Judged out
       go true h true g =
           let l = ltb-true (length out) (length answer) g in
-          overflows l (by-short out l (eqb-true number 0 h)) (by-long ample answer-room (eqb-true number 0 h))
+          overflows l (by_short out l (eqb-true number 0 h)) (by_long ample answer_room (eqb-true number 0 h))
       go true h false g =
           let l = ltb-false (length out) (length answer) g in
-          accepts l (by-long out l (eqb-true number 0 h)) (by-long ample answer-room (eqb-true number 0 h))
-      go false h f g = refuses number (eqb-false number 0 h) (by-refused out (eqb-false number 0 h)) (by-refused ample (eqb-false number 0 h))
+          accepts l (by_long out l (eqb-true number 0 h)) (by_long ample answer_room (eqb-true number 0 h))
+      go false h f g = refuses number (eqb-false number 0 h) (by_refused out (eqb-false number 0 h)) (by_refused ample (eqb-false number 0 h))
 
 -- ---- what a stanza and the text behind it come to
 
@@ -128,10 +128,10 @@ module _ (s : Session) (b : Buffers) (t : List ℕ) (l m k : ℕ) (out : List �
   onward r w = one_more (command (text_of_word wrd)) w
       (taken_text client r.session (buffers_of b.first r.buffers) (awaited_behind client r.session.phase t') x)
 
-  taken-accepted : stanza_in ample ≡ acc ample → taken ≡ onward (acc ample) ans
-  taken-accepted q =
+  taken_accepted : stanza_in ample ≡ acc ample → taken ≡ onward (acc ample) ans
+  taken_accepted q =
       ap (λ o. stanza_taken client b o t' x) (stanza_call_lem s b t ample l m k two h ∙ ap (received_two_outcome b.first) q)
-      ∙ ap (onward (acc ample)) (all_written ans ample (answer-room s b.second (line_of t l) (body_behind t l k) k))
+      ∙ ap (onward (acc ample)) (all_written ans ample (answer_room s b.second (line_of t l) (body_behind t l k) k))
 
   taken_refused : (n : ℕ) → (n ≡ 0 → ⊥) → stanza_in ample ≡ refused_receipt n s b.second ample →
       taken ≡ no_more n (emptied (refused_receipt n s b.second ample).session []) b
@@ -141,16 +141,16 @@ module _ (s : Session) (b : Buffers) (t : List ℕ) (l m k : ℕ) (out : List �
       ap (λ o. stanza_taken client b o t' x) (stanza_call_lem s b t ample l m k two h ∙ ap (received_two_outcome b.first) q)
       ∙ ap (λ f. pick f (one_more (last_in nothing) (take 0 ample) u) (no_more n (emptied v.session []) b)) (ne_eqb n 0 z)
 
-  at-accepted : length ans ≤ length out → stanza_in ample ≡ acc ample → TookOn taken wrd (length ans) (acc out) b out t' x
-  at-accepted f q = record {
-    same = taken-accepted q ∙ ap (onward (acc ample)) (sym (all_written ans out f));
+  at_accepted : length ans ≤ length out → stanza_in ample ≡ acc ample → TookOn taken wrd (length ans) (acc out) b out t' x
+  at_accepted f q = record {
+    same = taken_accepted q ∙ ap (onward (acc ample)) (sym (all_written ans out f));
     fits = f;
     rest = ap (drop (length ans)) (filled_front ans out f) ∙ drop_at ans (drop (length ans) out) (length ans) refl;
     size = omega (arith, ap length (filled_front ans out f), length-append ans (drop (length ans) out), length-drop (length ans) out);
   }
 
-  pub took-on : (w : WordTwo) (i j : ℕ) → r.answer ≡ took w i j → TookOn taken w j r b out t' x
-  took-on w i j q = go (judged s b.second (line_of t l) (body_behind t l k) k out)
+  pub took_on : (w : WordTwo) (i j : ℕ) → r.answer ≡ took w i j → TookOn taken w j r b out t' x
+  took_on w i j q = go (judged s b.second (line_of t l) (body_behind t l k) k out)
     where
       go : Judged s b.second (line_of t l) (body_behind t l k) k out → TookOn taken w j r b out t' x
       go (accepts f eo er) =
@@ -158,7 +158,7 @@ module _ (s : Session) (b : Buffers) (t : List ℕ) (l m k : ℕ) (out : List �
           let wz : wrd ≡ w = cc in
           let jz : length ans ≡ j = cc in
           subst (λ r. TookOn taken w j r b out t' x) (sym (e ∙ eo))
-          (subst (λ w. TookOn taken w j (acc out) b out t' x) wz (subst (λ j. TookOn taken wrd j (acc out) b out t' x) jz (at-accepted f er)))
+          (subst (λ w. TookOn taken w j (acc out) b out t' x) wz (subst (λ j. TookOn taken wrd j (acc out) b out t' x) jz (at_accepted f er)))
       go (refuses n z eo er) =
           let y : took w i j ≡ declined n = sym q ∙ ap (λ r. r.answer) (e ∙ eo) in
           let z : ◌≡◌ {A = ℕ} 0 1 = cc in
@@ -168,8 +168,8 @@ module _ (s : Session) (b : Buffers) (t : List ℕ) (l m k : ℕ) (out : List �
           let z : ◌≡◌ {A = ℕ} 0 1 = cc in
           absurd (omega arith)
 
-  pub declined-is : (n : ℕ) → r.answer ≡ declined n → length taken.written ≤ length out → Declined taken n r b out
-  declined-is n q w = go (judged s b.second (line_of t l) (body_behind t l k) k out)
+  pub declined_is : (n : ℕ) → r.answer ≡ declined n → length taken.written ≤ length out → Declined taken n r b out
+  declined_is n q w = go (judged s b.second (line_of t l) (body_behind t l k) k out)
     where
       go : Judged s b.second (line_of t l) (body_behind t l k) k out → Declined taken n r b out
       go (accepts f eo er) =
@@ -183,7 +183,7 @@ module _ (s : Session) (b : Buffers) (t : List ℕ) (l m k : ℕ) (out : List �
           (subst (λ n. Declined taken n (refused_receipt i s b.second out) b out) nz (record { same = taken_refused i z er; output = refl }))
       go (overflows f eo er) =
           let more = taken_text client (acc ample).session (buffers_of b.first (acc ample).buffers) (awaited_behind client (acc ample).session.phase t') x in
-          absurd (omega (arith, ap (λ u. length u.written) (taken-accepted er), length-append ans more.written))
+          absurd (omega (arith, ap (λ u. length u.written) (taken_accepted er), length-append ans more.written))
 
 -- a text that no stanza begins
 pub fault_is : (s : Session) (b : Buffers) (t x : List ℕ) (m : ℕ) → s.phase ≡ Two → read_first t ≡ refused m →

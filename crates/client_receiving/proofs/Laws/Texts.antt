@@ -14,7 +14,7 @@ use Rattle.refusal.specs.Number.{number_of}
 use Rattle.refusal.specs.declared.Refusal.{Refusal}
 use Rattle.refusal.specs.declared.Verdict.TheVariants.{Accepted, Refused}
 use Rattle.refusal.proofs.Laws.Booleans.{and_true}
-use Rattle.refusal.proofs.Laws.Lists.{part-rest, put_rest}
+use Rattle.refusal.proofs.Laws.Lists.{part_rest, put_rest}
 use Rattle.stanza.specs.Automaton.{start}
 use Rattle.stanza.specs.declared.places.Place.TheVariants as place
 use Rattle.stanza.specs.Reading.{stanza, refused, read_first}
@@ -34,7 +34,7 @@ use Rattle.chunks.specs.Taking.{client, Turn, reads, keeps_back, turn_at, ample,
 use Rattle.chunks.specs.Chunks.{is_held}
 use Rattle.chunks.specs.Uncut.{is_waiting}
 use Rattle.chunks.proofs.Laws.Bounds.{stanza_long}
-use Rattle.chunks.proofs.Laws.Texts.{stanza_taken, text-kept-back, text-stanza, behind_more}
+use Rattle.chunks.proofs.Laws.Texts.{stanza_taken, text_kept_back, text_stanza, behind_more}
 use Rattle.intake.specs.Intake.{intake_of, last_said, taken_said, stored_in}
 use Rattle.intake.specs.Settling.{MaySettle, Says}
 use Rattle.intake.specs.declared.answers.Last.{Last as CodeLast}
@@ -46,7 +46,7 @@ use Rattle.client_room.proofs.Laws.Stanzas.{line_of, body_behind, reads_two}
 use Rattle.client_room.proofs.Laws.Room.{next_turn, next_first, next_within}
 use Rattle.client_receiving.specs.Stanzas.{step_said}
 use Rattle.client_receiving.specs.Texts.{lent, behind_answer, Answers}
-use Rattle.client_receiving.proofs.Laws.Stanzas.{TookOn, took-on, declined-is}
+use Rattle.client_receiving.proofs.Laws.Stanzas.{TookOn, took_on, declined_is}
 
 -- ---- what waits
 
@@ -96,14 +96,14 @@ pub back_short : (n : ℕ) (g : Last) (w : List ℕ) (s : Session) (b : Buffers)
 back_short n g w s b a x out h t =
     let u = taken_text client s b a x in
     let v = (and_true (leb (length (w ++ u.written)) (length out)) (leb (length u.intake.kept) 8192) h).1 in
-    omega (arith, leb-true (length u.intake.kept) 8192 v, ap (λ u. length u.intake.kept) (text-kept-back client s b a t x))
+    omega (arith, leb-true (length u.intake.kept) 8192 v, ap (λ u. length u.intake.kept) (text_kept_back client s b a t x))
 
 -- ---- an answer by what settling says
 
 module _ (r : CodeReceived) (xs hs : List (List ℕ)) (before after : List ℕ) (b : Buffers) (out₀ out : List ℕ) (w : ℕ) (t t₀ : Taken) where
-  pub answers-says : Says client r xs hs before after (take w out) b t → t₀ ≡ t → r.written ≡ w → w ≤ length out → length out ≡ length out₀ → drop w out ≡ drop w out₀ →
+  pub answers_says : Says client r xs hs before after (take w out) b t → t₀ ≡ t → r.written ≡ w → w ≤ length out → length out ≡ length out₀ → drop w out ≡ drop w out₀ →
       Answers r xs hs before after b out₀ out t₀
-  answers-says h e size within long rest = record {
+  answers_says h e size within long rest = record {
     says = record { taken = ap (λ v. taken_said client r xs hs after v b) (sym v) ∙ h.taken ∙ sym e; input = h.input };
     size = size ∙ sym l ∙ ap length v;
     output =
@@ -161,8 +161,8 @@ module _ (n : ℕ) (g : Last) (wr : ℕ) (out : List ℕ) (fit : wr ≤ length o
   abbrev put : List ℕ → List ℕ
   put o = take wr out ++ (o ++ drop (length out - wr) (drop wr out))
 
-  part-long : length part ≡ length out - wr
-  part-long = ap length (part-rest wr out) ∙ length-drop wr out
+  part_long : length part ≡ length out - wr
+  part_long = ap length (part_rest wr out) ∙ length-drop wr out
 
   front_long : length (take wr out) ≡ wr
   front_long = length-take-le wr out fit
@@ -173,20 +173,20 @@ module _ (n : ℕ) (g : Last) (wr : ℕ) (out : List ℕ) (fit : wr ≤ length o
       ap (behind n g (take wr out)) e ∙ behind_more n g g' (take wr out) (take j o) v
       ∙ ap (λ w. behind (n + 1) g' w v) (sym (ap (take (wr + j)) (put_rest wr out o) ∙ ap (λ i. take (i + j) (take wr out ++ o)) (sym front_long) ∙ take-append-add (take wr out) o j))
 
-  pub on-size : (o : List ℕ) → length o ≡ length part → length (put o) ≡ length out
-  on-size o l = omega (arith, ap length (put_rest wr out o), length-append (take wr out) o, front_long, part-long)
+  pub on_size : (o : List ℕ) → length o ≡ length part → length (put o) ≡ length out
+  on_size o l = omega (arith, ap length (put_rest wr out o), length-append (take wr out) o, front_long, part_long)
 
-  pub on-rest : (o : List ℕ) (j : ℕ) → drop j o ≡ drop j part → drop (wr + j) (put o) ≡ drop (wr + j) out
-  on-rest o j e =
+  pub on_rest : (o : List ℕ) (j : ℕ) → drop j o ≡ drop j part → drop (wr + j) (put o) ≡ drop (wr + j) out
+  on_rest o j e =
       ap (drop (wr + j)) (put_rest wr out o) ∙ ap (λ i. drop (i + j) (take wr out ++ o)) (sym front_long) ∙ drop-append-add (take wr out) o j
-      ∙ e ∙ ap (drop j) (part-rest wr out) ∙ drop-drop j wr out
+      ∙ e ∙ ap (drop j) (part_rest wr out) ∙ drop-drop j wr out
 
-  pub on-within : (j : ℕ) → j ≤ length part → wr + j ≤ length out
-  on-within j l = omega (arith, part-long)
+  pub on_within : (j : ℕ) → j ≤ length part → wr + j ≤ length out
+  on_within j l = omega (arith, part_long)
 
   -- where nothing was written
   pub put_same : (o : List ℕ) → o ≡ part → put o ≡ out
-  put_same o e = put_rest wr out o ∙ ap (λ o. take wr out ++ o) (e ∙ part-rest wr out) ∙ take-append-drop wr out
+  put_same o e = put_rest wr out o ∙ ap (λ o. take wr out ++ o) (e ∙ part_rest wr out) ∙ take-append-drop wr out
 
 -- ---- the loop's invariant
 
@@ -211,8 +211,8 @@ pub record Going (r₀ r : CodeReceived) (xs₀ xs hs : List (List ℕ)) (e₀ s
       behind_answer r xs hs (lent b e s d) (awaited_behind client r.session.phase (take (at - begun) (drop begun text))) (drop at text) out
 
 module _ (r₀ : CodeReceived) (xs₀ hs : List (List ℕ)) (e₀ s₀ d₀ text out₀ : List ℕ) where
-  pub going-first : r₀.count ≤ 1 → r₀.written ≤ length out₀ → Going r₀ r₀ xs₀ xs₀ hs e₀ s₀ d₀ e₀ s₀ d₀ text out₀ out₀ 0 0
-  going-first few within = record {
+  pub going_first : r₀.count ≤ 1 → r₀.written ≤ length out₀ → Going r₀ r₀ xs₀ xs₀ hs e₀ s₀ d₀ e₀ s₀ d₀ text out₀ out₀ 0 0
+  going_first few within = record {
     ordered = omega arith;
     within = omega arith;
     short = omega arith;
@@ -237,21 +237,21 @@ module _ (r₀ : CodeReceived) (xs₀ hs : List (List ℕ)) (e₀ s₀ d₀ text
     held_on b = subst (λ t. is_held t out₀ ≡ true) (g.same b) (held b)
 
     -- it may be settled
-    pub going-settles : (b : BuffersOne) (u : Turn) (input : List ℕ) (n : ℕ) → u ≡ turn_at client r.session.phase →
+    pub going_settles : (b : BuffersOne) (u : Turn) (input : List ℕ) (n : ℕ) → u ≡ turn_at client r.session.phase →
         refused n ≡ next_in (turn_at client r.session.phase) (take (length text - at) (drop at text)) → 16384 ≤ length input →
         MaySettle client r.session.phase u awaited (take (length text - at) (drop at text)) input
-    going-settles b u input n t h i =
+    going_settles b u input n t h i =
         may_settle r.session.phase u (take (at - begun) (drop begun text)) (take (length text - at) (drop at text)) input n t h
         (omega (arith, length-take (at - begun) (drop begun text), g.short, g.ordered)) i
-        (λ k. omega (arith, ap length (part-rest at text), back_short r.count (last_said r.last) (take r.written out) (session_of r.session xs hs) (lent b e s d) awaited (drop at text) out₀ (held_on b) k))
+        (λ k. omega (arith, ap length (part_rest at text), back_short r.count (last_said r.last) (take r.written out) (session_of r.session xs hs) (lent b e s d) awaited (drop at text) out₀ (held_on b) k))
 
     pub going_settled : (b : BuffersOne) (y : CodeReceived) (input after : List ℕ) →
         Says client y xs hs input after (take r.written out) (lent b e s d) (behind r.count (last_said r.last) (take r.written out)
         (taken_text client (session_of r.session xs hs) (lent b e s d) awaited (take (length text - at) (drop at text)))) → y.written ≡ r.written →
         Answers y xs hs input after (lent b e s d) out₀ out (behind_answer r₀ xs₀ hs (lent b e₀ s₀ d₀) [] text out₀)
     going_settled b y input after h w =
-        answers-says y xs hs input after (lent b e s d) out₀ out r.written _ _ h
-        (g.same b ∙ ap (λ x. behind_answer r xs hs (lent b e s d) awaited x out) (sym (part-rest at text))) w g.room g.size g.rest
+        answers_says y xs hs input after (lent b e s d) out₀ out r.written _ _ h
+        (g.same b ∙ ap (λ x. behind_answer r xs hs (lent b e s d) awaited x out) (sym (part_rest at text))) w g.room g.size g.rest
 
     -- one stanza more
     module _ (l m k : ℕ) (h : stanza l m k ≡ next_in (turn_at client r.session.phase) (take (length text - at) (drop at text))) (y : CodeStep)
@@ -276,24 +276,24 @@ module _ (r₀ : CodeReceived) (xs₀ hs : List (List ℕ)) (e₀ s₀ d₀ text
 
       ahead_is : (b : BuffersOne) → taken_text client now (lent b e s d) awaited (drop at text) ≡ ahead b
       ahead_is b =
-          ap (taken_text client now (lent b e s d) awaited) (sym (part-rest at text)) ∙ text-stanza client now (lent b e s d) awaited turn rest l m k first
+          ap (taken_text client now (lent b e s d) awaited) (sym (part_rest at text)) ∙ text_stanza client now (lent b e s d) awaited turn rest l m k first
 
-      took-here : (b : BuffersOne) (w : WordTwo) (i j : ℕ) → taking_said y.answer ≡ took w i j →
+      took_here : (b : BuffersOne) (w : WordTwo) (i j : ℕ) → taking_said y.answer ≡ took w i j →
           TookOn (ahead b) w j (step_said y xs' hs e' s' d' o') (lent b e s d) (take (length out - r.written) (drop r.written out)) (take k rest) (drop k rest)
-      took-here b w i j z =
-          took-on now (lent b e s d) rest l m k (take (length out - r.written) (drop r.written out)) (reads_two r.session.phase turn) first
+      took_here b w i j z =
+          took_on now (lent b e s d) rest l m k (take (length out - r.written) (drop r.written out)) (reads_two r.session.phase turn) first
           (step_said y xs' hs e' s' d' o') q (take k rest) (drop k rest) w i j z
 
       -- its answer fits, and the counts do not wrap
-      pub going-fits : (w : WordTwo) (i j : ℕ) → taking_said y.answer ≡ took w i j → r.written + j ≤ length out
-      going-fits w i j z = on-within r.count (last_said r.last) r.written out g.room j (took-here none_lent w i j z).fits
+      pub going_fits : (w : WordTwo) (i j : ℕ) → taking_said y.answer ≡ took w i j → r.written + j ≤ length out
+      going_fits w i j z = on_within r.count (last_said r.last) r.written out g.room j (took_here none_lent w i j z).fits
 
-      pub going-few : r.count + 5 ≤ length text
-      going-few = omega (arith, g.few, g.within, stanza_long rest l m k first, next_within (turn_at client r.session.phase) text at l m k h g.within)
+      pub going_few : r.count + 5 ≤ length text
+      going_few = omega (arith, g.few, g.within, stanza_long rest l m k first, next_within (turn_at client r.session.phase) text at l m k h g.within)
 
-      pub going-size : length o' ≡ length (take (length out - r.written) (drop r.written out)) →
+      pub going_size : length o' ≡ length (take (length out - r.written) (drop r.written out)) →
           length (take r.written out ++ (o' ++ drop (length out - r.written) (drop r.written out))) ≡ length out₀
-      going-size z = on-size r.count (last_said r.last) r.written out g.room o' z ∙ g.size
+      going_size z = on_size r.count (last_said r.last) r.written out g.room o' z ∙ g.size
 
       pub going_on : (w : WordTwo) (i j : ℕ) (x : CodeReceived) → taking_said y.answer ≡ took w i j →
           x ≡ record { verdict = Accepted; count = r.count + 1; last = CommandTwo w; written = r.written + j; session = y.session } →
@@ -301,7 +301,7 @@ module _ (r₀ : CodeReceived) (xs₀ hs : List (List ℕ)) (e₀ s₀ d₀ text
           (1 ≤ k) × (k ≤ 8192) × (at + k ≤ length text) →
           Going r₀ x xs₀ xs' hs e₀ s₀ d₀ e' s' d' text out₀ (take r.written out ++ (o' ++ drop (length out - r.written) (drop r.written out))) at (at + k)
       going_on w i j x z xz c le ls ld v =
-          let t = took-here none_lent w i j z in
+          let t = took_here none_lent w i j z in
           let kz : k ≡ at + k - at = omega arith in
           subst (λ x. Going r₀ x xs₀ xs' hs e₀ s₀ d₀ e' s' d' text out₀ (take r.written out ++ (o' ++ drop (length out - r.written) (drop r.written out))) at (at + k)) (sym xz)
           (record {
@@ -309,25 +309,25 @@ module _ (r₀ : CodeReceived) (xs₀ hs : List (List ℕ)) (e₀ s₀ d₀ text
             within = v.2;
             short = omega (arith, v.1);
             few = omega (arith, g.few, v.0);
-            room = omega (arith, on-within r.count (last_said r.last) r.written out g.room j t.fits, on-size r.count (last_said r.last) r.written out g.room o' t.size);
-            size = on-size r.count (last_said r.last) r.written out g.room o' t.size ∙ g.size;
-            rest = on-rest r.count (last_said r.last) r.written out g.room o' j t.rest ∙ further;
+            room = omega (arith, on_within r.count (last_said r.last) r.written out g.room j t.fits, on_size r.count (last_said r.last) r.written out g.room o' t.size);
+            size = on_size r.count (last_said r.last) r.written out g.room o' t.size ∙ g.size;
+            rest = on_rest r.count (last_said r.last) r.written out g.room o' j t.rest ∙ further;
             name = ap (λ c. c.name) c ∙ g.name;
             errors = le ∙ g.errors;
             stanzas = ls ∙ g.stanzas;
             returned = ld ∙ g.returned;
             same = λ b. g.same b ∙ ap (behind r.count (last_said r.last) (take r.written out)) (ahead_is b)
-                ∙ on_same r.count (last_said r.last) r.written out g.room (ahead b) _ (command (text_of_word w)) o' j (took-here b w i j z).same
+                ∙ on_same r.count (last_said r.last) r.written out g.room (ahead b) _ (command (text_of_word w)) o' j (took_here b w i j z).same
                 ∙ ap₂ (λ a x. behind (r.count + 1) (command (text_of_word w)) (take (r.written + j) (take r.written out ++ (o' ++ drop (length out - r.written) (drop r.written out))))
                 (taken_text client (session_of y.session xs' hs) (lent b e' s' d') (awaited_behind client y.session.phase a) x))
-                (ap (take k) (part-rest at text) ∙ ap (λ i. take i (drop at text)) kz)
-                (ap (drop k) (part-rest at text) ∙ drop-drop k at text);
+                (ap (take k) (part_rest at text) ∙ ap (λ i. take i (drop at text)) kz)
+                (ap (drop k) (part_rest at text) ∙ drop-drop k at text);
           })
         where
           further : drop (r.written + j) out ≡ drop (r.written + j) out₀
           further = sym (drop-drop j r.written out) ∙ ap (drop j) g.rest ∙ drop-drop j r.written out₀
 
-      pub going-refused : (b : BuffersOne) (n : Refusal) (x : CodeReceived) (input : List ℕ) → taking_said y.answer ≡ declined (number_of n) →
+      pub going_refused : (b : BuffersOne) (n : Refusal) (x : CodeReceived) (input : List ℕ) → taking_said y.answer ≡ declined (number_of n) →
           x ≡ record {
             verdict = Refused n;
             count = r.count;
@@ -337,17 +337,17 @@ module _ (r₀ : CodeReceived) (xs₀ hs : List (List ℕ)) (e₀ s₀ d₀ text
           } →
           Answers x xs' hs input input (lent b e' s' d') out₀ (take r.written out ++ (o' ++ drop (length out - r.written) (drop r.written out)))
           (behind_answer r₀ xs₀ hs (lent b e₀ s₀ d₀) [] text out₀)
-      going-refused b n x input z xz =
+      going_refused b n x input z xz =
           let part = take (length out - r.written) (drop r.written out) in
           let u = taken_text client now (lent b e s d) awaited (drop at text) in
           let v = leb-true (length (take r.written out ++ u.written)) (length out₀)
           (and_true (leb (length (take r.written out ++ u.written)) (length out₀)) (leb (length u.intake.kept) 8192) (held_on b)).0 in
-          let t = declined-is now (lent b e s d) rest l m k part (reads_two r.session.phase turn) first
+          let t = declined_is now (lent b e s d) rest l m k part (reads_two r.session.phase turn) first
           (step_said y xs' hs e' s' d' o') q (take k rest) (drop k rest) (number_of n) z
-          (omega (arith, v, length-append (take r.written out) (taken_text client now (lent b e s d) awaited (drop at text)).written, length-take-le r.written out g.room, ap length (part-rest r.written out), length-drop r.written out, ap (λ u. length u.written) (ahead_is b), g.size)) in
+          (omega (arith, v, length-append (take r.written out) (taken_text client now (lent b e s d) awaited (drop at text)).written, length-take-le r.written out g.room, ap length (part_rest r.written out), length-drop r.written out, ap (λ u. length u.written) (ahead_is b), g.size)) in
           let p : take r.written out ++ (o' ++ drop (length out - r.written) (drop r.written out)) ≡ out = put_same r.count (last_said r.last) r.written out g.room o' t.output in
           subst (λ o. Answers x xs' hs input input (lent b e' s' d') out₀ o (behind_answer r₀ xs₀ hs (lent b e₀ s₀ d₀) [] text out₀)) (sym p)
           (subst (λ x. Answers x xs' hs input input (lent b e' s' d') out₀ out (behind_answer r₀ xs₀ hs (lent b e₀ s₀ d₀) [] text out₀)) (sym xz)
-          (answers-says _ xs' hs input input (lent b e' s' d') out₀ out r.written _ _
+          (answers_says _ xs' hs input input (lent b e' s' d') out₀ out r.written _ _
           (stop_says r.count r.last r.written n y.session xs' hs input (take r.written out) (lent b e' s' d'))
           (g.same b ∙ ap (behind r.count (last_said r.last) (take r.written out)) (ahead_is b ∙ t.same)) refl g.room g.size g.rest))

@@ -10,7 +10,7 @@ use borrow.Author.Tests.{ne_eqb, le-leb, lt-leb, leb-true, leb-false}
 use Rattle.refusal.specs.Pick.{pick}
 use lib.Seq.{drop-drop}
 use Rattle.refusal.proofs.Laws.Booleans.{cases, true_and}
-use Rattle.refusal.proofs.Laws.Lists.{part-rest}
+use Rattle.refusal.proofs.Laws.Lists.{part_rest}
 use Rattle.stanza.specs.Automaton.{start}
 use Rattle.stanza.specs.Reading.{stanza, refused, read_first}
 use Rattle.stanza.proofs.Laws.Exact.{refused_2}
@@ -27,12 +27,12 @@ use Rattle.chunks.specs.Taking.{client, Turn, reads, drops, keeps_back, turn_at,
 use Rattle.chunks.specs.Chunks.{taken}
 use Rattle.chunks.proofs.Laws.Numbers.{room_size}
 use Rattle.chunks.proofs.Laws.Short.{read_number}
-use Rattle.chunks.proofs.Laws.Texts.{stanza_taken, text_dropped, text-kept-back, text-left, text-fault, text-stanza}
+use Rattle.chunks.proofs.Laws.Texts.{stanza_taken, text_dropped, text_kept_back, text_left, text_fault, text_stanza}
 use Rattle.chunks.proofs.Laws.Bounds.{front_written, text_written, text_kept, read_kept}
 use Rattle.phase_two.specs.Entering.{AreLong}
 use Rattle.client_room.specs.Stanzas.{next_in, Tried}
 use Rattle.client_room.specs.Room.{has_room, is_keepable, stanza_ahead}
-use Rattle.client_room.proofs.Laws.Stanzas.{Judged, accepts, refuses, judged, command, answer, accepted, answer-length, long-still, line_of, body_behind, stanza_call_lem, fault_call, reads_two}
+use Rattle.client_room.proofs.Laws.Stanzas.{Judged, accepts, refuses, judged, command, answer, accepted, answer_length, long_still, line_of, body_behind, stanza_call_lem, fault_call, reads_two}
 
 -- ---- what is written
 
@@ -57,8 +57,8 @@ module _ (g : Last) (w : List ℕ) (u : Taken) (n : ℕ) where
       no : leb (length u.written) (n - length w) ≡ false → leb (length (w ++ u.written)) n ≡ leb (length u.written) (n - length w)
       no e = lt-leb (length (w ++ u.written)) n (omega (arith, leb-false (length u.written) (n - length w) e, sum)) ∙ sym e
 
-  pub less-room : n < length w → has_room (one_more g w u) n ≡ false
-  less-room l = ap (λ f. f && leb (length u.intake.kept) 8192) (lt-leb (length (w ++ u.written)) n (omega (arith, length-append w u.written)))
+  pub less_room : n < length w → has_room (one_more g w u) n ≡ false
+  less_room l = ap (λ f. f && leb (length u.intake.kept) 8192) (lt-leb (length (w ++ u.written)) n (omega (arith, length-append w u.written)))
 
 -- ---- bytes that are no whole stanza
 
@@ -71,14 +71,14 @@ rest_room s b a x n m h = go (turn_at client s.phase) refl h
       where
         at : (m : ℕ) → refused m ≡ read_first x → has_room (taken_text client s b a x) n ≡ true
         at m h = read_number (λ m. refused m ≡ read_first x → has_room (taken_text client s b a x) n ≡ true)
-            (λ h. ap (λ y. has_room y n) (text-fault client s b a t x 1 (λ z. omega arith) (sym h)) ∙ none_room n 1 s b [])
-            (λ h. ap (λ y. has_room y n) (text-left client s b a t x (sym h))
+            (λ h. ap (λ y. has_room y n) (text_fault client s b a t x 1 (λ z. omega arith) (sym h)) ∙ none_room n 1 s b [])
+            (λ h. ap (λ y. has_room y n) (text_left client s b a t x (sym h))
             ∙ true_and (leb 0 n) (leb (length x) 8192) (zero_room n) (le-leb (length x) 8192 (omega (arith, ((refused_2 x).0 (sym h)).0))))
-            (λ h. ap (λ y. has_room y n) (text-fault client s b a t x 3 (λ z. omega arith) (sym h)) ∙ none_room n 3 s b []) x m (sym h) h
+            (λ h. ap (λ y. has_room y n) (text_fault client s b a t x 3 (λ z. omega arith) (sym h)) ∙ none_room n 3 s b []) x m (sym h) h
     go (drops k) t h =
         sym (ap (λ y. has_room y n) (text_dropped client s b a k t x)
         ∙ either (λ (y : Taken). has_room y n ≡ true) (eqb (length x) 0) (no_more 0 (emptied s a) b) (no_more k (emptied s a) b) (none_room n 0 s b a) (none_room n k s b a))
-    go keeps_back t h = sym (ap (λ y. has_room y n) (text-kept-back client s b a t x) ∙ ap (λ f. f && leb (length x) 8192) (zero_room n))
+    go keeps_back t h = sym (ap (λ y. has_room y n) (text_kept_back client s b a t x) ∙ ap (λ f. f && leb (length x) 8192) (zero_room n))
 
 -- ---- a refusal
 
@@ -107,16 +107,16 @@ module _ (s : Session) (b : Buffers) (t x : List ℕ) (line body : List ℕ) (k 
   abbrev last : Last
   last = last_in (given_command_two (word_of (command s b.second line body k)) k (length (answer s b.second line body k)))
 
-  ahead-accepted : received_stanza s b.second ample line body k ≡ accepted s b.second line body k →
+  ahead_accepted : received_stanza s b.second ample line body k ≡ accepted s b.second line body k →
       stanza_taken client b o t x ≡ one_more last (answer s b.second line body k) onward
-  ahead-accepted e =
+  ahead_accepted e =
       ap (λ o. stanza_taken client b o t x) (call ∙ ap (received_two_outcome b.first) e)
       ∙ ap₂ (λ w s'. one_more last w (taken_text client s' behind_it (awaited_behind client s'.phase t) x))
-      (all_written (answer s b.second line body k) ample (omega (arith, answer-length s b.second line body k, room_size)))
+      (all_written (answer s b.second line body k) ample (omega (arith, answer_length s b.second line body k, room_size)))
       (sym (h.session_is ∙ ap (λ r. r.session) e))
 
-  pub room-refused : (m : ℕ) → a ≡ declined m → has_room (stanza_taken client b o t x) n ≡ true
-  room-refused m e = go (judged s b.second line body k)
+  pub room_refused : (m : ℕ) → a ≡ declined m → has_room (stanza_taken client b o t x) n ≡ true
+  room_refused m e = go (judged s b.second line body k)
     where
       go : Judged s b.second line body k → has_room (stanza_taken client b o t x) n ≡ true
       go (accepts q) =
@@ -126,8 +126,8 @@ module _ (s : Session) (b : Buffers) (t x : List ℕ) (line body : List ℕ) (k 
       go (refuses i z q) = refused_room s b t x n i o (call ∙ ap (received_two_outcome b.first) q) z
 
   -- the answer of an accepted command
-  took-is : (w : WordTwo) (i j : ℕ) → a ≡ took w i j → (received_stanza s b.second ample line body k ≡ accepted s b.second line body k) × (j ≡ length (answer s b.second line body k))
-  took-is w i j e = go (judged s b.second line body k)
+  took_is : (w : WordTwo) (i j : ℕ) → a ≡ took w i j → (received_stanza s b.second ample line body k ≡ accepted s b.second line body k) × (j ≡ length (answer s b.second line body k))
+  took_is w i j e = go (judged s b.second line body k)
     where
       go : Judged s b.second line body k →
           (received_stanza s b.second ample line body k ≡ accepted s b.second line body k) × (j ≡ length (answer s b.second line body k))
@@ -139,27 +139,27 @@ module _ (s : Session) (b : Buffers) (t x : List ℕ) (line body : List ℕ) (k 
           let z : ◌≡◌ {A = ℕ} 0 1 = cc in
           absurd (omega arith)
 
-  pub room-short : (w : WordTwo) (i j : ℕ) → a ≡ took w i j → n < j → has_room (stanza_taken client b o t x) n ≡ false
-  room-short w i j e l =
-      let q = took-is w i j e in
-      ap (λ y. has_room y n) (ahead-accepted q.0) ∙ less-room last (answer s b.second line body k) onward n (omega (arith, q.1))
+  pub room_short : (w : WordTwo) (i j : ℕ) → a ≡ took w i j → n < j → has_room (stanza_taken client b o t x) n ≡ false
+  room_short w i j e l =
+      let q = took_is w i j e in
+      ap (λ y. has_room y n) (ahead_accepted q.0) ∙ less_room last (answer s b.second line body k) onward n (omega (arith, q.1))
 
-  pub room-on : (w : WordTwo) (i j : ℕ) → a ≡ took w i j → j ≤ n → has_room (stanza_taken client b o t x) n ≡ has_room onward (n - j)
-  room-on w i j e l =
-      let q = took-is w i j e in
-      ap (λ y. has_room y n) (ahead-accepted q.0) ∙ more_room last (answer s b.second line body k) onward n (omega (arith, q.1))
+  pub room_on : (w : WordTwo) (i j : ℕ) → a ≡ took w i j → j ≤ n → has_room (stanza_taken client b o t x) n ≡ has_room onward (n - j)
+  room_on w i j e l =
+      let q = took_is w i j e in
+      ap (λ y. has_room y n) (ahead_accepted q.0) ∙ more_room last (answer s b.second line body k) onward n (omega (arith, q.1))
       ∙ ap (λ i. has_room onward (n - i)) (sym q.1)
 
 -- a part up to the end
 length_part : (at : ℕ) (text : List ℕ) → length (take (length text - at) (drop at text)) ≡ length text - at
-length_part at text = ap length (part-rest at text) ∙ length-drop at text
+length_part at text = ap length (part_rest at text) ∙ length-drop at text
 
 -- bytes behind `at` that are no whole stanza
 pub turn_rest : (s : Session) (b : Buffers) (a text : List ℕ) (at n m : ℕ) → refused m ≡ next_in (turn_at client s.phase) (take (length text - at) (drop at text)) →
     is_keepable (turn_at client s.phase) (length text - at) ≡ has_room (taken_text client s b a (drop at text)) n
 turn_rest s b a text at n m h =
     ap (is_keepable (turn_at client s.phase)) (sym (length-drop at text))
-    ∙ rest_room s b a (drop at text) n m (h ∙ ap (next_in (turn_at client s.phase)) (part-rest at text))
+    ∙ rest_room s b a (drop at text) n m (h ∙ ap (next_in (turn_at client s.phase)) (part_rest at text))
 
 -- a stanza stands where it is the turn to read
 pub next_turn : (u : Turn) (x : List ℕ) (l m k : ℕ) → stanza l m k ≡ next_in u x → u ≡ reads
@@ -190,44 +190,44 @@ module _ (s : Session) (b : Buffers) (a text : List ℕ) (at l m k : ℕ) (y : T
   turn : turn_at client s.phase ≡ reads
   turn = next_turn (turn_at client s.phase) part l m k h
 
-  first-is : read_first part ≡ stanza l m k
-  first-is = next_first (turn_at client s.phase) part l m k h
+  first_is : read_first part ≡ stanza l m k
+  first_is = next_first (turn_at client s.phase) part l m k h
 
   -- what its call comes to
   abbrev called : Outcome
   called = outcome s b (receive_two part ample)
 
   call : called ≡ received_two_outcome b.first (received_stanza s b.second ample (line_of part l) (body_behind part l k) k)
-  call = stanza_call_lem s b part ample l m k (reads_two s.phase turn) first-is
+  call = stanza_call_lem s b part ample l m k (reads_two s.phase turn) first_is
 
   -- the text is this stanza and the rest
   ahead : has_room (taken_text client s b a (drop at text)) n ≡ has_room (stanza_taken client b called (take k part) (drop k part)) n
-  ahead = ap (λ x. has_room (taken_text client s b a x) n) (sym (part-rest at text)) ∙ ap (λ u. has_room u n) (text-stanza client s b a turn part l m k first-is)
+  ahead = ap (λ x. has_room (taken_text client s b a x) n) (sym (part_rest at text)) ∙ ap (λ u. has_room u n) (text_stanza client s b a turn part l m k first_is)
 
-  pub turn-refused : (i : ℕ) → y ≡ declined i → true ≡ has_room (taken_text client s b a (drop at text)) n
-  turn-refused i e = sym (ahead ∙ room-refused s b (take k part) (drop k part) (line_of part l) (body_behind part l k) k y after n called call tried i e)
+  pub turn_refused : (i : ℕ) → y ≡ declined i → true ≡ has_room (taken_text client s b a (drop at text)) n
+  turn_refused i e = sym (ahead ∙ room_refused s b (take k part) (drop k part) (line_of part l) (body_behind part l k) k y after n called call tried i e)
 
-  pub turn-short : (w : WordTwo) (i j : ℕ) → y ≡ took w i j → n < j → false ≡ has_room (taken_text client s b a (drop at text)) n
-  turn-short w i j e z = sym (ahead ∙ room-short s b (take k part) (drop k part) (line_of part l) (body_behind part l k) k y after n called call tried w i j e z)
+  pub turn_short : (w : WordTwo) (i j : ℕ) → y ≡ took w i j → n < j → false ≡ has_room (taken_text client s b a (drop at text)) n
+  turn_short w i j e z = sym (ahead ∙ room_short s b (take k part) (drop k part) (line_of part l) (body_behind part l k) k y after n called call tried w i j e z)
 
   abbrev pub on_turn : Buffers
   on_turn = buffers_of b.first (accepted s b.second (line_of part l) (body_behind part l k) k).buffers
 
-  pub turn-long : (e r t : ℕ) → AreLong b.second e r t → AreLong on_turn.second e r t
-  turn-long e r t z = long-still s b.second (line_of part l) (body_behind part l k) k e r t z
+  pub turn_long : (e r t : ℕ) → AreLong b.second e r t → AreLong on_turn.second e r t
+  turn_long e r t z = long_still s b.second (line_of part l) (body_behind part l k) k e r t z
 
   pub turn_on : (w : WordTwo) (i j : ℕ) → y ≡ took w i j → j ≤ n → has_room (taken_text client s b a (drop at text)) n ≡
       has_room (taken_text client after on_turn (awaited_behind client after.phase (take k part)) (drop (at + k) text)) (n - j)
   turn_on w i j e z =
-      ahead ∙ room-on s b (take k part) (drop k part) (line_of part l) (body_behind part l k) k y after n called call tried w i j e z
+      ahead ∙ room_on s b (take k part) (drop k part) (line_of part l) (body_behind part l k) k y after n called call tried w i j e z
       ∙ ap (λ x. has_room (taken_text client after on_turn (awaited_behind client after.phase (take k part)) x) (n - j))
-      (ap (drop k) (part-rest at text) ∙ drop-drop k at text)
+      (ap (drop k) (part_rest at text) ∙ drop-drop k at text)
 
 -- ---- room that needs no look at the bytes
 
 module _ (i : Intake) (b : Buffers) (x : List ℕ) (n : ℕ) (turn : turn_at client i.session.phase ≡ reads) where
-  pub front-ample : length i.kept ≤ 8191 → length x ≤ 8193 → 16 * (length i.kept + length x) < 6 * n + 6 → true ≡ has_room (taken client i b x) n
-  front-ample l m h =
+  pub front_ample : length i.kept ≤ 8191 → length x ≤ 8193 → 16 * (length i.kept + length x) < 6 * n + 6 → true ≡ has_room (taken client i b x) n
+  front_ample l m h =
       let w = front_written i.session b i.awaited i.reading i.kept x in
       let c = length-append i.kept x in
       sym (true_and _ _ (le-leb (length (taken client i b x).written) n (omega arith))
@@ -249,24 +249,24 @@ ahead_fault_room s b t x m n turn h =
 
 module _ (s : Session) (b : Buffers) (t x : List ℕ) (l m k : ℕ) (y : Taking) (after : Session) (n : ℕ) (turn : turn_at client s.phase ≡ reads)
     (h : read_first t ≡ stanza l m k) (tried : Tried s b.second (line_of t l) (body_behind t l k) k y after) where
-  whole-call : outcome s b (receive_two t ample) ≡ received_two_outcome b.first (received_stanza s b.second ample (line_of t l) (body_behind t l k) k)
-  whole-call = stanza_call_lem s b t ample l m k (reads_two s.phase turn) h
+  whole_call : outcome s b (receive_two t ample) ≡ received_two_outcome b.first (received_stanza s b.second ample (line_of t l) (body_behind t l k) k)
+  whole_call = stanza_call_lem s b t ample l m k (reads_two s.phase turn) h
 
-  pub ahead-refused-room : (i : ℕ) → y ≡ declined i → true ≡ has_room (stanza_ahead s b t x) n
-  ahead-refused-room i e = sym (room-refused s b t x (line_of t l) (body_behind t l k) k y after n _ whole-call tried i e)
+  pub ahead_refused_room : (i : ℕ) → y ≡ declined i → true ≡ has_room (stanza_ahead s b t x) n
+  ahead_refused_room i e = sym (room_refused s b t x (line_of t l) (body_behind t l k) k y after n _ whole_call tried i e)
 
-  pub ahead-short-room : (w : WordTwo) (i j : ℕ) → y ≡ took w i j → n < j → false ≡ has_room (stanza_ahead s b t x) n
-  ahead-short-room w i j e z = sym (room-short s b t x (line_of t l) (body_behind t l k) k y after n _ whole-call tried w i j e z)
+  pub ahead_short_room : (w : WordTwo) (i j : ℕ) → y ≡ took w i j → n < j → false ≡ has_room (stanza_ahead s b t x) n
+  ahead_short_room w i j e z = sym (room_short s b t x (line_of t l) (body_behind t l k) k y after n _ whole_call tried w i j e z)
 
   abbrev pub ahead_buffers : Buffers
   ahead_buffers = buffers_of b.first (accepted s b.second (line_of t l) (body_behind t l k) k).buffers
 
-  pub ahead-long : (e r u : ℕ) → AreLong b.second e r u → AreLong ahead_buffers.second e r u
-  ahead-long e r u z = long-still s b.second (line_of t l) (body_behind t l k) k e r u z
+  pub ahead_long : (e r u : ℕ) → AreLong b.second e r u → AreLong ahead_buffers.second e r u
+  ahead_long e r u z = long_still s b.second (line_of t l) (body_behind t l k) k e r u z
 
-  pub ahead-on-room : (w : WordTwo) (i j : ℕ) → y ≡ took w i j → j ≤ n →
+  pub ahead_on_room : (w : WordTwo) (i j : ℕ) → y ≡ took w i j → j ≤ n →
       has_room (taken_text client after ahead_buffers (awaited_behind client after.phase t) x) (n - j) ≡ has_room (stanza_ahead s b t x) n
-  ahead-on-room w i j e z = sym (room-on s b t x (line_of t l) (body_behind t l k) k y after n _ whole-call tried w i j e z)
+  ahead_on_room w i j e z = sym (room_on s b t x (line_of t l) (body_behind t l k) k y after n _ whole_call tried w i j e z)
 
 -- ---- the loop's invariant: whether there is room goes on as it began
 

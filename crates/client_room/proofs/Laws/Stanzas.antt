@@ -11,7 +11,7 @@ use borrow.Author.Tests.{eqb-false, le-ltb}
 use Rattle.refusal.specs.Output.{filled}
 use Rattle.refusal.specs.Pick.{pick}
 use Rattle.refusal.specs.Verdict.{first_of}
-use Rattle.refusal.proofs.Laws.Lists.{part-rest, put_rest}
+use Rattle.refusal.proofs.Laws.Lists.{part_rest, put_rest}
 use Rattle.strict_base64.specs.Lines.{body_of}
 use Rattle.stanza.specs.Reading.{stanza, refused, read_first}
 use Rattle.session.specs.declared.opening.Machine.{Machine}
@@ -28,7 +28,7 @@ use Rattle.conversation.specs.Kinds.{Buffers}
 use Rattle.conversation.specs.Calls.{receive_two, outcome, received_two_outcome}
 use Rattle.conversation.specs.TurnsTwo.{turn_two}
 use Rattle.conversation.proofs.Laws.AllowedTwo.{filled_length}
-use Rattle.conversation.proofs.Laws.ReceivingTwo.{received-from, received_in_turn}
+use Rattle.conversation.proofs.Laws.ReceivingTwo.{received_from, received_in_turn}
 use Rattle.chunks.specs.Taking.{client, ample, turn_at, reads}
 use Rattle.chunks.proofs.Laws.Cases.{drops_not_reads, keeps_not_reads}
 use Rattle.chunks.proofs.Laws.Numbers.{at_once_short, room_size}
@@ -50,7 +50,7 @@ pub tried : (m : Machine) (g : List ℕ) (x : Bool) (q : Phase) (t : Tables) (b 
     Entered r t b c (payload_of c l y) 0 n t' → a ≡ answer_of n c k j → p ≡ pick (eqb n 0) (phase_received x c) (pick (closes n) Closed q) →
     Tried (session_in m g x q t) b l y k a (session_in m g x p t')
 tried m g x q t b l y k c r w j n a p t' ec er ew ej e ea ep =
-    let z = received-from m g x q t b ample l y k c r w j 0 n a p t' (pick (eqb n 0) (filled_by t b c (payload_of c l y)) b)
+    let z = received_from m g x q t b ample l y k c r w j 0 n a p t' (pick (eqb n 0) (filled_by t b c (payload_of c l y)) b)
     (pick (eqb n 0) (filled (text_of w) ample) ample) ec er ew ej (sym (ap (λ i. pick (ltb (length ample) i) 15 0) ej ∙ late_none w)) e.number ea ep
     (rw e.number e.tables) refl refl in
     record { answer_is = ap (λ z. z.answer) z; session_is = ap (λ z. z.session) z }
@@ -92,12 +92,12 @@ module _ (s : Session) (b : BuffersTwo) (line body : List ℕ) (k : ℕ) where
       go false h = refuses n (eqb-false n 0 h) (ap (λ d. pick d accepted (refused_receipt n s b ample)) h)
 
   -- the answer is short
-  pub answer-length : length answer ≤ 16
-  answer-length = at_once_short (at_once s.screen command)
+  pub answer_length : length answer ≤ 16
+  answer_length = at_once_short (at_once s.screen command)
 
   -- buffers keep their lengths
-  pub long-still : (e r t : ℕ) → AreLong b e r t → AreLong (filled_by s.tables b command payload) e r t
-  long-still e r t l = record {
+  pub long_still : (e r t : ℕ) → AreLong b e r t → AreLong (filled_by s.tables b command payload) e r t
+  long_still e r t l = record {
     errors = sym (filled_length s.tables b command payload errors) ∙ l.errors;
     stanzas = sym (filled_length s.tables b command payload stanzas) ∙ l.stanzas;
     returned = sym (filled_length s.tables b command payload returned) ∙ l.returned;
@@ -142,7 +142,7 @@ put_together_is input rest store copied part n l m e f =
     let d : drop n copied ≡ drop n store = ap (drop n) c ∙ drop_at (take n input) (drop n store) n k in
     let t : take n copied ≡ take n input = ap (take n) c ∙ take_at (take n input) (drop n store) n k in
     let z : length (drop n store) ≡ length store - n = length-drop n store in
-    put_rest n copied part ∙ ap₂ ◌++◌ t (f ∙ ap (filled rest) (part-rest n copied ∙ d) ∙ filled_front rest (drop n store) (omega arith) ∙ ap (λ x. rest ++ x) (drop-drop (length rest) n store))
+    put_rest n copied part ∙ ap₂ ◌++◌ t (f ∙ ap (filled rest) (part_rest n copied ∙ d) ∙ filled_front rest (drop n store) (omega arith) ∙ ap (λ x. rest ++ x) (drop-drop (length rest) n store))
     ∙ sym (append_assoc (take n input) rest (drop (n + length rest) store))
   where
     filled_front : (x o : List ℕ) → length x ≤ length o → filled x o ≡ x ++ drop (length x) o

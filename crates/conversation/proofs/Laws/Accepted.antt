@@ -30,8 +30,8 @@ use Rattle.phase_one.specs.Turns.{turn_one, phase_after}
 use Rattle.phase_one.specs.Views as one_kind
 use Rattle.session.specs.declared.phases.Phase.{Phase}
 use Rattle.session.specs.declared.phases.Phase.TheVariants.{One, Two, Awaiting, Ended, Closed}
-use Rattle.phase_one.proofs.Laws.PhaseOne.{accepted-one}
-use Rattle.phase_one.proofs.Laws.Views.{Reached, applied-view, first_zero}
+use Rattle.phase_one.proofs.Laws.PhaseOne.{accepted_one}
+use Rattle.phase_one.proofs.Laws.Views.{Reached, applied_view, first_zero}
 use Rattle.session.specs.Session.{Session, moved}
 use Rattle.conversation.specs.Kinds.{Buffers, buffers_of}
 use Rattle.conversation.specs.CommandsTwo as two_command
@@ -172,7 +172,7 @@ pub applied_rows : (s : Session) (b : one.BuffersOne) (line body : List ℕ) (af
     one_kind.view_of k after.tables buffers-after ≡ one_kind.view_of k s.tables b ++ one_kind.rows_of (command_in s.machine s.name line body) k (payload_in s.machine s.name line body)
 applied_rows s b line body after buffers-after a r k =
     ap₂ (one_kind.view_of k) (ap (λ x. x.tables) a.session) a.buffers
-    ∙ applied-view s.tables b (payload_in s.machine s.name line body) r (command_in s.machine s.name line body) a.faultless k
+    ∙ applied_view s.tables b (payload_in s.machine s.name line body) r (command_in s.machine s.name line body) a.faultless k
 
 -- what one command's tables and buffers are, where its number is 0; `late` as in `number_one`
 pub one_applied : (s : Session) (b : one.BuffersOne) (late : ℕ) (line body : List ℕ) → s.phase ≡ One → is_line line ≡ true → eqb (number_one s.machine s.name s.tables b late line body) 0 ≡ true →
@@ -180,7 +180,7 @@ pub one_applied : (s : Session) (b : one.BuffersOne) (late : ℕ) (line body : L
 one_applied s b late line body o a h =
     let z = eqb-true (number_one s.machine s.name s.tables b late line body) 0 h in
     let c = command_in s.machine s.name line body in
-    let w = accepted-one s.machine s.name s.tables b late line body c refl z in
+    let w = accepted_one s.machine s.name s.tables b late line body c refl z in
     record {
       turn = o;
       argued = a;
@@ -197,10 +197,10 @@ module _ (s : Session) (b : Buffers) where
   abbrev number_received : receiving.Received → ℕ
   number_received r = taking_number r.answer
 
-  stanza-one : (line body : List ℕ) (k : ℕ) → s.phase ≡ One → is_writable line body ≡ true → number_received (receiving.received_stanza s b.first line body k) ≡ 0 →
+  stanza_one : (line body : List ℕ) (k : ℕ) → s.phase ≡ One → is_writable line body ≡ true → number_received (receiving.received_stanza s b.first line body k) ≡ 0 →
       ReceivedOne line body (receiving.received_stanza s b.first line body k)
   unfolding receiving.received_stanza
-  stanza-one line body k o w =
+  stanza_one line body k o w =
       let n = number_one s.machine s.name s.tables b.first 0 line body in
       branch (ReceivedOne line body) number_received (eqb n 0) _ _
       (λ f h. record {
@@ -213,13 +213,13 @@ module _ (s : Session) (b : Buffers) where
 
   as_one : (text : List ℕ) (r : Reading) → s.phase ≡ One → read_first text ≡ r → number_received (receiving.received_as r s text b.first) ≡ 0 →
       ReceivedOne (line_read r text) (body_read r text) (receiving.received_as r s text b.first)
-  as_one text (stanza e n k) o q h = stanza-one (line_read (stanza e n k) text) (body_read (stanza e n k) text) k o (written_read text e n k q).writable h
+  as_one text (stanza e n k) o q h = stanza_one (line_read (stanza e n k) text) (body_read (stanza e n k) text) k o (written_read text e n k q).writable h
   as_one text (refused n) o q h = absurd (text_number_lem text n q h)
 
-  received-one : (text : List ℕ) → number_received (receiving.received s text b.first) ≡ 0 →
+  received_one : (text : List ℕ) → number_received (receiving.received s text b.first) ≡ 0 →
       ReceivedOne (line_read (read_first text) text) (body_read (read_first text) text) (receiving.received s text b.first)
   unfolding receiving.received
-  received-one text =
+  received_one text =
       branch (ReceivedOne (line_read (read_first text) text) (body_read (read_first text) text)) number_received (eqb (turn_one s.phase) 0) _ _
       (λ f. as_one text (read_first text) (turn_first s.phase (eqb-true (turn_one s.phase) 0 f)) refl) (λ f. eqb-false (turn_one s.phase) 0 f)
 
@@ -230,9 +230,9 @@ module _ (s : Session) (b : Buffers) where
   abbrev number_sent : sending.Sent → ℕ
   number_sent r = sent_number r.answer
 
-  line-one : (line body out : List ℕ) → s.phase ≡ One → number_sent (sending.sent_line s b.first line body out) ≡ 0 → SentOne line body out (sending.sent_line s b.first line body out)
+  line_one : (line body out : List ℕ) → s.phase ≡ One → number_sent (sending.sent_line s b.first line body out) ≡ 0 → SentOne line body out (sending.sent_line s b.first line body out)
   unfolding sending.sent_stanza
-  line-one line body out o =
+  line_one line body out o =
       let text = stanza_text line body in
       let late = shortness text out in
       let n = number_one s.machine s.name s.tables b.first late line body in
@@ -256,7 +256,7 @@ module _ (s : Session) (b : Buffers) where
   unfolding sending.sent
   sent_one word arguments body out =
       branch (SentOne (one_command.line_sent word arguments) body out) number_sent (eqb (turn_one s.phase) 0) _ _
-      (λ f. line-one (one_command.line_sent word arguments) body out (turn_first s.phase (eqb-true (turn_one s.phase) 0 f))) (λ f. eqb-false (turn_one s.phase) 0 f)
+      (λ f. line_one (one_command.line_sent word arguments) body out (turn_first s.phase (eqb-true (turn_one s.phase) 0 f))) (λ f. eqb-false (turn_one s.phase) 0 f)
 
 -- ---- phase two: commands
 
@@ -268,10 +268,10 @@ module _ (s : Session) (b : Buffers) where
   abbrev number_received_two : receiving_two.Received → ℕ
   number_received_two r = taking_two_number r.answer
 
-  stanza-two : (line body out : List ℕ) (k : ℕ) → s.phase ≡ Two → is_writable line body ≡ true → number_received_two (receiving_two.received_stanza s b.second out line body k) ≡ 0 →
+  stanza_two : (line body out : List ℕ) (k : ℕ) → s.phase ≡ Two → is_writable line body ≡ true → number_received_two (receiving_two.received_stanza s b.second out line body k) ≡ 0 →
       ReceivedTwo line body out (receiving_two.received_stanza s b.second out line body k)
   unfolding receiving_two.received_stanza
-  stanza-two line body out k o w =
+  stanza_two line body out k o w =
       let n = receiving_two.number_received s b.second line body in
       let text = text_of (at_once s.screen (command_at s line body)) in
       let z = first_of n (shortness text out) in
@@ -287,17 +287,17 @@ module _ (s : Session) (b : Buffers) where
       })
       (λ f. eqb-false z 0 f)
 
-  as-two : (text out : List ℕ) (r : Reading) → s.phase ≡ Two → read_first text ≡ r → number_received_two (receiving_two.received_as r s text b.second out) ≡ 0 →
+  as_two : (text out : List ℕ) (r : Reading) → s.phase ≡ Two → read_first text ≡ r → number_received_two (receiving_two.received_as r s text b.second out) ≡ 0 →
       ReceivedTwo (line_read r text) (body_read r text) out (receiving_two.received_as r s text b.second out)
-  as-two text out (stanza e n k) o q h = stanza-two (line_read (stanza e n k) text) (body_read (stanza e n k) text) out k o (written_read text e n k q).writable h
-  as-two text out (refused n) o q h = absurd (text_number_lem text n q h)
+  as_two text out (stanza e n k) o q h = stanza_two (line_read (stanza e n k) text) (body_read (stanza e n k) text) out k o (written_read text e n k q).writable h
+  as_two text out (refused n) o q h = absurd (text_number_lem text n q h)
 
-  received-two : (text out : List ℕ) → number_received_two (receiving_two.received s text b.second out) ≡ 0 →
+  received_two : (text out : List ℕ) → number_received_two (receiving_two.received s text b.second out) ≡ 0 →
       ReceivedTwo (line_read (read_first text) text) (body_read (read_first text) text) out (receiving_two.received s text b.second out)
   unfolding receiving_two.received
-  received-two text out =
+  received_two text out =
       branch (ReceivedTwo (line_read (read_first text) text) (body_read (read_first text) text) out) number_received_two (eqb (turn_two s.phase) 0) _ _
-      (λ f. as-two text out (read_first text) (turn_second s.phase (eqb-true (turn_two s.phase) 0 f)) refl) (λ f. eqb-false (turn_two s.phase) 0 f)
+      (λ f. as_two text out (read_first text) (turn_second s.phase (eqb-true (turn_two s.phase) 0 f)) refl) (λ f. eqb-false (turn_two s.phase) 0 f)
 
   -- what is sent
   abbrev SentTwo : List ℕ → List ℕ → List ℕ → sending_two.Sent → Type 0
@@ -306,9 +306,9 @@ module _ (s : Session) (b : Buffers) where
   abbrev number_sent_two : sending_two.Sent → ℕ
   number_sent_two r = sent_number r.answer
 
-  line-two : (line body out : List ℕ) → s.phase ≡ Two → number_sent_two (sending_two.sent_line s b.second line body out) ≡ 0 → SentTwo line body out (sending_two.sent_line s b.second line body out)
+  line_two : (line body out : List ℕ) → s.phase ≡ Two → number_sent_two (sending_two.sent_line s b.second line body out) ≡ 0 → SentTwo line body out (sending_two.sent_line s b.second line body out)
   unfolding sending_two.sent_line
-  line-two line body out o =
+  line_two line body out o =
       let text = stanza_text line body in
       let n = sending_two.number_sent s b.second line body in
       let z = first_of n (shortness text out) in
@@ -326,12 +326,12 @@ module _ (s : Session) (b : Buffers) where
       })
       (λ f. eqb-false z 0 f)
 
-  sent-two : (word : WordTwo) (arguments body out : List ℕ) → number_sent_two (sending_two.sent s word arguments body b.second out) ≡ 0 →
+  sent_two : (word : WordTwo) (arguments body out : List ℕ) → number_sent_two (sending_two.sent s word arguments body b.second out) ≡ 0 →
       SentTwo (two_command.line_sent word arguments) body out (sending_two.sent s word arguments body b.second out)
   unfolding sending_two.sent
-  sent-two word arguments body out =
+  sent_two word arguments body out =
       branch (SentTwo (two_command.line_sent word arguments) body out) number_sent_two (eqb (turn_two s.phase) 0) _ _
-      (λ f. line-two (two_command.line_sent word arguments) body out (turn_second s.phase (eqb-true (turn_two s.phase) 0 f))) (λ f. eqb-false (turn_two s.phase) 0 f)
+      (λ f. line_two (two_command.line_sent word arguments) body out (turn_second s.phase (eqb-true (turn_two s.phase) 0 f))) (λ f. eqb-false (turn_two s.phase) 0 f)
 
 -- ---- phase two: answers
 
@@ -343,9 +343,9 @@ module _ (s : Session) (b : Buffers) where
   abbrev number_of_reply : replying.Replied → ℕ
   number_of_reply x = sent_number x.answer
 
-  reply-to : (w : WordTwo) (r : Response) (body out : List ℕ) → s.phase ≡ Awaiting w → number_of_reply (replying.replied_to w s r body out) ≡ 0 → Replied r body out (replying.replied_to w s r body out)
+  reply_to : (w : WordTwo) (r : Response) (body out : List ℕ) → s.phase ≡ Awaiting w → number_of_reply (replying.replied_to w s r body out) ≡ 0 → Replied r body out (replying.replied_to w s r body out)
   unfolding replying.replied_to
-  reply-to w r body out o =
+  reply_to w r body out o =
       let text = stanza_text (response_line r) body in
       let n = replying.number_replied w r body in
       let z = first_of n (shortness text out) in
@@ -364,12 +364,12 @@ module _ (s : Session) (b : Buffers) where
       })
       (λ f. eqb-false z 0 f)
 
-  replied-in : (p : Phase) (r : Response) (body out : List ℕ) → s.phase ≡ p → number_of_reply (replying.replied_by (due_in p) s r body out) ≡ 0 → Replied r body out (replying.replied_by (due_in p) s r body out)
-  replied-in One r body out o h = absurd (omega arith)
-  replied-in Two r body out o h = absurd (omega arith)
-  replied-in (Awaiting w) r body out o h = reply-to w r body out o h
-  replied-in Ended r body out o h = absurd (omega arith)
-  replied-in Closed r body out o h = absurd (omega arith)
+  replied_in : (p : Phase) (r : Response) (body out : List ℕ) → s.phase ≡ p → number_of_reply (replying.replied_by (due_in p) s r body out) ≡ 0 → Replied r body out (replying.replied_by (due_in p) s r body out)
+  replied_in One r body out o h = absurd (omega arith)
+  replied_in Two r body out o h = absurd (omega arith)
+  replied_in (Awaiting w) r body out o h = reply_to w r body out o h
+  replied_in Ended r body out o h = absurd (omega arith)
+  replied_in Closed r body out o h = absurd (omega arith)
 
   -- a response
   abbrev Responded : List ℕ → List ℕ → List ℕ → responding.Responded → Type 0
@@ -378,11 +378,11 @@ module _ (s : Session) (b : Buffers) where
   abbrev number_of_response : responding.Responded → ℕ
   number_of_response x = responded_number x.answer
 
-  respond-as : (w : WordTwo) (q : ResponseRead) (line body out : List ℕ) (k : ℕ) → s.phase ≡ Awaiting w → is_writable line body ≡ true → response_of line ≡ q →
+  respond_as : (w : WordTwo) (q : ResponseRead) (line body out : List ℕ) (k : ℕ) → s.phase ≡ Awaiting w → is_writable line body ≡ true → response_of line ≡ q →
       number_of_response (responding.responded_as w s q body k out) ≡ 0 → Responded line body out (responding.responded_as w s q body k out)
   unfolding responding.responded_as
-  respond-as w nothing line body out k o l e = λ h. absurd (omega arith)
-  respond-as w (response r) line body out k o l e =
+  respond_as w nothing line body out k o l e = λ h. absurd (omega arith)
+  respond_as w (response r) line body out k o l e =
       let n : ℕ = pick (fits_whole w r body) 0 12 in
       let z = first_of n (shortness body out) in
       branch (Responded line body out) number_of_response (eqb z 0) _ _
@@ -401,27 +401,27 @@ module _ (s : Session) (b : Buffers) where
       ))
       (λ f. eqb-false z 0 f)
 
-  respond-text : (w : WordTwo) (text out : List ℕ) (q : Reading) → s.phase ≡ Awaiting w → read_first text ≡ q →
+  respond_text : (w : WordTwo) (text out : List ℕ) (q : Reading) → s.phase ≡ Awaiting w → read_first text ≡ q →
       number_of_response (responding.responded_text q w s text out) ≡ 0 → Responded (line_read q text) (body_read q text) out (responding.responded_text q w s text out)
-  respond-text w text out (stanza e n k) o q h =
-      respond-as w (response_of (line_read (stanza e n k) text)) (line_read (stanza e n k) text) (body_read (stanza e n k) text) out k o (written_read text e n k q).writable refl h
-  respond-text w text out (refused n) o q h = absurd (text_number_lem text n q h)
+  respond_text w text out (stanza e n k) o q h =
+      respond_as w (response_of (line_read (stanza e n k) text)) (line_read (stanza e n k) text) (body_read (stanza e n k) text) out k o (written_read text e n k q).writable refl h
+  respond_text w text out (refused n) o q h = absurd (text_number_lem text n q h)
 
-  responded-in : (p : Phase) (text out : List ℕ) → s.phase ≡ p → number_of_response (responding.responded_by (due_in p) s text out) ≡ 0 →
+  responded_in : (p : Phase) (text out : List ℕ) → s.phase ≡ p → number_of_response (responding.responded_by (due_in p) s text out) ≡ 0 →
       Responded (line_read (read_first text) text) (body_read (read_first text) text) out (responding.responded_by (due_in p) s text out)
-  responded-in One text out o h = absurd (omega arith)
-  responded-in Two text out o h = absurd (omega arith)
-  responded-in (Awaiting w) text out o h = respond-text w text out (read_first text) o refl h
-  responded-in Ended text out o h = absurd (omega arith)
-  responded-in Closed text out o h = absurd (omega arith)
+  responded_in One text out o h = absurd (omega arith)
+  responded_in Two text out o h = absurd (omega arith)
+  responded_in (Awaiting w) text out o h = respond_text w text out (read_first text) o refl h
+  responded_in Ended text out o h = absurd (omega arith)
+  responded_in Closed text out o h = absurd (omega arith)
 
 -- ---- any call
 
 -- an accepted call does what its record says
 pub accepted : (s : Session) (b : Buffers) (c : Call) → (outcome s b c).number ≡ 0 → AcceptedBy s b c
-accepted s b (receive text) h = received-one s b text h
+accepted s b (receive text) h = received_one s b text h
 accepted s b (send word arguments body out) h = sent_one s b word arguments body out h
-accepted s b (receive_two text out) h = received-two s b text out h
-accepted s b (reply r body out) h = replied-in s b s.phase r body out refl h
-accepted s b (send_two word arguments body out) h = sent-two s b word arguments body out h
-accepted s b (respond text out) h = responded-in s b s.phase text out refl h
+accepted s b (receive_two text out) h = received_two s b text out h
+accepted s b (reply r body out) h = replied_in s b s.phase r body out refl h
+accepted s b (send_two word arguments body out) h = sent_two s b word arguments body out h
+accepted s b (respond text out) h = responded_in s b s.phase text out refl h

@@ -82,10 +82,10 @@ module _ (t : Tables) (b b' : BuffersOne) (p : List ℕ) (j : Reached t) (v : vi
 -- ---- the plugin's side: what it reads
 
 module _ (s : Session) (b : BuffersOne) (line body : List ℕ) where
-  text-received : (rest : List ℕ) → s.phase ≡ One → is_writable line body ≡ true → are_bytes body ≡ true →
+  text_received : (rest : List ℕ) → s.phase ≡ One → is_writable line body ≡ true → are_bytes body ≡ true →
       received s (stanza_text line body ++ rest) b ≡ received_stanza s b line body (length (stanza_text line body))
   unfolding received
-  text-received rest o w a =
+  text_received rest o w a =
       let text = stanza_text line body ++ rest in
       ap (λ p. pick (eqb (turn_one p) 0) (received_as (read_first text) s text b) (refused_receipt (turn_one p) s b)) o ∙ ap (λ r. received_as r s text b) (read_written line body rest a w)
       ∙ ap₂ (λ l y. received_stanza s b l y (length (stanza_text line body))) (read_arguments line body rest) (read_body line body rest a)
@@ -95,10 +95,10 @@ module _ (s : Session) (b : BuffersOne) (line body : List ℕ) where
   TookAs k r = (r.answer ≡ took (word_of (command_in s.machine s.name line body)) k) × Applied s b line body r.session r.buffers
 
   -- a stanza in which the decision finds no fault
-  stanza-took : (k : ℕ) → s.phase ≡ One → is_line line ≡ true → decided s.tables b (command_in s.machine s.name line body) (payload_in s.machine s.name line body) ≡ 0 →
+  stanza_took : (k : ℕ) → s.phase ≡ One → is_line line ≡ true → decided s.tables b (command_in s.machine s.name line body) (payload_in s.machine s.name line body) ≡ 0 →
       TookAs k (received_stanza s b line body k)
   unfolding received_stanza
-  stanza-took k o l h =
+  stanza_took k o l h =
       let n = number_one s.machine s.name s.tables b 0 line body in
       let f = eq-eqb n 0 (ap (λ d. first_of d 0) h) in
       chosen (TookAs k) (eqb n 0) _ _ f (refl, one_applied s b 0 line body o l f)
@@ -126,18 +126,18 @@ front : (text out : List ℕ) → overflows text out ≡ false → take (length 
 front text out e = ap (λ f. take (length text) (pick f out (text ++ drop (length text) out))) e ∙ take-append_seam text (drop (length text) out)
 
 module _ (s : Session) (b b' : BuffersOne) (line body out : List ℕ) (n : ℕ) (r : Sent) where
-  agreed-like : (screen : Bool) (rest : List ℕ) → Reached s.tables → ((k : KindOne) → view_of k s.tables b ≡ view_of k s.tables b') → are_bytes body ≡ true → AppliedOne s (lent b) line body (stanza_text line body) out (sent_outcome (lent b).second r) → r.answer ≡ bytes n →
+  agreed_like : (screen : Bool) (rest : List ℕ) → Reached s.tables → ((k : KindOne) → view_of k s.tables b ≡ view_of k s.tables b') → are_bytes body ≡ true → AppliedOne s (lent b) line body (stanza_text line body) out (sent_outcome (lent b).second r) → r.answer ≡ bytes n →
       ((k : KindOne) → (table_of k r.session.tables).used ≤ length (buffer_of k b')) →
       let s' : Session = record { machine = s.machine; name = s.name; screen = screen; phase = s.phase; tables = s.tables } in
       Both s line body n r (received s' (stanza_text line body ++ rest) b')
-  agreed-like screen rest j v a w q l =
+  agreed_like screen rest j v a w q l =
       let s' : Session = record { machine = s.machine; name = s.name; screen = screen; phase = s.phase; tables = s.tables } in
       let r' : Received = received s' (stanza_text line body ++ rest) b' in
       let p : Applied s b line body r.session r.buffers = w.applied in
       let m : n ≡ length (stanza_text line body) = sym (ap sent_size q) ∙ w.written.size in
       let g = again s.tables b b' (payload_in s.machine s.name line body) j (v recipients) (command_in s.machine s.name line body) p.faultless (λ k. subst (λ x. (table_of k x.tables).used ≤ length (buffer_of k b')) p.session (l k)) in
       let h : TookAs s' b' line body (length (stanza_text line body)) r' =
-      subst (TookAs s' b' line body (length (stanza_text line body))) (sym (text-received s' b' line body rest p.turn w.writable a)) (stanza-took s' b' line body (length (stanza_text line body)) p.turn p.argued g.0) in
+      subst (TookAs s' b' line body (length (stanza_text line body))) (sym (text_received s' b' line body rest p.turn w.writable a)) (stanza_took s' b' line body (length (stanza_text line body)) p.turn p.argued g.0) in
       let p' = h.1 in
       record {
         agreed = record {
@@ -162,7 +162,7 @@ module _ (s s' : Session) (b b' : BuffersOne) (word : WordOne) (arguments body o
   both =
       let r = sent s word arguments body b out in
       let line = line_sent word arguments in
-      let g = agreed-like s b b' line body out n r s'.screen (drop n text) j (λ k. v k ∙ ap (λ t. view_of k t b') (sym a.tables)) y (accepted s (lent b) (send word arguments body out) (ap sent_number q)) q l in
+      let g = agreed_like s b b' line body out n r s'.screen (drop n text) j (λ k. v k ∙ ap (λ t. view_of k t b') (sym a.tables)) y (accepted s (lent b) (send word arguments body out) (ap sent_number q)) q l in
       let f : stanza_text line body ++ drop n text ≡ text = ap (λ x. x ++ drop n text) (sym (e ∙ g.agreed.written)) ∙ take-append-drop n text in
       subst (λ x. Both s line body n r (received s' x b')) f (subst (λ x. Both s line body n r (received x (stanza_text line body ++ drop n text) b')) (alike_is s s' a) g)
 
@@ -172,9 +172,9 @@ module _ (s s' : Session) (b b' : BuffersOne) (word : WordOne) (arguments body o
   agreement = both.agreed
 
   -- and their tables show the same again
-  pub views-agree :
+  pub views_agree :
       SameViews (sent s word arguments body b out).session (sent s word arguments body b out).buffers (received s' text b').session (received s' text b').buffers
-  views-agree = both.views
+  views_agree = both.views
 
 -- the two ends open alike
 pub opened_alike : (machine name : List ℕ) (screen screen' : Bool) → Alike (opened machine name screen).session (opened machine name screen').session

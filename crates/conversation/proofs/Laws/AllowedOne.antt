@@ -3,7 +3,7 @@ use Prim.Native.Nat.{ℕ}
 use mathlib.Core.Path.{◌≡◌, refl, sym, ap, ap₂, ◌∙◌, subst}
 use mathlib.Core.Bool.{Bool, true, false}
 use mathlib.Core.Logic.{◌↔◌}
-use mathlib.Core.List.{List, [], ◌∷◌, ◌++◌, map, map_append, append-nil, append_assoc}
+use mathlib.Core.List.{List, [], ◌∷◌, ◌++◌, map, map-append, append-nil, append_assoc}
 use lib.ListN.{length}
 use native.Mathlib.Omega.{arith}
 use Rattle.tables.specs.Tables.{Table, Row}
@@ -22,7 +22,7 @@ use Rattle.conversation.specs.Phases.{All, Whole, is_done, command_of, rows_from
 use Rattle.conversation.specs.Allowed.{is_right, rows_in, Rising, Distinct, Allowed}
 use Rattle.conversation.proofs.Laws.Lists.{all_map}
 use Rattle.conversation.proofs.Laws.Limits.{Ordered, Within, within_front}
-use Rattle.conversation.proofs.Laws.Steps.{Going, Fitting, payload, judged, tables_with, buffers_with, judged-iff, view-with, length-with, going-with, going, number-received, tables-received, buffers-received, session-received}
+use Rattle.conversation.proofs.Laws.Steps.{Going, Fitting, payload, judged, tables_with, buffers_with, judged_iff, view_with, length_with, going_with, going, number_received, tables_received, buffers_received, session_received}
 
 -- the tables of phase two
 abbrev late_of : Tables → Table × Table × Table
@@ -68,14 +68,14 @@ module _ (machine : Machine) (name : List ℕ) where
 
   module _ (t : Tables) (b : BuffersOne) (x : List ℕ) (more : KindOne → List Row) where
     -- rows more behind its own
-    view-more : Whole x → Going t b → Zero t b x → (k : KindOne) → view_of k (tables t b x) (buffers t b x) ++ more k ≡ view_of k t b ++ (rows_from machine name k x ++ more k)
-    view-more w g z k = ap (λ v. v ++ more k) (view-with machine name t b x w g z k) ∙ append_assoc (view_of k t b) (rows_from machine name k x) (more k)
+    view_more : Whole x → Going t b → Zero t b x → (k : KindOne) → view_of k (tables t b x) (buffers t b x) ++ more k ≡ view_of k t b ++ (rows_from machine name k x ++ more k)
+    view_more w g z k = ap (λ v. v ++ more k) (view_with machine name t b x w g z k) ∙ append_assoc (view_of k t b) (rows_from machine name k x) (more k)
 
     -- their limits are the same
-    fitting-more : Whole x → Going t b → Zero t b x → Fitting (tables t b x) (buffers t b x) more ↔ Fitting t b (λ k. rows_from machine name k x ++ more k)
-    fitting-more w g z =
-        let l = length-with machine name t b x w g z in
-        let v = view-more w g z in
+    fitting_more : Whole x → Going t b → Zero t b x → Fitting (tables t b x) (buffers t b x) more ↔ Fitting t b (λ k. rows_from machine name k x ++ more k)
+    fitting_more w g z =
+        let l = length_with machine name t b x w g z in
+        let v = view_more w g z in
         (λ f k. within_same (l k) (v k) (f k), λ f k. within_same (sym (l k)) (sym (v k)) (f k))
 
     -- and its own are the first of them
@@ -91,51 +91,51 @@ module _ (machine : Machine) (name : List ℕ) where
     -- what follows an accepted text that is not done
     follows : {X : Type 0} (f : Session → kinds.Buffers → X) (t : Tables) (b : BuffersOne) (x : List ℕ) → Whole x → Zero t b x → is_done x ≡ false →
         f (outcome (session t) (buffers_of b later) (receive x)).session (outcome (session t) (buffers_of b later) (receive x)).buffers ≡ f (session (tables t b x)) (buffers_of (buffers t b x) later)
-    follows f t b x w z d = ap₂ f (session-received machine name screen t b later x w z d) (buffers-received machine name screen t b later x w z)
+    follows f t b x w z d = ap₂ f (session_received machine name screen t b later x w z d) (buffers_received machine name screen t b later x w z)
 
     -- texts of which only the last may be done are accepted exactly if they are right and their rows are within the limits
-    from-iff : (xs : List (List ℕ)) (y : List ℕ) (t : Tables) (b : BuffersOne) → Going t b → All Whole (xs ++ (y ∷ [])) → All (λ x. is_done x ≡ false) xs →
+    from_iff : (xs : List (List ℕ)) (y : List ℕ) (t : Tables) (b : BuffersOne) → Going t b → All Whole (xs ++ (y ∷ [])) → All (λ x. is_done x ≡ false) xs →
         Accepted (session t) (buffers_of b later) (map receive (xs ++ (y ∷ []))) ↔ (Right (xs ++ (y ∷ [])) × Fitting t b (rows (xs ++ (y ∷ []))))
     unfolding All AllZero numbers rows_in
-    from-iff [] y t b g w d =
-        let i = judged-iff machine name t b y g in
-        let n = number-received machine name screen t b later y w.0 in (
+    from_iff [] y t b g w d =
+        let i = judged_iff machine name t b y g in
+        let n = number_received machine name screen t b later y w.0 in (
           λ a. let h = i.0 (sym n ∙ a.0) in ((h.0, tt), λ k. within_same refl (ap (λ r. view_of k t b ++ r) (sym (append-nil (rows_from machine name k y)))) (h.1 k)),
           λ h. (n ∙ i.1 (h.0.0, fitting_front t b y (λ k. []) h.1), tt),
         )
-    from-iff (x ∷ xs) y t b g w d =
-        let i = judged-iff machine name t b x g in
-        let n = number-received machine name screen t b later x w.0 in
+    from_iff (x ∷ xs) y t b g w d =
+        let i = judged_iff machine name t b x g in
+        let n = number_received machine name screen t b later x w.0 in
         let cs = map receive (xs ++ (y ∷ [])) in
         let more = rows (xs ++ (y ∷ [])) in
         let next : Zero t b x → Accepted (session (tables t b x)) (buffers_of (buffers t b x) later) cs ↔ (Right (xs ++ (y ∷ [])) × Fitting (tables t b x) (buffers t b x) more) =
-        λ z. from-iff xs y (tables t b x) (buffers t b x) (going-with machine name t b x w.0 g z) w.1 d.1 in
+        λ z. from_iff xs y (tables t b x) (buffers t b x) (going_with machine name t b x w.0 g z) w.1 d.1 in
         let calls : Zero t b x → _ ≡ numbers (session (tables t b x)) (buffers_of (buffers t b x) later) cs = λ z. follows (λ s b. numbers s b cs) t b x w.0 z d.0 in (
           λ a. let z = sym n ∙ a.0 in
               let h = (next z).0 (subst AllZero (calls z) a.1) in
-              (((i.0 z).0, h.0), (fitting-more t b x more w.0 g z).0 h.1),
+              (((i.0 z).0, h.0), (fitting_more t b x more w.0 g z).0 h.1),
           λ h. let z = i.1 (h.0.0, fitting_front t b x more h.1) in
-              (n ∙ z, subst AllZero (sym (calls z)) ((next z).1 (h.0.1, (fitting-more t b x more w.0 g z).1 h.1))),
+              (n ∙ z, subst AllZero (sym (calls z)) ((next z).1 (h.0.1, (fitting_more t b x more w.0 g z).1 h.1))),
         )
 
     -- and what they leave then
-    from-left : (xs : List (List ℕ)) (y : List ℕ) (t : Tables) (b : BuffersOne) → Going t b → All Whole (xs ++ (y ∷ [])) → All (λ x. is_done x ≡ false) xs →
+    from_left : (xs : List (List ℕ)) (y : List ℕ) (t : Tables) (b : BuffersOne) → Going t b → All Whole (xs ++ (y ∷ [])) → All (λ x. is_done x ≡ false) xs →
         Accepted (session t) (buffers_of b later) (map receive (xs ++ (y ∷ []))) → Left t b (rows (xs ++ (y ∷ []))) (after (session t) (buffers_of b later) (map receive (xs ++ (y ∷ []))))
     unfolding All AllZero numbers rows_in after
-    from-left [] y t b g w d a =
-        let z = sym (number-received machine name screen t b later y w.0) ∙ a.0 in
-        let e = tables-received machine name screen t b later y w.0 z in
+    from_left [] y t b g w d a =
+        let z = sym (number_received machine name screen t b later y w.0) ∙ a.0 in
+        let e = tables_received machine name screen t b later y w.0 z in
         record {
-          views = λ k. ap₂ (view_of k) e (ap (λ b. b.first) (buffers-received machine name screen t b later y w.0 z)) ∙ view-with machine name t b y w.0 g z k ∙ ap (λ r. view_of k t b ++ r) (sym (append-nil (rows_from machine name k y)));
+          views = λ k. ap₂ (view_of k) e (ap (λ b. b.first) (buffers_received machine name screen t b later y w.0 z)) ∙ view_with machine name t b y w.0 g z k ∙ ap (λ r. view_of k t b ++ r) (sym (append-nil (rows_from machine name k y)));
           late = ap late_of e ∙ applied_late t b (command_of machine name y) (payload machine name y);
         }
-    from-left (x ∷ xs) y t b g w d a =
-        let z = sym (number-received machine name screen t b later x w.0) ∙ a.0 in
+    from_left (x ∷ xs) y t b g w d a =
+        let z = sym (number_received machine name screen t b later x w.0) ∙ a.0 in
         let cs = map receive (xs ++ (y ∷ [])) in
         let more = rows (xs ++ (y ∷ [])) in
-        let h = from-left xs y (tables t b x) (buffers t b x) (going-with machine name t b x w.0 g z) w.1 d.1 (subst AllZero (follows (λ s b. numbers s b cs) t b x w.0 z d.0) a.1) in
+        let h = from_left xs y (tables t b x) (buffers t b x) (going_with machine name t b x w.0 g z) w.1 d.1 (subst AllZero (follows (λ s b. numbers s b cs) t b x w.0 z d.0) a.1) in
         subst (Left t b (rows (x ∷ (xs ++ (y ∷ []))))) (sym (follows (λ s b. after s b cs) t b x w.0 z d.0)) (record {
-          views = λ k. h.views k ∙ view-more t b x more w.0 g z k;
+          views = λ k. h.views k ∙ view_more t b x more w.0 g z k;
           late = h.late ∙ applied_late t b (command_of machine name x) (payload machine name x);
         })
 
@@ -188,17 +188,17 @@ module _ (machine : Machine) (name : List ℕ) (screen : Bool) (b : kinds.Buffer
     none_yet : (k : KindOne) → view_of k opened_tables b.first ++ rows_in machine name k texts ≡ rows_in machine name k texts
     none_yet k = opened_none b.first k (rows_in machine name k texts)
 
-    pub texts-iff : Accepted start b (map receive texts) ↔ Allowed machine name b.first texts
-    texts-iff =
-        let i = from-iff machine name screen b.second xs y opened_tables b.first (opened_going b.first) w d in (
+    pub texts_iff : Accepted start b (map receive texts) ↔ Allowed machine name b.first texts
+    texts_iff =
+        let i = from_iff machine name screen b.second xs y opened_tables b.first (opened_going b.first) w d in (
           λ a. let f : (k : KindOne) → Within k (length (buffer_of k b.first)) (rows_in machine name k texts) = λ k. within_same refl (none_yet k) ((i.0 a).1 k) in
               record { right = (i.0 a).0; slots = λ k. (f k).slots; bytes = λ k. (f k).bytes; rising = (f headers).ordered; distinct = (f recipients).ordered },
           λ a. i.1 (a.right, λ k. within_same refl (sym (none_yet k)) (record { slots = a.slots k; bytes = a.bytes k; ordered = allowed_ordered (λ k. rows_in machine name k texts) a.rising a.distinct k })),
         )
 
-    texts-tables : Accepted start b (map receive texts) → Holds machine name texts (after start b (map receive texts))
-    texts-tables a =
-        let l = from-left machine name screen b.second xs y opened_tables b.first (opened_going b.first) w d a in
+    texts_tables : Accepted start b (map receive texts) → Holds machine name texts (after start b (map receive texts))
+    texts_tables a =
+        let l = from_left machine name screen b.second xs y opened_tables b.first (opened_going b.first) w d a in
         record {
           views = λ k. l.views k ∙ none_yet k;
           errors = ap (λ q. q.0) l.late;
@@ -211,7 +211,7 @@ module _ (machine : Machine) (name : List ℕ) (screen : Bool) (b : kinds.Buffer
     ahead = map (λ x. x.text) p.ahead
 
     split : texts_of p ≡ ahead ++ (p.last.text ∷ [])
-    split = map_append (λ x. x.text) p.ahead (p.last ∷ [])
+    split = map-append (λ x. x.text) p.ahead (p.last ∷ [])
 
     calls : map receive (ahead ++ (p.last.text ∷ [])) ≡ calls_of one_part outs (blocks_of p)
     calls = ap (map receive) (sym split) ∙ sym (quiet_calls outs (blocks_of p) h.quiet)
@@ -223,13 +223,13 @@ module _ (machine : Machine) (name : List ℕ) (screen : Bool) (b : kinds.Buffer
     none_done = (all_map (λ x. x.text) (λ x. is_done x ≡ false) p.ahead).1 h.done_once
 
     -- a phase is accepted exactly if it is allowed
-    pub accepted-iff : Accepted start b (calls_of one_part outs (blocks_of p)) ↔ Allowed machine name b.first (texts_of p)
-    accepted-iff =
+    pub accepted_iff : Accepted start b (calls_of one_part outs (blocks_of p)) ↔ Allowed machine name b.first (texts_of p)
+    accepted_iff =
         subst (λ cs. Accepted start b cs ↔ Allowed machine name b.first (texts_of p)) calls
-        (subst (λ ts. Accepted start b (map receive (ahead ++ (p.last.text ∷ []))) ↔ Allowed machine name b.first ts) (sym split) (texts-iff ahead p.last.text whole none_done))
+        (subst (λ ts. Accepted start b (map receive (ahead ++ (p.last.text ∷ []))) ↔ Allowed machine name b.first ts) (sym split) (texts_iff ahead p.last.text whole none_done))
 
     -- and then its tables are so
-    pub accepted-tables : Accepted start b (calls_of one_part outs (blocks_of p)) → Holds machine name (texts_of p) (after start b (calls_of one_part outs (blocks_of p)))
-    accepted-tables =
+    pub accepted_tables : Accepted start b (calls_of one_part outs (blocks_of p)) → Holds machine name (texts_of p) (after start b (calls_of one_part outs (blocks_of p)))
+    accepted_tables =
         subst (λ cs. Accepted start b cs → Holds machine name (texts_of p) (after start b cs)) calls
-        (subst (λ ts. Accepted start b (map receive (ahead ++ (p.last.text ∷ []))) → Holds machine name ts (after start b (map receive (ahead ++ (p.last.text ∷ []))))) (sym split) (texts-tables ahead p.last.text whole none_done))
+        (subst (λ ts. Accepted start b (map receive (ahead ++ (p.last.text ∷ []))) → Holds machine name ts (after start b (map receive (ahead ++ (p.last.text ∷ []))))) (sym split) (texts_tables ahead p.last.text whole none_done))

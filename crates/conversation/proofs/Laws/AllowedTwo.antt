@@ -33,9 +33,9 @@ use Rattle.conversation.proofs.Laws.DecidedTwo.{decided_iff, Faultless}
 use Rattle.conversation.proofs.Laws.Limits.{placed_length}
 use Rattle.conversation.proofs.Laws.PresentTwo.{Shows, applied_shows, present_iff}
 use Rattle.conversation.proofs.Laws.Runs.{accepted_append, enough_append}
-use Rattle.conversation.proofs.Laws.StepsTwo.{at, judged, tables_with, buffers_with, Settled, phase_behind, BlockDone, block-from, block_to}
-use Rattle.conversation.proofs.Laws.SumsTwo.{sums_in, said, Going, With, Kept_limits, limits-with, tests_by, adds}
-use Rattle.conversation.proofs.Laws.ViewsTwo.{two-leaves}
+use Rattle.conversation.proofs.Laws.StepsTwo.{at, judged, tables_with, buffers_with, Settled, phase_behind, BlockDone, block_from, block_to}
+use Rattle.conversation.proofs.Laws.SumsTwo.{sums_in, said, Going, With, Kept_limits, limits_with, tests_by, adds}
+use Rattle.conversation.proofs.Laws.ViewsTwo.{two_leaves}
 
 -- ---- limits: smaller sums keep them
 
@@ -84,7 +84,7 @@ decided_exact own left t b d c p h s =
     let i = decided_iff own t b c (length p) in
     let r = right_iff d c h in
     let q = present_iff t left s.shows c in (
-      λ z. let f = i.0 z in (r.0 f.right, q.0 f.there, limits-with t b s.going s.limits p own c f, f.unheld),
+      λ z. let f = i.0 z in (r.0 f.right, q.0 f.there, limits_with t b s.going s.limits p own c f, f.unheld),
       λ y. let v = tests_by t b s.going p c y.2 in i.1 (record { right = r.1 y.0; there = q.1 y.1; first_key = v.0; few = v.1; apart = v.2; unheld = y.3; space = v.3 }),
     )
 
@@ -116,22 +116,28 @@ applied_going t b (bad n) p g = g
 -- buffers keep their lengths
 pub filled_length : (t : Tables) (b : two.BuffersTwo) (c : CommandTwo) (p : List ℕ) (k : KindTwo) → length (buffer_of k b) ≡ length (buffer_of k (filled_by t b c p))
 filled_length t b (ask w) p k = refl
-filled_length t b (stanza f) p k = elim k [ errors ↦ refl | stanzas ↦ sym (kept_length t.stanzas p b.stanzas) | returned ↦ refl ]
-filled_length t b (key f) p k = elim k [ errors ↦ refl | stanzas ↦ refl | returned ↦ sym (kept_length t.returned p b.returned) ]
-filled_length t b (error n) p k = elim k [ errors ↦ sym (kept_length t.errors p b.errors) | stanzas ↦ refl | returned ↦ refl ]
+filled_length t b (stanza f) p errors = refl
+filled_length t b (stanza f) p stanzas = sym (kept_length t.stanzas p b.stanzas)
+filled_length t b (stanza f) p returned = refl
+filled_length t b (key f) p errors = refl
+filled_length t b (key f) p stanzas = refl
+filled_length t b (key f) p returned = sym (kept_length t.returned p b.returned)
+filled_length t b (error n) p errors = sym (kept_length t.errors p b.errors)
+filled_length t b (error n) p stanzas = refl
+filled_length t b (error n) p returned = refl
 filled_length t b done p k = refl
 filled_length t b other p k = refl
 filled_length t b (bad n) p k = refl
 
 most_same : (t : Tables) (b : two.BuffersTwo) (c : CommandTwo) (p : List ℕ) → most_stanzas t ≡ most_stanzas (applied t b c p)
-most_same t b c p = ap₂ (λ x y. x.count + y.count) (sym (two-leaves t p b c recipients)) (sym (two-leaves t p b c identities))
+most_same t b c p = ap₂ (λ x y. x.count + y.count) (sym (two_leaves t p b c recipients)) (sym (two_leaves t p b c identities))
 
 -- behind an accepted command
 pub standing_with : (own : Bool) (left : Left) (t : Tables) (b : two.BuffersTwo) (c : CommandTwo) (p : List ℕ) → Standing left t b → Faultless own t b c (length p) → Standing left (applied t b c p) (filled_by t b c p)
 standing_with own left t b c p s f = record {
   going = applied_going t b c p s.going;
   shows = applied_shows t b c p left s.shows;
-  limits = limits_same (most_stanzas t) (most_stanzas (applied t b c p)) (λ k. length (buffer_of k b)) (λ k. length (buffer_of k (filled_by t b c p))) (λ m. sums_in t m + weight m (said c p)) (sums_in (applied t b c p)) (most_same t b c p) (filled_length t b c p) (adds t b s.going p own c f) (limits-with t b s.going s.limits p own c f);
+  limits = limits_same (most_stanzas t) (most_stanzas (applied t b c p)) (λ k. length (buffer_of k b)) (λ k. length (buffer_of k (filled_by t b c p))) (λ m. sums_in t m + weight m (said c p)) (sums_in (applied t b c p)) (most_same t b c p) (filled_length t b c p) (adds t b s.going p own c f) (limits_with t b s.going s.limits p own c f);
 }
 
 -- the limits with what is still to come
@@ -209,26 +215,26 @@ module _ (s : Session) (left : Left) where
     p = payload_in s.machine x.text
 
     -- it is right by itself and keeps the limits exactly if the decision finds no fault and its replies are as they must be
-    pub block-iff : ((judged s t b x.text w ≡ 0) × Answered s.screen c x.replies) ↔ (RightBlock s.machine s.screen left x × With t b.second c p)
-    block-iff =
+    pub block_iff : ((judged s t b x.text w ≡ 0) × Answered s.screen c x.replies) ↔ (RightBlock s.machine s.screen left x × With t b.second c p)
+    block_iff =
         let i = decided_exact false left t b.second (is_done x.text) c p (proper x.text) g in (
           λ h. let r = i.0 h.0 in (record { right = r.0; present = r.1; answered = h.1 }, r.2),
           λ h. (i.1 (h.0.right, h.0.present, h.1, refl), h.0.answered),
         )
 
-    pub standing-behind : judged s t b x.text w ≡ 0 → Standing left (tables_with s t b x.text w) (buffers_with s t b x.text w).second
-    standing-behind z = standing_with false left t b.second c p g ((decided_iff false t b.second c (length p)).0 z)
+    pub standing_behind : judged s t b x.text w ≡ 0 → Standing left (tables_with s t b x.text w) (buffers_with s t b x.text w).second
+    standing_behind z = standing_with false left t b.second c p g ((decided_iff false t b.second c (length p)).0 z)
 
   -- a list of blocks is accepted only in phase two
-  pub first-turn : (s' : Session) (b : Buffers) (outs : Supply) (xs : List Block) (y : Block) → Accepted s' b (calls_of two_part outs (xs ++ (y ∷ []))) → s'.phase ≡ Two
+  pub first_turn : (s' : Session) (b : Buffers) (outs : Supply) (xs : List Block) (y : Block) → Accepted s' b (calls_of two_part outs (xs ++ (y ∷ []))) → s'.phase ≡ Two
   unfolding calls_of AllZero numbers
-  first-turn s' b outs [] y a = (accepted s' b (receive_two y.text (outs 0)) a.0).turn
-  first-turn s' b outs (x ∷ xs) y a = (accepted s' b (receive_two x.text (outs 0)) a.0).turn
+  first_turn s' b outs [] y a = (accepted s' b (receive_two y.text (outs 0)) a.0).turn
+  first_turn s' b outs (x ∷ xs) y a = (accepted s' b (receive_two x.text (outs 0)) a.0).turn
 
   -- behind a block that is not done
-  pub behind-block : (t : Tables) (b : Buffers) (x : Block) (w : Whole x.text) (outs : Supply) → is_done x.text ≡ false → BlockDone s t b x w outs →
+  pub behind_block : (t : Tables) (b : Buffers) (x : Block) (w : Whole x.text) (outs : Supply) → is_done x.text ≡ false → BlockDone s t b x w outs →
       after (at s Two t) b (block_calls two_part outs x) ≡ state_of (at s Two (tables_with s t b x.text w)) (buffers_with s t b x.text w)
-  behind-block t b x w outs d k =
+  behind_block t b x w outs d k =
       k.state ∙ ap (λ q. state_of (at s q (tables_with s t b x.text w)) (buffers_with s t b x.text w)) (goes_on (command_in s.machine x.text) (subst (λ f. Proper f (command_in s.machine x.text)) d (proper x.text)))
 
   abbrev pub Right : List Block → Type 0
@@ -238,13 +244,13 @@ module _ (s : Session) (left : Left) where
   saids xs = map (said_by s.machine) xs
 
   -- the blocks from here on are accepted exactly if each is right and together they keep the limits
-  pub accepted-from : (xs : List Block) (y : Block) (t : Tables) (b : Buffers) (outs : Supply) → Standing left t b.second → All (λ x. Whole x.text) (xs ++ (y ∷ [])) → All (λ x. is_done x.text ≡ false) xs → is_done y.text ≡ true →
+  pub accepted_from : (xs : List Block) (y : Block) (t : Tables) (b : Buffers) (outs : Supply) → Standing left t b.second → All (λ x. Whole x.text) (xs ++ (y ∷ [])) → All (λ x. is_done x.text ≡ false) xs → is_done y.text ≡ true →
       LongEnough (at s Two t) b (calls_of two_part outs (xs ++ (y ∷ []))) →
       Accepted (at s Two t) b (calls_of two_part outs (xs ++ (y ∷ []))) ↔ (Right (xs ++ (y ∷ [])) × Fitting t b.second (saids (xs ++ (y ∷ []))))
   unfolding All calls_of total
-  accepted-from [] y t b outs g w d e l =
+  accepted_from [] y t b outs g w d e l =
       let le = (enough_append (at s Two t) b (block_calls two_part outs y) [] l).0 in
-      let i = block-iff t b y w.0 g in
+      let i = block_iff t b y w.0 g in
       let split = accepted_append (at s Two t) b (block_calls two_part outs y) [] in (
         λ a.
             let h = block_to s t b y w.0 outs le (split.0 a).0 (λ v q. absurd (done_asks s.machine y.text e v q)) in
@@ -252,23 +258,23 @@ module _ (s : Session) (left : Left) where
             ((r.0, tt), fitting_one t b.second (command_in s.machine y.text) (payload_in s.machine y.text) r.1),
         λ h.
             let z = i.1 (h.0.0, fitting_front t b.second (command_in s.machine y.text) (payload_in s.machine y.text) [] h.1) in
-            split.1 ((block-from s t b y w.0 outs le z.0 z.1).zeros, unfold AllZero in unfold numbers in tt),
+            split.1 ((block_from s t b y w.0 outs le z.0 z.1).zeros, unfold AllZero in unfold numbers in tt),
       )
-  accepted-from (x ∷ xs) y t b outs g w d e l =
+  accepted_from (x ∷ xs) y t b outs g w d e l =
       let cs = calls_of two_part (behind outs x) (xs ++ (y ∷ [])) in
       let le = enough_append (at s Two t) b (block_calls two_part outs x) cs l in
-      let i = block-iff t b x w.0 g in
+      let i = block_iff t b x w.0 g in
       let split = accepted_append (at s Two t) b (block_calls two_part outs x) cs in
       let t' = tables_with s t b x.text w.0 in
       let b' = buffers_with s t b x.text w.0 in
       let Replies = Answered s.screen (command_in s.machine x.text) x.replies in
       let state : judged s t b x.text w.0 ≡ 0 → Replies → after (at s Two t) b (block_calls two_part outs x) ≡ state_of (at s Two t') b' =
-      λ z q. behind-block t b x w.0 outs d.0 (block-from s t b x w.0 outs le.0 z q) in
+      λ z q. behind_block t b x w.0 outs d.0 (block_from s t b x w.0 outs le.0 z q) in
       let later : judged s t b x.text w.0 ≡ 0 → Replies → Accepted (at s Two t') b' cs ↔ (Right (xs ++ (y ∷ [])) × Fitting t' b'.second (saids (xs ++ (y ∷ [])))) =
-      λ z q. accepted-from xs y t' b' (behind outs x) (standing-behind t b x w.0 g z) w.1 d.1 e (subst (λ u. LongEnough u.session u.buffers cs) (state z q) le.1) in (
+      λ z q. accepted_from xs y t' b' (behind outs x) (standing_behind t b x w.0 g z) w.1 d.1 e (subst (λ u. LongEnough u.session u.buffers cs) (state z q) le.1) in (
         λ a.
             let split-a = split.0 a in
-            let turn = first-turn (after (at s Two t) b (block_calls two_part outs x)).session (after (at s Two t) b (block_calls two_part outs x)).buffers (behind outs x) xs y split-a.1 in
+            let turn = first_turn (after (at s Two t) b (block_calls two_part outs x)).session (after (at s Two t) b (block_calls two_part outs x)).buffers (behind outs x) xs y split-a.1 in
             let h = block_to s t b x w.0 outs le.0 split-a.0 (λ v q. subst Settled (sym turn) tt) in
             let r = i.0 h in
             let rest = (later h.0 h.1).0 (subst (λ u. Accepted u.session u.buffers cs) (state h.0 h.1) split-a.1) in
@@ -278,5 +284,5 @@ module _ (s : Session) (left : Left) where
             let z = i.1 (h.0.0, fitting_front t b.second (command_in s.machine x.text) (payload_in s.machine x.text) (saids (xs ++ (y ∷ []))) h.1) in
             let f = (decided_iff false t b.second (command_in s.machine x.text) (length (payload_in s.machine x.text))).0 z.0 in
             let rest = (later z.0 z.1).1 (h.0.1, (fitting_rest false left t b.second (command_in s.machine x.text) (payload_in s.machine x.text) (saids (xs ++ (y ∷ []))) g f).0 h.1) in
-            split.1 ((block-from s t b x w.0 outs le.0 z.0 z.1).zeros, subst (λ u. Accepted u.session u.buffers cs) (sym (state z.0 z.1)) rest),
+            split.1 ((block_from s t b x w.0 outs le.0 z.0 z.1).zeros, subst (λ u. Accepted u.session u.buffers cs) (sym (state z.0 z.1)) rest),
       )

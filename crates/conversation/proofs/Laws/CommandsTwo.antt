@@ -48,28 +48,28 @@ module _ (d : Bool) where
   five e = omega arith
 
   module _ (line : List ℕ) where
-    header-proper : (q r : List ℕ) → Proper d (header_at (read_index q) (read_index r))
-    header-proper q r = by_index (λ x. Proper d (header_at x (read_index r))) q (λ f. by_index (λ y. Proper d (header_at (number f) y)) r (λ i. tt) five) five
+    header_proper : (q r : List ℕ) → Proper d (header_at (read_index q) (read_index r))
+    header_proper q r = by_index (λ x. Proper d (header_at x (read_index r))) q (λ f. by_index (λ y. Proper d (header_at (number f) y)) r (λ i. tt) five) five
 
-    error-proper : (name : ℕ → Named) (t : List ℕ) → Proper d (error_at name (read_index t))
-    error-proper name t = by_index (λ x. Proper d (error_at name x)) t (λ i. tt) five
+    error_proper : (name : ℕ → Named) (t : List ℕ) → Proper d (error_at name (read_index t))
+    error_proper name t = by_index (λ x. Proper d (error_at name x)) t (λ i. tt) five
 
-    error-of : (m : Machine) → Proper d (error_of m line)
-    error-of RecipientV1 = either (same (argument_of line 1) recipient_word && eqb (count_of line) 3) _ (bad 4) (error-proper recipient (argument_of line 2)) four
-    error-of IdentityV1 = either (same (argument_of line 1) stanza_word && eqb (count_of line) 4) _ (bad 4) (header-proper (argument_of line 2) (argument_of line 3)) four
+    error_of_lem : (m : Machine) → Proper d (error_of m line)
+    error_of_lem RecipientV1 = either (same (argument_of line 1) recipient_word && eqb (count_of line) 3) _ (bad 4) (error_proper recipient (argument_of line 2)) four
+    error_of_lem IdentityV1 = either (same (argument_of line 1) stanza_word && eqb (count_of line) 4) _ (bad 4) (header_proper (argument_of line 2) (argument_of line 3)) four
 
-    row-proper : (w : WordTwo) (m : Machine) (n : ℕ) → (w ≡ Done → d ≡ true) → Proper d (row_two w m line n)
-    row-proper Msg m n h = either (eqb (count_of line) 1) (ask Msg) (bad 4) refl four
-    row-proper Confirm m n h = either (are_labels line) (ask Confirm) (bad 4) refl four
-    row-proper RequestPublic m n h = either (eqb (count_of line) 1) (ask RequestPublic) (bad 4) refl four
-    row-proper RequestSecret m n h = either (eqb (count_of line) 1) (ask RequestSecret) (bad 4) refl four
-    row-proper RecipientStanza m n h = either (leb 3 (count_of line)) _ (bad 4) (by_index (λ x. Proper d (stanza_at x)) (argument_of line 1) (λ i. tt) five) four
-    row-proper FileKey m n h = either (eqb (count_of line) 2 && eqb n 16) _ (bad 4) (by_index (λ x. Proper d (key_at x)) (argument_of line 1) (λ i. tt) five) four
-    row-proper Error m n h =
+    row_proper : (w : WordTwo) (m : Machine) (n : ℕ) → (w ≡ Done → d ≡ true) → Proper d (row_two w m line n)
+    row_proper Msg m n h = either (eqb (count_of line) 1) (ask Msg) (bad 4) refl four
+    row_proper Confirm m n h = either (are_labels line) (ask Confirm) (bad 4) refl four
+    row_proper RequestPublic m n h = either (eqb (count_of line) 1) (ask RequestPublic) (bad 4) refl four
+    row_proper RequestSecret m n h = either (eqb (count_of line) 1) (ask RequestSecret) (bad 4) refl four
+    row_proper RecipientStanza m n h = either (leb 3 (count_of line)) _ (bad 4) (by_index (λ x. Proper d (stanza_at x)) (argument_of line 1) (λ i. tt) five) four
+    row_proper FileKey m n h = either (eqb (count_of line) 2 && eqb n 16) _ (bad 4) (by_index (λ x. Proper d (key_at x)) (argument_of line 1) (λ i. tt) five) four
+    row_proper Error m n h =
         either (same (argument_of line 1) internal_word && eqb (count_of line) 2) (error internal) _ tt
-        (either (same (argument_of line 1) identity_word && eqb (count_of line) 3) _ (error_of m line) (error-proper identity (argument_of line 2)) (error-of m))
-    row-proper Other m n h = tt
-    row-proper Done m n h = either (is_bare line n 0) done (bad 4) (h refl) four
+        (either (same (argument_of line 1) identity_word && eqb (count_of line) 3) _ (error_of m line) (error_proper identity (argument_of line 2)) (error_of_lem m))
+    row_proper Other m n h = tt
+    row_proper Done m n h = either (is_bare line n 0) done (bad 4) (h refl) four
 
 -- the word done alone names done
 abbrev is_done_word : WordTwo → Bool
@@ -114,7 +114,7 @@ named_done m w =
 
 pub command_proper : (m : Machine) (line body : List ℕ) → Proper (same (argument_of line 0) done_word) (command_two m line body)
 unfolding command_two
-command_proper m line body = row-proper (same (argument_of line 0) done_word) line (word_two m (argument_of line 0)) m (length body) (named_done m (argument_of line 0))
+command_proper m line body = row_proper (same (argument_of line 0) done_word) line (word_two m (argument_of line 0)) m (length body) (named_done m (argument_of line 0))
 
 -- ---- the text of a word that a text names for a machine is that text
 

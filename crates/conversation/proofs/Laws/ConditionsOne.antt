@@ -12,7 +12,7 @@ use Rattle.refusal.specs.Verdict.{first_of}
 use Rattle.refusal.proofs.Laws.Booleans.{cases}
 use Rattle.tables.specs.Repeats.{repeats}
 use Rattle.tables.specs.Tables.{Row, fits}
-use Rattle.tables.proofs.Laws.Repeats.{repeats-iff}
+use Rattle.tables.proofs.Laws.Repeats.{repeats_iff}
 use Rattle.session.specs.Session.{Session}
 use Rattle.session.specs.Tables.{Tables}
 use Rattle.phase_one.specs.Commands.{CommandOne, recipient, identity, key, header, done, other, bad, payload_of}
@@ -22,11 +22,11 @@ use Rattle.stanza.specs.Arguments.{argument_of}
 use Rattle.conversation.specs.PhaseTwo.{when}
 use Rattle.conversation.specs.Kinds.{AnyKind, first, Buffers, view_of}
 use Rattle.conversation.specs.Numbers.{SayingOne, SaysOne, Falling, Twice, Full, stanza_payload, SpacelessOne, recipient_spaceless, identity_spaceless, key_spaceless, header_spaceless}
-use Rattle.conversation.proofs.Laws.ConditionsTwo.{kept_any, full-iff}
+use Rattle.conversation.proofs.Laws.ConditionsTwo.{kept_any, full_iff}
 use Rattle.conversation.proofs.Laws.SumsTwo.{assured}
 use Rattle.conversation.proofs.Laws.Limits.{last_of, last_is, no_fall}
 use Rattle.conversation.proofs.Laws.Reached.{ReachedSession}
-use Rattle.conversation.proofs.Laws.RowsOne.{SaidOne, says-recipient, says-identity, says-key, says-header}
+use Rattle.conversation.proofs.Laws.RowsOne.{SaidOne, says_recipient, says_identity, says_key, says_header}
 
 -- ---- the decision as a row of tests
 
@@ -119,63 +119,63 @@ module _ (s : Session) (b : Buffers) (r : ReachedSession s) (line body : List �
   Said c = SaidOne s.machine line body c
 
   -- No. 7
-  no-fall-here : (i : ℕ) → falls t.headers i ≡ false → last_of (rows (first headers)) ≤ i
-  no-fall-here i f = (no_fall t.headers i b.first.headers (kept_any s b r (first headers))).0 f
+  no_fall_here : (i : ℕ) → falls t.headers i ≡ false → last_of (rows (first headers)) ≤ i
+  no_fall_here i f = (no_fall t.headers i b.first.headers (kept_any s b r (first headers))).0 f
 
-  pub falling-to : Falling Says rows → is_falling t said ≡ true
-  falling-to x =
-      let e = says-header s.machine line body s.name x.index x.said in
-      ap (is_falling t) e ∙ assured (falls t.headers x.index) (λ f. omega (arith, no-fall-here x.index f, ap last_of x.shown ∙ last_is x.before x.last, x.falls))
+  pub falling_to : Falling Says rows → is_falling t said ≡ true
+  falling_to x =
+      let e = says_header s.machine line body s.name x.index x.said in
+      ap (is_falling t) e ∙ assured (falls t.headers x.index) (λ f. omega (arith, no_fall_here x.index f, ap last_of x.shown ∙ last_is x.before x.last, x.falls))
 
-  pub falling-from : (c : CommandOne) → Said c → is_falling t c ≡ true → Falling Says rows
-  falling-from (recipient m) h e = absurd (false≢true e)
-  falling-from (identity m) h e = absurd (false≢true e)
-  falling-from key h e = absurd (false≢true e)
-  falling-from (header i m) h e =
+  pub falling_from : (c : CommandOne) → Said c → is_falling t c ≡ true → Falling Says rows
+  falling_from (recipient m) h e = absurd (false≢true e)
+  falling_from (identity m) h e = absurd (false≢true e)
+  falling_from key h e = absurd (false≢true e)
+  falling_from (header i m) h e =
       let n : last_of (rows (first headers)) ≤ i → ⊥ = λ l. true≢false (sym e ∙ (no_fall t.headers i b.first.headers (kept_any s b r (first headers))).1 l) in
       let j = split_last (rows (first headers)) i (omega arith) in
       record { index = i; said = h; before = j.0; last = j.1; shown = j.2; falls = j.3 }
-  falling-from done h e = absurd (false≢true e)
-  falling-from other h e = absurd (false≢true e)
-  falling-from (bad n) h e = absurd (false≢true e)
+  falling_from done h e = absurd (false≢true e)
+  falling_from other h e = absurd (false≢true e)
+  falling_from (bad n) h e = absurd (false≢true e)
 
   -- No. 20
   abbrev repeated : CommandOne → Bool
   repeated c = is_repeated t b.first c (payload_of c line body)
 
-  pub repeated-to : Twice Says t b.first.recipients → repeated said ≡ true
-  repeated-to x =
-      let e = says-recipient s.machine line body s.name x.text x.said in
-      ap repeated e.0 ∙ (repeats-iff t.recipients b.first.recipients (argument_of line 1) (kept_any s b r (first recipients))).1 (x.earlier, x.there, x.held, x.equal ∙ e.1)
+  pub repeated_to : Twice Says t b.first.recipients → repeated said ≡ true
+  repeated_to x =
+      let e = says_recipient s.machine line body s.name x.text x.said in
+      ap repeated e.0 ∙ (repeats_iff t.recipients b.first.recipients (argument_of line 1) (kept_any s b r (first recipients))).1 (x.earlier, x.there, x.held, x.equal ∙ e.1)
 
-  pub repeated-from : (c : CommandOne) → Said c → repeated c ≡ true → Twice Says t b.first.recipients
-  repeated-from (recipient m) h e =
-      let i = (repeats-iff t.recipients b.first.recipients (argument_of line 1) (kept_any s b r (first recipients))).0 e in
+  pub repeated_from : (c : CommandOne) → Said c → repeated c ≡ true → Twice Says t b.first.recipients
+  repeated_from (recipient m) h e =
+      let i = (repeats_iff t.recipients b.first.recipients (argument_of line 1) (kept_any s b r (first recipients))).0 e in
       record { text = argument_of line 1; said = h; earlier = i.0; there = i.1; held = i.2; equal = i.3 }
-  repeated-from (identity m) h e = absurd (false≢true e)
-  repeated-from key h e = absurd (false≢true e)
-  repeated-from (header i m) h e = absurd (false≢true e)
-  repeated-from done h e = absurd (false≢true e)
-  repeated-from other h e = absurd (false≢true e)
-  repeated-from (bad n) h e = absurd (false≢true e)
+  repeated_from (identity m) h e = absurd (false≢true e)
+  repeated_from key h e = absurd (false≢true e)
+  repeated_from (header i m) h e = absurd (false≢true e)
+  repeated_from done h e = absurd (false≢true e)
+  repeated_from other h e = absurd (false≢true e)
+  repeated_from (bad n) h e = absurd (false≢true e)
 
   -- No. 8
   abbrev spaceless : CommandOne → Bool
   spaceless c = is_spaceless_one t b.first c (length (payload_of c line body))
 
-  pub spaceless-one-to : SpacelessOne Says t b line body → spaceless said ≡ true
-  spaceless-one-to (recipient_spaceless a h l) =
-      let e = says-recipient s.machine line body s.name a h in ap spaceless e.0 ∙ (full-iff s b r (first recipients) (argument_of line 1)).1 (subst (Full t b (first recipients)) e.1 l)
-  spaceless-one-to (identity_spaceless a h l) =
-      let e = says-identity s.machine line body s.name a h in ap spaceless e.0 ∙ (full-iff s b r (first identities) (argument_of line 1)).1 (subst (Full t b (first identities)) e.1 l)
-  spaceless-one-to (key_spaceless h l) = ap spaceless (says-key s.machine line body s.name h) ∙ (full-iff s b r (first keys) body).1 l
-  spaceless-one-to (header_spaceless i h l) = ap spaceless (says-header s.machine line body s.name i h) ∙ (full-iff s b r (first headers) (stanza_payload line body)).1 l
+  pub spaceless_one_to : SpacelessOne Says t b line body → spaceless said ≡ true
+  spaceless_one_to (recipient_spaceless a h l) =
+      let e = says_recipient s.machine line body s.name a h in ap spaceless e.0 ∙ (full_iff s b r (first recipients) (argument_of line 1)).1 (subst (Full t b (first recipients)) e.1 l)
+  spaceless_one_to (identity_spaceless a h l) =
+      let e = says_identity s.machine line body s.name a h in ap spaceless e.0 ∙ (full_iff s b r (first identities) (argument_of line 1)).1 (subst (Full t b (first identities)) e.1 l)
+  spaceless_one_to (key_spaceless h l) = ap spaceless (says_key s.machine line body s.name h) ∙ (full_iff s b r (first keys) body).1 l
+  spaceless_one_to (header_spaceless i h l) = ap spaceless (says_header s.machine line body s.name i h) ∙ (full_iff s b r (first headers) (stanza_payload line body)).1 l
 
-  pub spaceless-one-from : (c : CommandOne) → Said c → spaceless c ≡ true → SpacelessOne Says t b line body
-  spaceless-one-from (recipient m) h e = recipient_spaceless (argument_of line 1) h ((full-iff s b r (first recipients) (argument_of line 1)).0 e)
-  spaceless-one-from (identity m) h e = identity_spaceless (argument_of line 1) h ((full-iff s b r (first identities) (argument_of line 1)).0 e)
-  spaceless-one-from key h e = key_spaceless h ((full-iff s b r (first keys) body).0 e)
-  spaceless-one-from (header i m) h e = header_spaceless i h ((full-iff s b r (first headers) (stanza_payload line body)).0 e)
-  spaceless-one-from done h e = absurd (false≢true e)
-  spaceless-one-from other h e = absurd (false≢true e)
-  spaceless-one-from (bad n) h e = absurd (false≢true e)
+  pub spaceless_one_from : (c : CommandOne) → Said c → spaceless c ≡ true → SpacelessOne Says t b line body
+  spaceless_one_from (recipient m) h e = recipient_spaceless (argument_of line 1) h ((full_iff s b r (first recipients) (argument_of line 1)).0 e)
+  spaceless_one_from (identity m) h e = identity_spaceless (argument_of line 1) h ((full_iff s b r (first identities) (argument_of line 1)).0 e)
+  spaceless_one_from key h e = key_spaceless h ((full_iff s b r (first keys) body).0 e)
+  spaceless_one_from (header i m) h e = header_spaceless i h ((full_iff s b r (first headers) (stanza_payload line body)).0 e)
+  spaceless_one_from done h e = absurd (false≢true e)
+  spaceless_one_from other h e = absurd (false≢true e)
+  spaceless_one_from (bad n) h e = absurd (false≢true e)

@@ -4,7 +4,7 @@ use Prim.Native.Nat.{ℕ, ◌+◌}
 use mathlib.Core.Path.{◌≡◌, refl, sym, ap, ◌∙◌}
 use mathlib.Core.Bool.{Bool, true, false, ◌&&◌}
 use mathlib.Core.Logic.{◌↔◌}
-use mathlib.Core.List.{List, [], ◌∷◌, ◌++◌, map, map_append, append_assoc}
+use mathlib.Core.List.{List, [], ◌∷◌, ◌++◌, map, map-append, append_assoc}
 use lib.Dec.{eqb}
 use lib.ListN.{length, take}
 use native.Mathlib.Omega.{arith}
@@ -81,7 +81,7 @@ pub labels_more : (t : Table) (p b : List ℕ) (index mark : ℕ) → Kept t →
 labels_more t p b index mark k f =
     labels_view (entered t (length p) index mark (length b)) (kept t p b)
     ∙ ap row_labels (entered_view t p b index mark k ∙ ap (λ x. pick x (view t b ++ (record { payload = p; index = index; mark = mark } ∷ [])) (view t b)) f)
-    ∙ map_append row_label (view t b) _
+    ∙ map-append row_label (view t b) _
     ∙ ap (λ l. l ++ (record { index = index; mark = mark } ∷ [])) (sym (labels_view t b))
 
 pub many_append : (q : Label → Bool) (a b : List Label) → how_many q (a ++ b) ≡ how_many q a + how_many q b

@@ -93,16 +93,16 @@ five : (w : WordTwo) → OfTwo w (bad 5)
 five w e = absurd (omega arith)
 
 module _ (line : List ℕ) where
-  error-at : (name : ℕ → Named) (t : List ℕ) → OfTwo the_word.Error (two_command.error_at name (read_index t))
-  error-at name t = by_index (λ x. OfTwo the_word.Error (two_command.error_at name x)) t (λ i e. refl) (five _)
+  error_at_lem : (name : ℕ → Named) (t : List ℕ) → OfTwo the_word.Error (two_command.error_at name (read_index t))
+  error_at_lem name t = by_index (λ x. OfTwo the_word.Error (two_command.error_at name x)) t (λ i e. refl) (five _)
 
-  header-at : (q r : List ℕ) → OfTwo the_word.Error (two_command.header_at (read_index q) (read_index r))
-  header-at q r =
+  header_at_lem : (q r : List ℕ) → OfTwo the_word.Error (two_command.header_at (read_index q) (read_index r))
+  header_at_lem q r =
       by_index (λ x. OfTwo the_word.Error (two_command.header_at x (read_index r))) q (λ f. by_index (λ y. OfTwo the_word.Error (two_command.header_at (index.number f) y)) r (λ i e. refl) (five _)) (five _)
 
-  error-of : (m : Machine) → OfTwo the_word.Error (two_command.error_of m line)
-  error-of RecipientV1 = either_two _ (same (argument_of line 1) two_command.recipient_word && eqb (count_of line) 3) _ _ (error-at two_command.recipient (argument_of line 2)) (four _)
-  error-of IdentityV1 = either_two _ (same (argument_of line 1) two_command.stanza_word && eqb (count_of line) 4) _ _ (header-at (argument_of line 2) (argument_of line 3)) (four _)
+  error_of_lem : (m : Machine) → OfTwo the_word.Error (two_command.error_of m line)
+  error_of_lem RecipientV1 = either_two _ (same (argument_of line 1) two_command.recipient_word && eqb (count_of line) 3) _ _ (error_at_lem two_command.recipient (argument_of line 2)) (four _)
+  error_of_lem IdentityV1 = either_two _ (same (argument_of line 1) two_command.stanza_word && eqb (count_of line) 4) _ _ (header_at_lem (argument_of line 2) (argument_of line 3)) (four _)
 
   word_two : (w : WordTwo) (m : Machine) (n : ℕ) → OfTwo w (two_command.row_two w m line n)
   word_two the_word.Msg m n = either_two _ (eqb (count_of line) 1) _ _ (λ e. refl) (four _)
@@ -113,7 +113,7 @@ module _ (line : List ℕ) where
   word_two the_word.FileKey m n = either_two _ (eqb (count_of line) 2 && eqb n 16) _ _ (by_index (λ x. OfTwo the_word.FileKey (two_command.key_at x)) (argument_of line 1) (λ i e. refl) (five _)) (four _)
   word_two the_word.Error m n =
       either_two _ (same (argument_of line 1) two_command.internal_word && eqb (count_of line) 2) _ _ (λ e. refl)
-      (either_two _ (same (argument_of line 1) two_command.identity_word && eqb (count_of line) 3) _ _ (error-at two_command.identity (argument_of line 2)) (error-of m))
+      (either_two _ (same (argument_of line 1) two_command.identity_word && eqb (count_of line) 3) _ _ (error_at_lem two_command.identity (argument_of line 2)) (error_of_lem m))
   word_two the_word.Other m n = λ e. refl
   word_two the_word.Done m n = either_two _ (is_bare line n 0) _ _ (λ e. refl) (four _)
 
@@ -144,9 +144,9 @@ module _ (s : Session) (b : Buffers) where
       (λ f. eqb-false z 0 f)
   as_one text (reading.refused n) o = λ h. absurd (text_number_lem text n o h)
 
-  received-one : (text : List ℕ) → number_received (receiving.received s text b.first) ≡ 0 → GivenOne (read_first text) text (receiving.received s text b.first)
+  received_one : (text : List ℕ) → number_received (receiving.received s text b.first) ≡ 0 → GivenOne (read_first text) text (receiving.received s text b.first)
   unfolding receiving.received
-  received-one text =
+  received_one text =
       branch (GivenOne (read_first text) text) number_received (eqb (turn_one s.phase) 0) _ _ (λ f. as_one text (read_first text) refl) (λ f. eqb-false (turn_one s.phase) 0 f)
 
   -- .. and sent
@@ -156,9 +156,9 @@ module _ (s : Session) (b : Buffers) where
   abbrev WroteOne : List ℕ → List ℕ → sending.Sent → Type 0
   WroteOne line body r = sent_given r.answer ≡ wrote (length (stanza_text line body))
 
-  line-one : (line body out : List ℕ) → number_sent (sending.sent_line s b.first line body out) ≡ 0 → WroteOne line body (sending.sent_line s b.first line body out)
+  line_one : (line body out : List ℕ) → number_sent (sending.sent_line s b.first line body out) ≡ 0 → WroteOne line body (sending.sent_line s b.first line body out)
   unfolding sending.sent_stanza
-  line-one line body out =
+  line_one line body out =
       let n = number_one s.machine s.name s.tables b.first (shortness (stanza_text line body) out) line body in
       branch (WroteOne line body) number_sent (is_writable line body) _ _ (λ w. branch (WroteOne line body) number_sent (eqb n 0) _ _ (λ f h. refl) (λ f. eqb-false n 0 f)) (λ w h. omega arith)
 
@@ -166,7 +166,7 @@ module _ (s : Session) (b : Buffers) where
       WroteOne (one_command.line_sent word arguments) body (sending.sent s word arguments body b.first out)
   unfolding sending.sent
   sent_one word arguments body out =
-      branch (WroteOne (one_command.line_sent word arguments) body) number_sent (eqb (turn_one s.phase) 0) _ _ (λ f. line-one (one_command.line_sent word arguments) body out) (λ f. eqb-false (turn_one s.phase) 0 f)
+      branch (WroteOne (one_command.line_sent word arguments) body) number_sent (eqb (turn_one s.phase) 0) _ _ (λ f. line_one (one_command.line_sent word arguments) body out) (λ f. eqb-false (turn_one s.phase) 0 f)
 
   -- phase two, received
   abbrev number_received_two : receiving_two.Received → ℕ
@@ -177,29 +177,29 @@ module _ (s : Session) (b : Buffers) where
       taking_two_given r.answer ≡ given_command_two (two_command.word_two s.machine (argument_of (line_read q text) 0)) (taken_by q)
       (length (receiving_two.text_of (receiving_two.at_once s.screen (two_command.command_two s.machine (line_read q text) (body_read q text)))))
 
-  no-fault : (c : CommandTwo) (n m : ℕ) → first_of (two.decided false s.tables b.second c n) m ≡ 0 → two.fault_of c ≡ 0
+  no_fault : (c : CommandTwo) (n m : ℕ) → first_of (two.decided false s.tables b.second c n) m ≡ 0 → two.fault_of c ≡ 0
   unfolding two.decided
-  no-fault c n m e =
+  no_fault c n m e =
       first_zero (two.fault_of c) _ (first_zero (two.ruled false s.tables c) _ (first_zero (two.decided false s.tables b.second c n) m e))
 
-  as-two : (text out : List ℕ) (q : Reading) → read_first text ≡ q → number_received_two (receiving_two.received_as q s text b.second out) ≡ 0 →
+  as_two : (text out : List ℕ) (q : Reading) → read_first text ≡ q → number_received_two (receiving_two.received_as q s text b.second out) ≡ 0 →
       GivenTwo q text (receiving_two.received_as q s text b.second out)
   unfolding receiving_two.received_stanza
-  as-two text out (reading.stanza e n k) o =
+  as_two text out (reading.stanza e n k) o =
       let line = line_read (reading.stanza e n k) text in
       let body = body_read (reading.stanza e n k) text in
       let c = two_command.command_two s.machine line body in
       let answer = receiving_two.text_of (receiving_two.at_once s.screen c) in
       let z = first_of (receiving_two.number_received s b.second line body) (shortness answer out) in
       branch (GivenTwo (reading.stanza e n k) text) number_received_two (eqb z 0) _ _
-      (λ f h. ap (λ w. given_command_two w k (length answer)) (command_word s.machine line body (no-fault c (length (two_command.payload_of c line body)) (shortness answer out) (eqb-true z 0 f))))
+      (λ f h. ap (λ w. given_command_two w k (length answer)) (command_word s.machine line body (no_fault c (length (two_command.payload_of c line body)) (shortness answer out) (eqb-true z 0 f))))
       (λ f. eqb-false z 0 f)
-  as-two text out (reading.refused n) o = λ h. absurd (text_number_lem text n o h)
+  as_two text out (reading.refused n) o = λ h. absurd (text_number_lem text n o h)
 
-  received-two : (text out : List ℕ) → number_received_two (receiving_two.received s text b.second out) ≡ 0 → GivenTwo (read_first text) text (receiving_two.received s text b.second out)
+  received_two : (text out : List ℕ) → number_received_two (receiving_two.received s text b.second out) ≡ 0 → GivenTwo (read_first text) text (receiving_two.received s text b.second out)
   unfolding receiving_two.received
-  received-two text out =
-      branch (GivenTwo (read_first text) text) number_received_two (eqb (turn_two s.phase) 0) _ _ (λ f. as-two text out (read_first text) refl) (λ f. eqb-false (turn_two s.phase) 0 f)
+  received_two text out =
+      branch (GivenTwo (read_first text) text) number_received_two (eqb (turn_two s.phase) 0) _ _ (λ f. as_two text out (read_first text) refl) (λ f. eqb-false (turn_two s.phase) 0 f)
 
   -- .. and sent
   abbrev number_sent_two : sending_two.Sent → ℕ
@@ -208,17 +208,17 @@ module _ (s : Session) (b : Buffers) where
   abbrev WroteTwo : List ℕ → List ℕ → sending_two.Sent → Type 0
   WroteTwo line body r = sent_given r.answer ≡ wrote (length (stanza_text line body))
 
-  line-two : (line body out : List ℕ) → number_sent_two (sending_two.sent_line s b.second line body out) ≡ 0 → WroteTwo line body (sending_two.sent_line s b.second line body out)
+  line_two : (line body out : List ℕ) → number_sent_two (sending_two.sent_line s b.second line body out) ≡ 0 → WroteTwo line body (sending_two.sent_line s b.second line body out)
   unfolding sending_two.sent_line
-  line-two line body out =
+  line_two line body out =
       let z = first_of (sending_two.number_sent s b.second line body) (shortness (stanza_text line body) out) in
       branch (WroteTwo line body) number_sent_two (eqb z 0) _ _ (λ f h. refl) (λ f. eqb-false z 0 f)
 
-  sent-two : (word : WordTwo) (arguments body out : List ℕ) → number_sent_two (sending_two.sent s word arguments body b.second out) ≡ 0 →
+  sent_two : (word : WordTwo) (arguments body out : List ℕ) → number_sent_two (sending_two.sent s word arguments body b.second out) ≡ 0 →
       WroteTwo (two_command.line_sent word arguments) body (sending_two.sent s word arguments body b.second out)
   unfolding sending_two.sent
-  sent-two word arguments body out =
-      branch (WroteTwo (two_command.line_sent word arguments) body) number_sent_two (eqb (turn_two s.phase) 0) _ _ (λ f. line-two (two_command.line_sent word arguments) body out) (λ f. eqb-false (turn_two s.phase) 0 f)
+  sent_two word arguments body out =
+      branch (WroteTwo (two_command.line_sent word arguments) body) number_sent_two (eqb (turn_two s.phase) 0) _ _ (λ f. line_two (two_command.line_sent word arguments) body out) (λ f. eqb-false (turn_two s.phase) 0 f)
 
 -- ---- accepted: answers
 
@@ -230,18 +230,18 @@ module _ (s : Session) where
   abbrev WroteReply : Response → List ℕ → replying.Replied → Type 0
   WroteReply r body x = sent_given x.answer ≡ wrote (length (stanza_text (response_line r) body))
 
-  reply-to : (w : WordTwo) (r : Response) (body out : List ℕ) → number_replied (replying.replied_to w s r body out) ≡ 0 → WroteReply r body (replying.replied_to w s r body out)
+  reply_to : (w : WordTwo) (r : Response) (body out : List ℕ) → number_replied (replying.replied_to w s r body out) ≡ 0 → WroteReply r body (replying.replied_to w s r body out)
   unfolding replying.replied_to
-  reply-to w r body out =
+  reply_to w r body out =
       let z = first_of (replying.number_replied w r body) (shortness (stanza_text (response_line r) body) out) in
       branch (WroteReply r body) number_replied (eqb z 0) _ _ (λ f h. refl) (λ f. eqb-false z 0 f)
 
-  replied-in : (p : Phase) (r : Response) (body out : List ℕ) → number_replied (replying.replied_by (due_in p) s r body out) ≡ 0 → WroteReply r body (replying.replied_by (due_in p) s r body out)
-  replied-in One r body out h = absurd (omega arith)
-  replied-in Two r body out h = absurd (omega arith)
-  replied-in (Awaiting w) r body out h = reply-to w r body out h
-  replied-in Ended r body out h = absurd (omega arith)
-  replied-in Closed r body out h = absurd (omega arith)
+  replied_in : (p : Phase) (r : Response) (body out : List ℕ) → number_replied (replying.replied_by (due_in p) s r body out) ≡ 0 → WroteReply r body (replying.replied_by (due_in p) s r body out)
+  replied_in One r body out h = absurd (omega arith)
+  replied_in Two r body out h = absurd (omega arith)
+  replied_in (Awaiting w) r body out h = reply_to w r body out h
+  replied_in Ended r body out h = absurd (omega arith)
+  replied_in Closed r body out h = absurd (omega arith)
 
   -- a response
   abbrev number_responded : responding.Responded → ℕ
@@ -250,34 +250,34 @@ module _ (s : Session) where
   abbrev GivenAs : ResponseRead → ℕ → List ℕ → responding.Responded → Type 0
   GivenAs q k body x = responded_given x.answer ≡ response_given q k (length body)
 
-  respond-as : (w : WordTwo) (q : ResponseRead) (body : List ℕ) (k : ℕ) (out : List ℕ) → number_responded (responding.responded_as w s q body k out) ≡ 0 → GivenAs q k body (responding.responded_as w s q body k out)
+  respond_as : (w : WordTwo) (q : ResponseRead) (body : List ℕ) (k : ℕ) (out : List ℕ) → number_responded (responding.responded_as w s q body k out) ≡ 0 → GivenAs q k body (responding.responded_as w s q body k out)
   unfolding responding.responded_as
-  respond-as w responses.nothing body k out = λ h. absurd (omega arith)
-  respond-as w (responses.response r) body k out =
+  respond_as w responses.nothing body k out = λ h. absurd (omega arith)
+  respond_as w (responses.response r) body k out =
       let z : ℕ = first_of (pick (fits_whole w r body) 0 12) (shortness body out) in
       branch (GivenAs (responses.response r) k body) number_responded (eqb z 0) _ _ (λ f h. refl) (λ f. eqb-false z 0 f)
 
   abbrev GivenResponse : Reading → List ℕ → responding.Responded → Type 0
   GivenResponse q text x = GivenAs (response_of (line_read q text)) (taken_by q) (body_read q text) x
 
-  respond-text : (w : WordTwo) (text out : List ℕ) (q : Reading) → read_first text ≡ q → number_responded (responding.responded_text q w s text out) ≡ 0 → GivenResponse q text (responding.responded_text q w s text out)
-  respond-text w text out (reading.stanza e n k) o h = respond-as w (response_of (line_read (reading.stanza e n k) text)) (body_read (reading.stanza e n k) text) k out h
-  respond-text w text out (reading.refused n) o h = absurd (text_number_lem text n o h)
+  respond_text : (w : WordTwo) (text out : List ℕ) (q : Reading) → read_first text ≡ q → number_responded (responding.responded_text q w s text out) ≡ 0 → GivenResponse q text (responding.responded_text q w s text out)
+  respond_text w text out (reading.stanza e n k) o h = respond_as w (response_of (line_read (reading.stanza e n k) text)) (body_read (reading.stanza e n k) text) k out h
+  respond_text w text out (reading.refused n) o h = absurd (text_number_lem text n o h)
 
-  responded-in : (p : Phase) (text out : List ℕ) → number_responded (responding.responded_by (due_in p) s text out) ≡ 0 → GivenResponse (read_first text) text (responding.responded_by (due_in p) s text out)
-  responded-in One text out h = absurd (omega arith)
-  responded-in Two text out h = absurd (omega arith)
-  responded-in (Awaiting w) text out h = respond-text w text out (read_first text) refl h
-  responded-in Ended text out h = absurd (omega arith)
-  responded-in Closed text out h = absurd (omega arith)
+  responded_in : (p : Phase) (text out : List ℕ) → number_responded (responding.responded_by (due_in p) s text out) ≡ 0 → GivenResponse (read_first text) text (responding.responded_by (due_in p) s text out)
+  responded_in One text out h = absurd (omega arith)
+  responded_in Two text out h = absurd (omega arith)
+  responded_in (Awaiting w) text out h = respond_text w text out (read_first text) refl h
+  responded_in Ended text out h = absurd (omega arith)
+  responded_in Closed text out h = absurd (omega arith)
 
 accepted_given : (s : Session) (b : Buffers) (c : Call) → (outcome s b c).number ≡ 0 → (outcome s b c).given ≡ given_by s c
-accepted_given s b (receive text) h = received-one s b text h
+accepted_given s b (receive text) h = received_one s b text h
 accepted_given s b (send word arguments body out) h = sent_one s b word arguments body out h
-accepted_given s b (receive_two text out) h = received-two s b text out h
-accepted_given s b (reply r body out) h = replied-in s s.phase r body out h
-accepted_given s b (send_two word arguments body out) h = sent-two s b word arguments body out h
-accepted_given s b (respond text out) h = responded-in s s.phase text out h
+accepted_given s b (receive_two text out) h = received_two s b text out h
+accepted_given s b (reply r body out) h = replied_in s s.phase r body out h
+accepted_given s b (send_two word arguments body out) h = sent_two s b word arguments body out h
+accepted_given s b (respond text out) h = responded_in s s.phase text out h
 
 -- ---- refused
 

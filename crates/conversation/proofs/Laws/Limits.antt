@@ -3,7 +3,7 @@ use Prim.Native.Nat.{ℕ, zero, suc, ◌+◌, ◌-◌, ◌<◌, ◌≤◌}
 use mathlib.Core.Path.{◌≡◌, refl, sym, ap, ap₂, ◌∙◌, subst}
 use mathlib.Core.Bool.{Bool, true, false, ◌||◌, true≢false}
 use mathlib.Core.Logic.{◌↔◌}
-use mathlib.Core.List.{List, [], ◌∷◌, ◌++◌, map, map_append, append-nil}
+use mathlib.Core.List.{List, [], ◌∷◌, ◌++◌, map, map-append, append-nil}
 use lib.Dec.{ltb, leb, eqb}
 use lib.ListN.{length, take, drop, get_or, length-append, length-take, length-drop}
 use lib.Seq.{take-suc}
@@ -16,10 +16,10 @@ use Rattle.refusal.proofs.Laws.Same.{same_refl, same_eq}
 use Rattle.tables.specs.declared.slots.Entry.{Entry}
 use Rattle.tables.specs.Repeats.{shows, any_shows, repeats}
 use Rattle.tables.specs.Tables.{Table, Row, empty, fits, entered, row_of, view, placed, kept}
-use Rattle.tables.proofs.Laws.Repeats.{shows-held}
+use Rattle.tables.proofs.Laws.Repeats.{shows_held}
 use Rattle.tables.proofs.Laws.Tables.{Kept, Filled, Chained, chain_le, view_count}
 use Rattle.phase_one.specs.PhaseOne.{falls}
-use Rattle.phase_one.proofs.Laws.PhaseOne.{falls-none, falls-is}
+use Rattle.phase_one.proofs.Laws.PhaseOne.{falls_none, falls_is}
 use Rattle.phase_one.specs.Views.{KindOne, recipients, identities, keys, headers}
 use Rattle.conversation.specs.Allowed.{slots_of, bytes_of, Rising, Distinct}
 use Rattle.conversation.specs.Phases.{All}
@@ -117,7 +117,7 @@ unfolding Chained All any_shows
 chain_without [] s u b p h g = (λ e. tt, λ w. refl)
 chain_without (e ∷ es) s u b p h g =
     let i = chain_without es (s + e.length) u b p h.1 g in
-    let q = shows-held e b p (omega (arith, h.0, chain_le es (s + e.length) u h.1)) in
+    let q = shows_held e b p (omega (arith, h.0, chain_le es (s + e.length) u h.1)) in
     let x = take e.length (drop e.start b) in (
       λ f. let o = or_false (shows e b p) (any_shows es b p) f in (λ y. true≢false (sym (same_refl p) ∙ ap (λ z. same_text z p) (sym y) ∙ sym q ∙ o.0), i.0 o.1),
       λ w. cases (same_text x p) (λ f. absurd (w.0 (same_eq x p f))) (λ f. ap₂ (λ a b. a || b) (q ∙ f) (i.1 w.1)),
@@ -148,7 +148,7 @@ view_last : (es : List Entry) (n : ℕ) (b : List ℕ) → 0 < n → n ≤ lengt
 view_last es zero b h g = absurd (omega arith)
 view_last es (suc n) b h g =
     let q : suc n - 1 ≡ n = omega arith in
-    ap (λ l. last_of (map (row_of b) l)) (take-suc es n empty (omega arith)) ∙ ap last_of (map_append (row_of b) (take n es) (get_or es n empty ∷ []))
+    ap (λ l. last_of (map (row_of b) l)) (take-suc es n empty (omega arith)) ∙ ap last_of (map-append (row_of b) (take n es) (get_or es n empty ∷ []))
     ∙ last_is (map (row_of b) (take n es)) (row_of b (get_or es n empty)) ∙ ap (λ j. (get_or es j empty).index) (sym q)
 
 -- an index does not fall exactly if it is not below the last row's
@@ -157,12 +157,12 @@ unfolding last_of
 no_fall t i b k =
     cases (ltb 0 t.count)
     (λ e. let h = ltb-true 0 t.count e in
-    let q = falls-is t i h k.counted in
+    let q = falls_is t i h k.counted in
     let l = view_last t.slots t.count b h (omega (arith, k.counted, k.wide)) in
     (λ f. omega (arith, ltb-false i (get_or t.slots (t.count - 1) empty).index (q ∙ f)), λ g. sym q ∙ le-ltb i (get_or t.slots (t.count - 1) empty).index (omega arith)))
     (λ e. let z : t.count ≡ 0 = omega (arith, ltb-false 0 t.count e) in
     let l : last_of (view t b) ≡ 0 = ap (λ n. last_of (map (row_of b) (take n t.slots))) z in
-    (λ f. omega arith, λ g. sym (falls-none t i z)))
+    (λ f. omega arith, λ g. sym (falls_none t i z)))
 
 -- ---- a kind's table and its buffer between calls
 
@@ -180,37 +180,37 @@ Passes keys t b r = Unit
 Passes headers t b r = falls t r.index ≡ false
 
 module _ (t : Table) (b : List ℕ) (r : Row) where
-  passes-ordered : (k : KindOne) → Kept t → t.used ≤ length b → Ordered k (view t b) → Passes k t b r → Ordered k (view t b ++ (r ∷ []))
-  passes-ordered recipients h u o p = distinct_more (view t b) r o ((no_repeat t b r.payload h u).0 p)
-  passes-ordered identities h u o p = tt
-  passes-ordered keys h u o p = tt
-  passes-ordered headers h u o p = rising_more (view t b) r o ((no_fall t r.index b h).0 p)
+  passes_ordered : (k : KindOne) → Kept t → t.used ≤ length b → Ordered k (view t b) → Passes k t b r → Ordered k (view t b ++ (r ∷ []))
+  passes_ordered recipients h u o p = distinct_more (view t b) r o ((no_repeat t b r.payload h u).0 p)
+  passes_ordered identities h u o p = tt
+  passes_ordered keys h u o p = tt
+  passes_ordered headers h u o p = rising_more (view t b) r o ((no_fall t r.index b h).0 p)
 
-  ordered-passes : (k : KindOne) → Kept t → t.used ≤ length b → Ordered k (view t b ++ (r ∷ [])) → Passes k t b r
-  ordered-passes recipients h u o = (no_repeat t b r.payload h u).1 (distinct_last (view t b) r o)
-  ordered-passes identities h u o = tt
-  ordered-passes keys h u o = tt
-  ordered-passes headers h u o = (no_fall t r.index b h).1 (rising_last (view t b) r o)
+  ordered_passes : (k : KindOne) → Kept t → t.used ≤ length b → Ordered k (view t b ++ (r ∷ [])) → Passes k t b r
+  ordered_passes recipients h u o = (no_repeat t b r.payload h u).1 (distinct_last (view t b) r o)
+  ordered_passes identities h u o = tt
+  ordered_passes keys h u o = tt
+  ordered_passes headers h u o = (no_fall t r.index b h).1 (rising_last (view t b) r o)
 
-  one-bytes : bytes_of (view t b ++ (r ∷ [])) ≡ bytes_of (view t b) + length r.payload
+  one_bytes : bytes_of (view t b ++ (r ∷ [])) ≡ bytes_of (view t b) + length r.payload
   unfolding bytes_of
-  one-bytes = omega (arith, bytes_append (view t b) (r ∷ []))
+  one_bytes = omega (arith, bytes_append (view t b) (r ∷ []))
 
   -- one row more is within the limits exactly if it fits and passes
-  fits-within : (k : KindOne) → Held k t b → fits t (length r.payload) (length b) ≡ true → Passes k t b r → Within k (length b) (view t b ++ (r ∷ []))
-  fits-within k h f p =
+  fits_within : (k : KindOne) → Held k t b → fits t (length r.payload) (length b) ≡ true → Passes k t b r → Within k (length b) (view t b ++ (r ∷ []))
+  fits_within k h f p =
       let a = and_true (ltb t.count t.width) (leb (t.used + length r.payload) (length b)) f in
       record {
         slots = omega (arith, ltb-true t.count t.width a.0, view_count t b h.reached.kept_so, length-append (view t b) (r ∷ []), h.wide);
-        bytes = omega (arith, leb-true (t.used + length r.payload) (length b) a.1, view_bytes t b h.reached.kept_so h.room, one-bytes);
-        ordered = passes-ordered k h.reached.kept_so h.room h.ordered p;
+        bytes = omega (arith, leb-true (t.used + length r.payload) (length b) a.1, view_bytes t b h.reached.kept_so h.room, one_bytes);
+        ordered = passes_ordered k h.reached.kept_so h.room h.ordered p;
       }
 
-  pub within-fits : (k : KindOne) → Held k t b → Within k (length b) (view t b ++ (r ∷ [])) → (fits t (length r.payload) (length b) ≡ true) × Passes k t b r
-  within-fits k h w =
+  pub within_fits : (k : KindOne) → Held k t b → Within k (length b) (view t b ++ (r ∷ [])) → (fits t (length r.payload) (length b) ≡ true) × Passes k t b r
+  within_fits k h w =
       let s : t.count < t.width = omega (arith, w.slots, view_count t b h.reached.kept_so, length-append (view t b) (r ∷ []), h.wide) in
-      let u : t.used + length r.payload ≤ length b = omega (arith, w.bytes, view_bytes t b h.reached.kept_so h.room, one-bytes) in
-      (true_and (ltb t.count t.width) (leb (t.used + length r.payload) (length b)) (lt-ltb t.count t.width s) (le-leb (t.used + length r.payload) (length b) u), ordered-passes k h.reached.kept_so h.room w.ordered)
+      let u : t.used + length r.payload ≤ length b = omega (arith, w.bytes, view_bytes t b h.reached.kept_so h.room, one_bytes) in
+      (true_and (ltb t.count t.width) (leb (t.used + length r.payload) (length b)) (lt-ltb t.count t.width s) (le-leb (t.used + length r.payload) (length b) u), ordered_passes k h.reached.kept_so h.room w.ordered)
 
 -- ---- what one command does to a kind's table and buffer, where the decision is the number d: nothing, or one entry more
 
@@ -233,27 +233,27 @@ placed_length t p b f =
 
 module _ {k : KindOne} {t : Table} {b : List ℕ} {d : ℕ} where
   -- one row or none
-  pub grown-rows : {rs : List Row} {t' : Table} {b' : List ℕ} → Grown k t b d rs t' b' → rs ≡ pick (eqb (length rs) 1) (rs ++ []) []
-  grown-rows same = refl
-  grown-rows (more p i m f) = refl
+  pub grown_rows : {rs : List Row} {t' : Table} {b' : List ℕ} → Grown k t b d rs t' b' → rs ≡ pick (eqb (length rs) 1) (rs ++ []) []
+  grown_rows same = refl
+  grown_rows (more p i m f) = refl
 
   -- the rows so far and its own are within the limits
-  pub grown-within : {rs : List Row} {t' : Table} {b' : List ℕ} → Grown k t b d rs t' b' → d ≡ 0 → Held k t b → Within k (length b) (view t b ++ rs)
-  grown-within same z h = subst (Within k (length b)) (sym (append-nil (view t b))) (held_within h)
-  grown-within (more p i m f) z h = fits-within t b (record { payload = p; index = i; mark = m }) k h (f z).0 (f z).1
+  pub grown_within : {rs : List Row} {t' : Table} {b' : List ℕ} → Grown k t b d rs t' b' → d ≡ 0 → Held k t b → Within k (length b) (view t b ++ rs)
+  grown_within same z h = subst (Within k (length b)) (sym (append-nil (view t b))) (held_within h)
+  grown_within (more p i m f) z h = fits_within t b (record { payload = p; index = i; mark = m }) k h (f z).0 (f z).1
 
   -- buffers keep their lengths
-  pub grown-length : {rs : List Row} {t' : Table} {b' : List ℕ} → Grown k t b d rs t' b' → d ≡ 0 → length b' ≡ length b
-  grown-length same z = refl
-  grown-length (more p i m f) z = let q = (f z).0 in rw q (placed_length t p b q)
+  pub grown_length : {rs : List Row} {t' : Table} {b' : List ℕ} → Grown k t b d rs t' b' → d ≡ 0 → length b' ≡ length b
+  grown_length same z = refl
+  grown_length (more p i m f) z = let q = (f z).0 in rw q (placed_length t p b q)
 
-  pub grown-held : {rs : List Row} {t' : Table} {b' : List ℕ} → Grown k t b d rs t' b' → d ≡ 0 → Held k t b → Filled t' → view t' b' ≡ view t b ++ rs → Held k t' b'
-  grown-held same z h x e = h
-  grown-held (more p i m f) z h x e =
+  pub grown_held : {rs : List Row} {t' : Table} {b' : List ℕ} → Grown k t b d rs t' b' → d ≡ 0 → Held k t b → Filled t' → view t' b' ≡ view t b ++ rs → Held k t' b'
+  grown_held same z h x e = h
+  grown_held (more p i m f) z h x e =
       let q = (f z).0 in
       record {
         reached = x;
         wide = rw q h.wide;
         room = rw q (omega (arith, placed_length t p b q, leb-true (t.used + length p) (length b) (and_true (ltb t.count t.width) (leb (t.used + length p) (length b)) q).1));
-        ordered = subst (Ordered k) (sym e) (fits-within t b (record { payload = p; index = i; mark = m }) k h q (f z).1).ordered;
+        ordered = subst (Ordered k) (sym e) (fits_within t b (record { payload = p; index = i; mark = m }) k h q (f z).1).ordered;
       }

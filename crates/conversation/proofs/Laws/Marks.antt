@@ -30,29 +30,29 @@ module _ (name : List ℕ) where
   IsMarked other p = Unit
   IsMarked (bad n) p = Unit
 
-  index-marked : (i : ReadIndex) (m : ℕ) (line body : List ℕ) → IsMarked (indexed i m) (payload_of (indexed i m) line body)
+  index_marked : (i : ReadIndex) (m : ℕ) (line body : List ℕ) → IsMarked (indexed i m) (payload_of (indexed i m) line body)
   unfolding IsMarked
-  index-marked (number i) m line body = tt
-  index-marked (refused n) m line body = tt
+  index_marked (number i) m line body = tt
+  index_marked (refused n) m line body = tt
 
-  command-marked : (w : WordOne) (line body : List ℕ) → IsMarked (row_command w name line (length body)) (payload_of (row_command w name line (length body)) line body)
+  command_marked : (w : WordOne) (line body : List ℕ) → IsMarked (row_command w name line (length body)) (payload_of (row_command w name line (length body)) line body)
   unfolding IsMarked
-  command-marked add_recipient line body = cases (eqb (count_of line) 2 && eqb (length body) 0) (λ e. rw e (marked bech32.recipient recipient_plain (argument_of line 1) name)) (λ e. rw e tt)
-  command-marked add_identity line body = cases (eqb (count_of line) 2 && eqb (length body) 0) (λ e. rw e (marked bech32.identity identity_plain (argument_of line 1) name)) (λ e. rw e tt)
-  command-marked wrap_file_key line body = cases (is_bare line (length body) 16) (λ e. rw e tt) (λ e. rw e tt)
-  command-marked recipient_stanza line body = cases (leb 3 (count_of line)) (λ e. rw e (index-marked (read_index (argument_of line 1)) (header_mark name line (length body)) line body)) (λ e. rw e tt)
-  command-marked done_command line body = cases (is_bare line (length body) 0) (λ e. rw e tt) (λ e. rw e tt)
-  command-marked other_word line body = tt
+  command_marked add_recipient line body = cases (eqb (count_of line) 2 && eqb (length body) 0) (λ e. rw e (marked bech32.recipient recipient_plain (argument_of line 1) name)) (λ e. rw e tt)
+  command_marked add_identity line body = cases (eqb (count_of line) 2 && eqb (length body) 0) (λ e. rw e (marked bech32.identity identity_plain (argument_of line 1) name)) (λ e. rw e tt)
+  command_marked wrap_file_key line body = cases (is_bare line (length body) 16) (λ e. rw e tt) (λ e. rw e tt)
+  command_marked recipient_stanza line body = cases (leb 3 (count_of line)) (λ e. rw e (index_marked (read_index (argument_of line 1)) (header_mark name line (length body)) line body)) (λ e. rw e tt)
+  command_marked done_command line body = cases (is_bare line (length body) 0) (λ e. rw e tt) (λ e. rw e tt)
+  command_marked other_word line body = tt
 
-  rows-marked : (c : CommandOne) (p : List ℕ) → IsMarked c p → MarkedRows name (rows_of c recipients p) (rows_of c identities p)
+  rows_marked : (c : CommandOne) (p : List ℕ) → IsMarked c p → MarkedRows name (rows_of c recipients p) (rows_of c identities p)
   unfolding IsMarked All
-  rows-marked (recipient m) p h = record { of_recipients = (h, tt); of_identities = tt }
-  rows-marked (identity m) p h = record { of_recipients = tt; of_identities = (h, tt) }
-  rows-marked key p h = record { of_recipients = tt; of_identities = tt }
-  rows-marked (header i m) p h = record { of_recipients = tt; of_identities = tt }
-  rows-marked done p h = record { of_recipients = tt; of_identities = tt }
-  rows-marked other p h = record { of_recipients = tt; of_identities = tt }
-  rows-marked (bad n) p h = record { of_recipients = tt; of_identities = tt }
+  rows_marked (recipient m) p h = record { of_recipients = (h, tt); of_identities = tt }
+  rows_marked (identity m) p h = record { of_recipients = tt; of_identities = (h, tt) }
+  rows_marked key p h = record { of_recipients = tt; of_identities = tt }
+  rows_marked (header i m) p h = record { of_recipients = tt; of_identities = tt }
+  rows_marked done p h = record { of_recipients = tt; of_identities = tt }
+  rows_marked other p h = record { of_recipients = tt; of_identities = tt }
+  rows_marked (bad n) p h = record { of_recipients = tt; of_identities = tt }
 
 -- the tables of any commands
 pub marked_rows : (machine : Machine) (name : List ℕ) (ts : List (List ℕ)) → MarkedRows name (rows_in machine name recipients ts) (rows_in machine name identities ts)
@@ -60,7 +60,7 @@ unfolding rows_in All
 marked_rows machine name [] = record { of_recipients = tt; of_identities = tt }
 marked_rows machine name (t ∷ ts) =
     let c = row_command (word_in machine (argument_of (line_in t) 0)) name (line_in t) (length (body_in t)) in
-    let one = rows-marked name c (payload_of c (line_in t) (body_in t)) (command-marked name (word_in machine (argument_of (line_in t) 0)) (line_in t) (body_in t)) in
+    let one = rows_marked name c (payload_of c (line_in t) (body_in t)) (command_marked name (word_in machine (argument_of (line_in t) 0)) (line_in t) (body_in t)) in
     let more = marked_rows machine name ts in
     record {
       of_recipients = (all_append (λ r. Marked bech32.recipient r.payload name r.mark) (rows_from machine name recipients t) (rows_in machine name recipients ts)).1 (one.of_recipients, more.of_recipients);

@@ -20,8 +20,8 @@ use Rattle.conversation.specs.Kinds.{first, Buffers, view_of, of_file}
 use Rattle.conversation.specs.Allowed.{RowAt}
 use Rattle.conversation.specs.Names.{Names, NamedOnce}
 use Rattle.conversation.specs.Numbers.{header, reports, SaysTwo, MissingIn, Condition, order_of, FirstOf, this_number, later_number}
-use Rattle.conversation.proofs.Laws.ConditionsTwo.{stanza-missing}
-use Rattle.conversation.proofs.Laws.Numbers.{number-given}
+use Rattle.conversation.proofs.Laws.ConditionsTwo.{stanza_missing}
+use Rattle.conversation.proofs.Laws.Numbers.{number_given}
 use Rattle.conversation.proofs.Laws.Reached.{ReachedSession}
 
 -- a row is the file's
@@ -135,9 +135,9 @@ module _ (s : Session) (b : Buffers) (reached : ReachedSession s) (line body : L
   abbrev rows : List Row
   rows = view_of (first headers) s.tables b
 
-  pub passes-six : SaysTwo s.machine line body (reports (header f i)) → (MissingIn s b (in_two line body) → ⊥) ↔ ((n : ℕ) × Names rows f i n)
-  passes-six says =
-      let k = stanza-missing s b reached line body f i says in (
+  pub passes_six : SaysTwo s.machine line body (reports (header f i)) → (MissingIn s b (in_two line body) → ⊥) ↔ ((n : ℕ) × Names rows f i n)
+  passes_six says =
+      let k = stanza_missing s b reached line body f i says in (
         λ h. elim (dec_lt i (length (of_file f rows))) [ yes l ↦ named rows f i l | no l ↦ absurd (h (k.1 (omega arith))) ],
         λ h m. let l = below rows f h.0 h.1.file in omega (arith, l, h.1.before, k.0 m),
       )
@@ -161,22 +161,22 @@ not_first P (n ∷ ahead) behind k h f =
 -- an accepted call is not refused with 6
 module _ (s : Session) (b : Buffers) (reached : ReachedSession s) where
   given_none : (c : Call) → (outcome s b c).number ≡ 0 → FirstOf (Condition s b c) (order_of c) 0
-  given_none c z = subst (FirstOf (Condition s b c) (order_of c)) z (number-given s b reached c)
+  given_none c z = subst (FirstOf (Condition s b c) (order_of c)) z (number_given s b reached c)
 
-  not-missing : (c : Call) → (outcome s b c).number ≡ 0 → MissingIn s b (brought_by c) → ⊥
-  not-missing (receive text) z m = m
-  not-missing (send word arguments body out) z m = m
-  not-missing (receive_two text out) z m =
+  not_missing : (c : Call) → (outcome s b c).number ≡ 0 → MissingIn s b (brought_by c) → ⊥
+  not_missing (receive text) z m = m
+  not_missing (send word arguments body out) z m = m
+  not_missing (receive_two text out) z m =
       let c = receive_two text out in
       not_first (Condition s b c) (13 ∷ 14 ∷ 1 ∷ 2 ∷ 3 ∷ 4 ∷ 5 ∷ []) (7 ∷ 20 ∷ 9 ∷ 10 ∷ 11 ∷ 8 ∷ 15 ∷ []) 6 (unfold are_positive in refl)
       (given_none c z) (NoSuchIndex, refl, m)
-  not-missing (reply r body out) z m = m
-  not-missing (send_two word arguments body out) z m =
+  not_missing (reply r body out) z m = m
+  not_missing (send_two word arguments body out) z m =
       let c = send_two word arguments body out in
       not_first (Condition s b c) (13 ∷ 14 ∷ 17 ∷ 4 ∷ 5 ∷ []) (7 ∷ 20 ∷ 9 ∷ 10 ∷ 11 ∷ 19 ∷ 8 ∷ 15 ∷ []) 6 (unfold are_positive in refl)
       (given_none c z) (NoSuchIndex, refl, m)
-  not-missing (respond text out) z m = m
+  not_missing (respond text out) z m = m
 
-  pub accepted-names : (c : Call) (line body : List ℕ) (f i : ℕ) → brought_by c ≡ in_two line body →
+  pub accepted_names : (c : Call) (line body : List ℕ) (f i : ℕ) → brought_by c ≡ in_two line body →
       SaysTwo s.machine line body (reports (header f i)) → (outcome s b c).number ≡ 0 → (n : ℕ) × Names (view_of (first headers) s.tables b) f i n
-  accepted-names c line body f i e says z = (passes-six s b reached line body f i says).0 (λ m. not-missing c z (subst (MissingIn s b) (sym e) m))
+  accepted_names c line body f i e says z = (passes_six s b reached line body f i says).0 (λ m. not_missing c z (subst (MissingIn s b) (sym e) m))

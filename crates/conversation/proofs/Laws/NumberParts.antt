@@ -71,24 +71,24 @@ module _ (s : Session) (b : Buffers) where
         picked (λ (r : receiving.Received). taking_number r.answer) (one.number_one s.machine s.name s.tables b.first 0 (line_read (stanza e n k) text) (body_read (stanza e n k) text)) _ _ refl refl
     read_one (refused n) = refl
 
-    pub given-receive : (outcome s b (receive text)).number ≡ first_of (turn_one s.phase) (as_read (read_first text) (first_of (decided_one (line_in text) (body_in text)) 0))
+    pub given_receive : (outcome s b (receive text)).number ≡ first_of (turn_one s.phase) (as_read (read_first text) (first_of (decided_one (line_in text) (body_in text)) 0))
     unfolding receiving.received
-    given-receive = first_picked (λ (r : receiving.Received). taking_number r.answer) (turn_one s.phase) _ _ refl ∙ ap (first_of (turn_one s.phase)) (read_one (read_first text))
+    given_receive = first_picked (λ (r : receiving.Received). taking_number r.answer) (turn_one s.phase) _ _ refl ∙ ap (first_of (turn_one s.phase)) (read_one (read_first text))
 
   module _ (word : WordOne) (arguments body out : List ℕ) where
     abbrev line : List ℕ
     line = one_command.line_sent word arguments
 
-    line-sent : sent_number (sending.sent_line s b.first line body out).answer ≡ pick (is_writable line body) (first_of (decided_one line body) (shortness (stanza_text line body) out)) 17
+    line_sent_lem : sent_number (sending.sent_line s b.first line body out).answer ≡ pick (is_writable line body) (first_of (decided_one line body) (shortness (stanza_text line body) out)) 17
     unfolding sending.sent_stanza
-    line-sent =
+    line_sent_lem =
         by_writable (λ r. sent_number r.answer ≡ pick (is_writable line body) (first_of (decided_one line body) (shortness (stanza_text line body) out)) 17) s b.first line body out
         (λ w. rw w (picked (λ (r : sending.Sent). sent_number r.answer) (first_of (decided_one line body) (shortness (stanza_text line body) out)) _ _ refl refl)) (λ w. rw w)
 
-    pub given-send : (outcome s b (send word arguments body out)).number ≡
+    pub given_send : (outcome s b (send word arguments body out)).number ≡
         first_of (turn_one s.phase) (pick (is_writable line body) (first_of (decided_one line body) (shortness (stanza_text line body) out)) 17)
     unfolding sending.sent
-    given-send = first_picked (λ (r : sending.Sent). sent_number r.answer) (turn_one s.phase) _ _ refl ∙ ap (first_of (turn_one s.phase)) line-sent
+    given_send = first_picked (λ (r : sending.Sent). sent_number r.answer) (turn_one s.phase) _ _ refl ∙ ap (first_of (turn_one s.phase)) line_sent_lem
 
   -- ---- phase two, commands
 
@@ -97,25 +97,25 @@ module _ (s : Session) (b : Buffers) where
   at_once_text line body = text_of (at_once s.screen (command_two s.machine line body))
 
   module _ (text out : List ℕ) where
-    read-two : (q : Reading) → taking_two_number (receiving_two.received_as q s text b.second out).answer ≡
+    read_two : (q : Reading) → taking_two_number (receiving_two.received_as q s text b.second out).answer ≡
         as_read q (first_of (decided_two false (line_read q text) (body_read q text)) (shortness (at_once_text (line_read q text) (body_read q text)) out))
     unfolding receiving_two.received_stanza
-    read-two (stanza e n k) =
+    read_two (stanza e n k) =
         let line = line_read (stanza e n k) text in
         let body = body_read (stanza e n k) text in
         picked (λ (r : receiving_two.Received). taking_two_number r.answer) (first_of (decided_two false line body) (shortness (at_once_text line body) out)) _ _ refl refl
-    read-two (refused n) = refl
+    read_two (refused n) = refl
 
-    pub given-receive-two : (outcome s b (receive_two text out)).number ≡
+    pub given_receive_two : (outcome s b (receive_two text out)).number ≡
         first_of (turn_two s.phase) (as_read (read_first text) (first_of (decided_two false (line_in text) (body_in text)) (shortness (at_once_text (line_in text) (body_in text)) out)))
     unfolding receiving_two.received
-    given-receive-two = first_picked (λ (r : receiving_two.Received). taking_two_number r.answer) (turn_two s.phase) _ _ refl ∙ ap (first_of (turn_two s.phase)) (read-two (read_first text))
+    given_receive_two = first_picked (λ (r : receiving_two.Received). taking_two_number r.answer) (turn_two s.phase) _ _ refl ∙ ap (first_of (turn_two s.phase)) (read_two (read_first text))
 
   module _ (word : WordTwo) (arguments body out : List ℕ) where
-    pub given-send-two : (outcome s b (send_two word arguments body out)).number ≡
+    pub given_send_two : (outcome s b (send_two word arguments body out)).number ≡
         first_of (turn_two s.phase) (first_of (pick (is_writable (line_sent word arguments) body) (decided_two true (line_sent word arguments) body) 17) (shortness (stanza_text (line_sent word arguments) body) out))
     unfolding sending_two.sent sending_two.sent_line
-    given-send-two =
+    given_send_two =
         first_picked (λ (r : sending_two.Sent). sent_number r.answer) (turn_two s.phase) _ _ refl
         ∙ ap (first_of (turn_two s.phase))
         (picked (λ (r : sending_two.Sent). sent_number r.answer) (first_of (pick (is_writable (line_sent word arguments) body) (decided_two true (line_sent word arguments) body) 17) (shortness (stanza_text (line_sent word arguments) body) out)) _ _ refl refl)
@@ -127,8 +127,8 @@ module _ (s : Session) (b : Buffers) where
   by_due (undue n) late = n
 
   module _ (r : Response) (body out : List ℕ) where
-    pub given-reply : (outcome s b (reply r body out)).number ≡ by_due (due_in s.phase) (λ w. first_of (number_replied w r body) (shortness (stanza_text (response_line r) body) out))
-    given-reply = go (due_in s.phase)
+    pub given_reply : (outcome s b (reply r body out)).number ≡ by_due (due_in s.phase) (λ w. first_of (number_replied w r body) (shortness (stanza_text (response_line r) body) out))
+    given_reply = go (due_in s.phase)
       where
         to : (w : WordTwo) → sent_number (replying.replied_to w s r body out).answer ≡ first_of (number_replied w r body) (shortness (stanza_text (response_line r) body) out)
         to w = unfold replying.replied_to in picked (λ (x : replying.Replied). sent_number x.answer) (first_of (number_replied w r body) (shortness (stanza_text (response_line r) body) out)) _ _ refl refl
@@ -143,17 +143,17 @@ module _ (s : Session) (b : Buffers) where
   unfitness w nothing body = 12
 
   module _ (text out : List ℕ) where
-    response-as : (w : WordTwo) (q : ResponseRead) (body : List ℕ) (k : ℕ) → responded_number (responding.responded_as w s q body k out).answer ≡ first_of (unfitness w q body) (shortness body out)
+    response_as : (w : WordTwo) (q : ResponseRead) (body : List ℕ) (k : ℕ) → responded_number (responding.responded_as w s q body k out).answer ≡ first_of (unfitness w q body) (shortness body out)
     unfolding responding.responded_as
-    response-as w (response r) body k = picked (λ (x : responding.Responded). responded_number x.answer) (first_of (pick (fits_whole w r body) 0 12) (shortness body out)) _ _ refl refl
-    response-as w nothing body k = refl
+    response_as w (response r) body k = picked (λ (x : responding.Responded). responded_number x.answer) (first_of (pick (fits_whole w r body) 0 12) (shortness body out)) _ _ refl refl
+    response_as w nothing body k = refl
 
-    pub given-respond : (outcome s b (respond text out)).number ≡
+    pub given_respond : (outcome s b (respond text out)).number ≡
         by_due (due_in s.phase) (λ w. as_read (read_first text) (first_of (unfitness w (response_of (line_in text)) (body_in text)) (shortness (body_in text) out)))
-    given-respond = go (due_in s.phase)
+    given_respond = go (due_in s.phase)
       where
         read_as : (w : WordTwo) (q : Reading) → responded_number (responding.responded_text q w s text out).answer ≡ as_read q (first_of (unfitness w (response_of (line_read q text)) (body_read q text)) (shortness (body_read q text) out))
-        read_as w (stanza e n k) = response-as w (response_of (line_read (stanza e n k) text)) (body_read (stanza e n k) text) k
+        read_as w (stanza e n k) = response_as w (response_of (line_read (stanza e n k) text)) (body_read (stanza e n k) text) k
         read_as w (refused n) = refl
 
         go : (d : Due) → responded_number (responding.responded_by d s text out).answer ≡ by_due d (λ w. as_read (read_first text) (first_of (unfitness w (response_of (line_in text)) (body_in text)) (shortness (body_in text) out)))

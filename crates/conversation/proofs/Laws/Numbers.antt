@@ -46,13 +46,13 @@ use Rattle.conversation.specs.Replying.{number_replied}
 use Rattle.conversation.specs.Sending.{shortness}
 use Rattle.conversation.specs.TurnsTwo.{turn_two, due_in}
 use Rattle.conversation.specs.Numbers.{Question, message, confirmation, public_value, secret_value, Naming, internal, identity, recipient, header, SayingTwo, asks, returns_stanza, returns_key, reports, SaysTwo, WrittenAtOnce, for_stanza, for_key, for_error, for_other, for_question, RowOne, RowTwo, KnownOne, KnownTwo, indices_one, indices_two, Wrong, Misindexed, WrongIn, MisindexedIn, MissingIn, FallingIn, TwiceIn, SpacelessIn, SecondIn, TooManyIn, TogetherIn, Fitting, msg_answered, confirm_answered, public_given, public_failed, secret_given, secret_failed, stanza_answered, key_answered, error_answered, other_answered, Over, InTurn, ReadsAs, Unwritten, Holds, Condition, order_of, FirstOf, no_number, this_number, later_number}
-use Rattle.conversation.proofs.Laws.ConditionsOne.{fault_one, is_falling, is_repeated, is_spaceless_one, decided_tests, falling-to, falling-from, repeated-to, repeated-from, spaceless-one-to, spaceless-one-from}
-use Rattle.conversation.proofs.Laws.ConditionsTwo.{missing-to, missing-from, second-to, second_from, too-many-to, too-many-from, together-to, together-from, spaceless-to, spaceless-from, held_to, held-from}
+use Rattle.conversation.proofs.Laws.ConditionsOne.{fault_one, is_falling, is_repeated, is_spaceless_one, decided_tests, falling_to, falling_from, repeated_to, repeated_from, spaceless_one_to, spaceless_one_from}
+use Rattle.conversation.proofs.Laws.ConditionsTwo.{missing_to, missing_from, second_to, second_from, too_many_to, too_many_from, together_to, together_from, spaceless_to, spaceless_from, held_to, held_from}
 use Rattle.conversation.proofs.Laws.SumsTwo.{refuted}
-use Rattle.conversation.proofs.Laws.NumberParts.{as_read, decided_one, decided_two, at_once_text, by_due, unfitness, given-receive, given-send, given-receive-two, given-send-two, given-reply, given-respond}
+use Rattle.conversation.proofs.Laws.NumberParts.{as_read, decided_one, decided_two, at_once_text, by_due, unfitness, given_receive, given_send, given_receive_two, given_send_two, given_reply, given_respond}
 use Rattle.conversation.proofs.Laws.Reached.{ReachedSession, opening_reached, each_reached}
-use Rattle.conversation.proofs.Laws.RowsOne.{SaidOne, said-one, misindexed-one, wrong-one}
-use Rattle.conversation.proofs.Laws.RowsTwo.{no_bytes, command_said as command_of, naming_of, SaidTwo, said-two, says-command, misindexed-command, wrong-command, unknown-command}
+use Rattle.conversation.proofs.Laws.RowsOne.{SaidOne, said_one, misindexed_one, wrong_one}
+use Rattle.conversation.proofs.Laws.RowsTwo.{no_bytes, command_said as command_of, naming_of, SaidTwo, said_two, says_command, misindexed_command, wrong_command, unknown_command}
 
 -- ---- a number and its fault
 
@@ -223,23 +223,23 @@ module _ (machine : Machine) (line body : List ℕ) where
   fault_is other h = refl
   fault_is (command.bad n) h = ⊎_elim (λ q. rw q.0) (λ q. rw q.0) h
 
-  wrong-from : (x : CommandTwo) → Said x → is_bad 4 x ≡ true → Wrong (KnownTwo machine line) (RowTwo machine (words line) body)
-  wrong-from (ask w) h e = absurd (false≢true e)
-  wrong-from (command.stanza f) h e = absurd (false≢true e)
-  wrong-from (key f) h e = absurd (false≢true e)
-  wrong-from (error n) h e = absurd (false≢true e)
-  wrong-from done h e = absurd (false≢true e)
-  wrong-from other h e = absurd (false≢true e)
-  wrong-from (command.bad n) h e = ⊎_elim (λ q. q.1) (λ q. let z = q.0 in let y = eqb-true n 4 e in absurd (omega arith)) h
+  wrong_from : (x : CommandTwo) → Said x → is_bad 4 x ≡ true → Wrong (KnownTwo machine line) (RowTwo machine (words line) body)
+  wrong_from (ask w) h e = absurd (false≢true e)
+  wrong_from (command.stanza f) h e = absurd (false≢true e)
+  wrong_from (key f) h e = absurd (false≢true e)
+  wrong_from (error n) h e = absurd (false≢true e)
+  wrong_from done h e = absurd (false≢true e)
+  wrong_from other h e = absurd (false≢true e)
+  wrong_from (command.bad n) h e = ⊎_elim (λ q. q.1) (λ q. let z = q.0 in let y = eqb-true n 4 e in absurd (omega arith)) h
 
-  misindexed-from : (x : CommandTwo) → Said x → is_bad 5 x ≡ true → Misindexed (RowTwo machine (words line) body) indices_two
-  misindexed-from (ask w) h e = absurd (false≢true e)
-  misindexed-from (command.stanza f) h e = absurd (false≢true e)
-  misindexed-from (key f) h e = absurd (false≢true e)
-  misindexed-from (error n) h e = absurd (false≢true e)
-  misindexed-from done h e = absurd (false≢true e)
-  misindexed-from other h e = absurd (false≢true e)
-  misindexed-from (command.bad n) h e = ⊎_elim (λ q. let z = q.0 in let y = eqb-true n 5 e in absurd (omega arith)) (λ q. q.1) h
+  misindexed_from : (x : CommandTwo) → Said x → is_bad 5 x ≡ true → Misindexed (RowTwo machine (words line) body) indices_two
+  misindexed_from (ask w) h e = absurd (false≢true e)
+  misindexed_from (command.stanza f) h e = absurd (false≢true e)
+  misindexed_from (key f) h e = absurd (false≢true e)
+  misindexed_from (error n) h e = absurd (false≢true e)
+  misindexed_from done h e = absurd (false≢true e)
+  misindexed_from other h e = absurd (false≢true e)
+  misindexed_from (command.bad n) h e = ⊎_elim (λ q. let z = q.0 in let y = eqb-true n 5 e in absurd (omega arith)) (λ q. q.1) h
 
 -- the same of phase one
 abbrev is_bad_one : ℕ → CommandOne → Bool
@@ -255,32 +255,32 @@ module _ (machine : Machine) (line body : List ℕ) where
   abbrev SaidFirst : CommandOne → Type 0
   SaidFirst x = SaidOne machine line body x
 
-  fault-one-is : (x : CommandOne) → SaidFirst x → fault_one x ≡ first_of (when (is_bad_one 4 x) 4) (when (is_bad_one 5 x) 5)
-  fault-one-is (one_command.recipient m) h = refl
-  fault-one-is (one_command.identity m) h = refl
-  fault-one-is one_command.key h = refl
-  fault-one-is (one_command.header i m) h = refl
-  fault-one-is one_command.done h = refl
-  fault-one-is one_command.other h = refl
-  fault-one-is (one_command.bad n) h = ⊎_elim (λ q. rw q.0) (λ q. rw q.0) h
+  fault_one_is : (x : CommandOne) → SaidFirst x → fault_one x ≡ first_of (when (is_bad_one 4 x) 4) (when (is_bad_one 5 x) 5)
+  fault_one_is (one_command.recipient m) h = refl
+  fault_one_is (one_command.identity m) h = refl
+  fault_one_is one_command.key h = refl
+  fault_one_is (one_command.header i m) h = refl
+  fault_one_is one_command.done h = refl
+  fault_one_is one_command.other h = refl
+  fault_one_is (one_command.bad n) h = ⊎_elim (λ q. rw q.0) (λ q. rw q.0) h
 
-  wrong-one-from : (x : CommandOne) → SaidFirst x → is_bad_one 4 x ≡ true → Wrong (KnownOne machine line) (RowOne machine (words line) body)
-  wrong-one-from (one_command.recipient m) h e = absurd (false≢true e)
-  wrong-one-from (one_command.identity m) h e = absurd (false≢true e)
-  wrong-one-from one_command.key h e = absurd (false≢true e)
-  wrong-one-from (one_command.header i m) h e = absurd (false≢true e)
-  wrong-one-from one_command.done h e = absurd (false≢true e)
-  wrong-one-from one_command.other h e = absurd (false≢true e)
-  wrong-one-from (one_command.bad n) h e = ⊎_elim (λ q. q.1) (λ q. let z = q.0 in let y = eqb-true n 4 e in absurd (omega arith)) h
+  wrong_one_from : (x : CommandOne) → SaidFirst x → is_bad_one 4 x ≡ true → Wrong (KnownOne machine line) (RowOne machine (words line) body)
+  wrong_one_from (one_command.recipient m) h e = absurd (false≢true e)
+  wrong_one_from (one_command.identity m) h e = absurd (false≢true e)
+  wrong_one_from one_command.key h e = absurd (false≢true e)
+  wrong_one_from (one_command.header i m) h e = absurd (false≢true e)
+  wrong_one_from one_command.done h e = absurd (false≢true e)
+  wrong_one_from one_command.other h e = absurd (false≢true e)
+  wrong_one_from (one_command.bad n) h e = ⊎_elim (λ q. q.1) (λ q. let z = q.0 in let y = eqb-true n 4 e in absurd (omega arith)) h
 
-  misindexed-one-from : (x : CommandOne) → SaidFirst x → is_bad_one 5 x ≡ true → Misindexed (RowOne machine (words line) body) indices_one
-  misindexed-one-from (one_command.recipient m) h e = absurd (false≢true e)
-  misindexed-one-from (one_command.identity m) h e = absurd (false≢true e)
-  misindexed-one-from one_command.key h e = absurd (false≢true e)
-  misindexed-one-from (one_command.header i m) h e = absurd (false≢true e)
-  misindexed-one-from one_command.done h e = absurd (false≢true e)
-  misindexed-one-from one_command.other h e = absurd (false≢true e)
-  misindexed-one-from (one_command.bad n) h e = ⊎_elim (λ q. let z = q.0 in let y = eqb-true n 5 e in absurd (omega arith)) (λ q. q.1) h
+  misindexed_one_from : (x : CommandOne) → SaidFirst x → is_bad_one 5 x ≡ true → Misindexed (RowOne machine (words line) body) indices_one
+  misindexed_one_from (one_command.recipient m) h e = absurd (false≢true e)
+  misindexed_one_from (one_command.identity m) h e = absurd (false≢true e)
+  misindexed_one_from one_command.key h e = absurd (false≢true e)
+  misindexed_one_from (one_command.header i m) h e = absurd (false≢true e)
+  misindexed_one_from one_command.done h e = absurd (false≢true e)
+  misindexed_one_from one_command.other h e = absurd (false≢true e)
+  misindexed_one_from (one_command.bad n) h e = ⊎_elim (λ q. let z = q.0 in let y = eqb-true n 5 e in absurd (omega arith)) (λ q. q.1) h
 
 -- ---- the first number of a list
 
@@ -319,12 +319,12 @@ module _ (s : Session) (b : Buffers) (c : Call) where
 
   -- ---- turns
 
-  turned-one : (InTurn c s.phase ↔ (s.phase ≡ One)) → (p : Phase) → s.phase ≡ p → FirstOf P (13 ∷ 14 ∷ []) (turn_one p)
-  turned-one i One e = there SessionOver (⊎_elim (λ q. let z : ◌≡◌ {A = ℕ} 0 1 = cc in omega arith) (λ q. let z : ◌≡◌ {A = ℕ} 0 1 = cc in omega arith)) (there OutOfTurn (λ n. n (i.1 e)) no_number)
-  turned-one i Two e = there SessionOver (⊎_elim (λ q. let z : ◌≡◌ {A = ℕ} 0 1 = cc in omega arith) (λ q. let z : ◌≡◌ {A = ℕ} 0 1 = cc in omega arith)) (here OutOfTurn (λ n. let q = i.0 n in let z : ◌≡◌ {A = ℕ} 0 1 = cc in omega arith))
-  turned-one i (Awaiting w) e = there SessionOver (⊎_elim (λ q. let z : ◌≡◌ {A = ℕ} 0 1 = cc in omega arith) (λ q. let z : ◌≡◌ {A = ℕ} 0 1 = cc in omega arith)) (here OutOfTurn (λ n. let q = i.0 n in let z : ◌≡◌ {A = ℕ} 0 1 = cc in omega arith))
-  turned-one i Ended e = here SessionOver (inr e)
-  turned-one i Closed e = here SessionOver (inl e)
+  turned_one : (InTurn c s.phase ↔ (s.phase ≡ One)) → (p : Phase) → s.phase ≡ p → FirstOf P (13 ∷ 14 ∷ []) (turn_one p)
+  turned_one i One e = there SessionOver (⊎_elim (λ q. let z : ◌≡◌ {A = ℕ} 0 1 = cc in omega arith) (λ q. let z : ◌≡◌ {A = ℕ} 0 1 = cc in omega arith)) (there OutOfTurn (λ n. n (i.1 e)) no_number)
+  turned_one i Two e = there SessionOver (⊎_elim (λ q. let z : ◌≡◌ {A = ℕ} 0 1 = cc in omega arith) (λ q. let z : ◌≡◌ {A = ℕ} 0 1 = cc in omega arith)) (here OutOfTurn (λ n. let q = i.0 n in let z : ◌≡◌ {A = ℕ} 0 1 = cc in omega arith))
+  turned_one i (Awaiting w) e = there SessionOver (⊎_elim (λ q. let z : ◌≡◌ {A = ℕ} 0 1 = cc in omega arith) (λ q. let z : ◌≡◌ {A = ℕ} 0 1 = cc in omega arith)) (here OutOfTurn (λ n. let q = i.0 n in let z : ◌≡◌ {A = ℕ} 0 1 = cc in omega arith))
+  turned_one i Ended e = here SessionOver (inr e)
+  turned_one i Closed e = here SessionOver (inl e)
 
   turned_two : (InTurn c s.phase ↔ (s.phase ≡ Two)) → (p : Phase) → s.phase ≡ p → FirstOf P (13 ∷ 14 ∷ []) (turn_two p)
   turned_two i One e = there SessionOver (⊎_elim (λ q. let z : ◌≡◌ {A = ℕ} 0 1 = cc in omega arith) (λ q. let z : ◌≡◌ {A = ℕ} 0 1 = cc in omega arith)) (here OutOfTurn (λ n. let q = i.0 n in let z : ◌≡◌ {A = ℕ} 0 1 = cc in omega arith))
@@ -335,8 +335,8 @@ module _ (s : Session) (b : Buffers) (c : Call) where
 
   -- ---- reading
 
-  read-part : (text : List ℕ) → ((n : ℕ) → ReadsAs c n ↔ (read_first text ≡ refused n)) → FirstOf P (1 ∷ 2 ∷ 3 ∷ []) (as_read (read_first text) 0)
-  read-part text i = go (read_first text) refl
+  read_part : (text : List ℕ) → ((n : ℕ) → ReadsAs c n ↔ (read_first text ≡ refused n)) → FirstOf P (1 ∷ 2 ∷ 3 ∷ []) (as_read (read_first text) 0)
+  read_part text i = go (read_first text) refl
     where
       by : (n : ℕ) → read_first text ≡ refused n → (n ≡ 1) ⊎ (n ≡ 2) ⊎ (n ≡ 3) → FirstOf P (1 ∷ 2 ∷ 3 ∷ []) n
       by n q (inl e) = subst (FirstOf P (1 ∷ 2 ∷ 3 ∷ [])) (sym e) (here NotStanza ((i 1).1 (q ∙ ap refused e)))
@@ -355,8 +355,8 @@ module _ (s : Session) (b : Buffers) (c : Call) where
 
   -- ---- writing
 
-  write-part : (line body : List ℕ) → (H Unwritable ↔ Unwritten line body) → FirstOf P (17 ∷ []) (when (not (is_writable line body)) 17)
-  write-part line body i =
+  write_part : (line body : List ℕ) → (H Unwritable ↔ Unwritten line body) → FirstOf P (17 ∷ []) (when (not (is_writable line body)) 17)
+  write_part line body i =
       test Unwritable (not (is_writable line body)) 17 refl
       (λ e. i.1 (unwritten (is_line line) (leb (length (stanza_text line body)) 8192) (λ f. leb-false (length (stanza_text line body)) 8192 f) (not-true _ e)))
       (λ h. ap not (refuted (is_writable line body) (λ e. let a = and_true (is_line line) (leb (length (stanza_text line body)) 8192) e in
@@ -373,8 +373,8 @@ module _ (s : Session) (b : Buffers) (c : Call) where
 
   -- ---- the output
 
-  output-part : (text out : List ℕ) → (H ShortOutput ↔ (length out < length text)) → FirstOf P (15 ∷ []) (when (overflows text out) 15)
-  output-part text out i = test ShortOutput (overflows text out) 15 refl (λ e. i.1 (ltb-true (length out) (length text) e)) (λ h. lt-ltb (length out) (length text) (i.0 h))
+  output_part : (text out : List ℕ) → (H ShortOutput ↔ (length out < length text)) → FirstOf P (15 ∷ []) (when (overflows text out) 15)
+  output_part text out i = test ShortOutput (overflows text out) 15 refl (λ e. i.1 (ltb-true (length out) (length text) e)) (λ h. lt-ltb (length out) (length text) (i.0 h))
 
   -- ---- a command of phase two
 
@@ -383,7 +383,7 @@ module _ (s : Session) (b : Buffers) (c : Call) where
     command_said = command_two s.machine line body
 
     abbrev said_so : SaidTwo s.machine line body command_said
-    said_so = said-two s.machine line body
+    said_so = said_two s.machine line body
 
     abbrev is_true : Bool → Type 0
     is_true f = f ≡ true
@@ -392,9 +392,9 @@ module _ (s : Session) (b : Buffers) (c : Call) where
     is_false f = f ≡ false
 
     -- a condition that is said of what the call brings
-    step-two : (r : Refusal) (F : Brought → Type 0) → (H r ↔ F (brought_by c)) → (ks : List ℕ) (n : ℕ) (f : Bool) → (is_true f → F (in_two line body)) → (F (in_two line body) → is_true f) →
+    step_two : (r : Refusal) (F : Brought → Type 0) → (H r ↔ F (brought_by c)) → (ks : List ℕ) (n : ℕ) (f : Bool) → (is_true f → F (in_two line body)) → (F (in_two line body) → is_true f) →
         (is_true f → n ≡ number_of r) → (is_false f → FirstOf P ks n) → FirstOf P (number_of r ∷ ks) n
-    step-two r F i ks n f to from = step r ks n f (λ q. i.1 (subst F (sym brought) (to q))) (λ h. from (subst F brought (i.0 h)))
+    step_two r F i ks n f to from = step r ks n f (λ q. i.1 (subst F (sym brought) (to q))) (λ h. from (subst F brought (i.0 h)))
 
     -- what is asked of the tables, in the decision's order
     abbrev missing : Bool
@@ -416,40 +416,40 @@ module _ (s : Session) (b : Buffers) (c : Call) where
     spaceless = is_spaceless s.tables b.second command_said (length (payload_of command_said line body))
 
     -- 4 to 11; then the rest
-    early-two : (own : Bool) (ks : List ℕ) →
+    early_two : (own : Bool) (ks : List ℕ) →
         (fault_of command_said ≡ 0 → is_false missing → is_false second_key → is_false too_many → is_false clashing → FirstOf P ks (decided_two s b own line body)) →
         FirstOf P (4 ∷ 5 ∷ 6 ∷ 7 ∷ 20 ∷ 9 ∷ 10 ∷ 11 ∷ ks) (decided_two s b own line body)
     unfolding decided
-    early-two own ks rest =
+    early_two own ks rest =
         let n = decided_two s b own line body in
-        let four = wrong-from s.machine line body command_said said_so in
-        let five = misindexed-from s.machine line body command_said said_so in
-        step-two BadCommand (WrongIn s) (λ h. h, λ h. h) (5 ∷ 6 ∷ 7 ∷ 20 ∷ 9 ∷ 10 ∷ 11 ∷ ks) n (is_bad 4 command_said) four (λ h. ap (is_bad 4) (wrong-command s.machine line body h)) (λ f. rw (ap fault_of (wrong-command s.machine line body (four f))))
-        (λ b4. step-two BadIndex (MisindexedIn s) (λ h. h, λ h. h) (6 ∷ 7 ∷ 20 ∷ 9 ∷ 10 ∷ 11 ∷ ks) n (is_bad 5 command_said) five (λ h. ap (is_bad 5) (misindexed-command s.machine line body h)) (λ f. rw (ap fault_of (misindexed-command s.machine line body (five f))))
+        let four = wrong_from s.machine line body command_said said_so in
+        let five = misindexed_from s.machine line body command_said said_so in
+        step_two BadCommand (WrongIn s) (λ h. h, λ h. h) (5 ∷ 6 ∷ 7 ∷ 20 ∷ 9 ∷ 10 ∷ 11 ∷ ks) n (is_bad 4 command_said) four (λ h. ap (is_bad 4) (wrong_command s.machine line body h)) (λ f. rw (ap fault_of (wrong_command s.machine line body (four f))))
+        (λ b4. step_two BadIndex (MisindexedIn s) (λ h. h, λ h. h) (6 ∷ 7 ∷ 20 ∷ 9 ∷ 10 ∷ 11 ∷ ks) n (is_bad 5 command_said) five (λ h. ap (is_bad 5) (misindexed_command s.machine line body h)) (λ f. rw (ap fault_of (misindexed_command s.machine line body (five f))))
         (λ b5. let z : fault_of command_said ≡ 0 = fault_is s.machine line body command_said said_so ∙ rw (b4, b5) in
-        step-two NoSuchIndex (MissingIn s b) (λ h. h, λ h. h) (7 ∷ 20 ∷ 9 ∷ 10 ∷ 11 ∷ ks) n missing (missing-from s b reached line body command_said said_so) (missing-to s b reached line body) (λ f. rw (z, f))
+        step_two NoSuchIndex (MissingIn s b) (λ h. h, λ h. h) (7 ∷ 20 ∷ 9 ∷ 10 ∷ 11 ∷ ks) n missing (missing_from s b reached line body command_said said_so) (missing_to s b reached line body) (λ f. rw (z, f))
         (λ m. there FallingIndex (λ h. subst (FallingIn s b) brought h)
         (there Repeated (λ h. subst (TwiceIn s b) brought h)
-        (step-two SecondKey (SecondIn s b) (λ h. h, λ h. h) (10 ∷ 11 ∷ ks) n second_key (second_from s b reached line body command_said said_so) (second-to s b reached line body) (λ f. rw (z, m, f))
-        (λ k. step-two TooManyStanzas (TooManyIn s b) (λ h. h, λ h. h) (11 ∷ ks) n too_many (too-many-from s b reached line body command_said said_so) (too-many-to s b reached line body) (λ f. rw (z, m, k, f))
-        (λ y. step-two WorkAndError (TogetherIn s b) (λ h. h, λ h. h) ks n clashing (together-from s b reached line body command_said said_so) (together-to s b reached line body) (λ f. rw (z, m, k, y, f))
+        (step_two SecondKey (SecondIn s b) (λ h. h, λ h. h) (10 ∷ 11 ∷ ks) n second_key (second_from s b reached line body command_said said_so) (second_to s b reached line body) (λ f. rw (z, m, f))
+        (λ k. step_two TooManyStanzas (TooManyIn s b) (λ h. h, λ h. h) (11 ∷ ks) n too_many (too_many_from s b reached line body command_said said_so) (too_many_to s b reached line body) (λ f. rw (z, m, k, f))
+        (λ y. step_two WorkAndError (TogetherIn s b) (λ h. h, λ h. h) ks n clashing (together_from s b reached line body command_said said_so) (together_to s b reached line body) (λ f. rw (z, m, k, y, f))
         (λ l. rest z m k y l))))))))
 
     -- received: 8
-    received-two : FirstOf P (4 ∷ 5 ∷ 6 ∷ 7 ∷ 20 ∷ 9 ∷ 10 ∷ 11 ∷ 8 ∷ []) (decided_two s b false line body)
+    received_two : FirstOf P (4 ∷ 5 ∷ 6 ∷ 7 ∷ 20 ∷ 9 ∷ 10 ∷ 11 ∷ 8 ∷ []) (decided_two s b false line body)
     unfolding decided
-    received-two =
-        early-two false (8 ∷ [])
-        (λ z m k y l. step-two NoSpace (SpacelessIn s b) (λ h. h, λ h. h) [] (decided_two s b false line body) spaceless (spaceless-from s b reached line body command_said said_so) (spaceless-to s b reached line body)
+    received_two =
+        early_two false (8 ∷ [])
+        (λ z m k y l. step_two NoSpace (SpacelessIn s b) (λ h. h, λ h. h) [] (decided_two s b false line body) spaceless (spaceless_from s b reached line body command_said said_so) (spaceless_to s b reached line body)
         (λ f. rw (z, m, k, y, l, f)) (λ f. rw (z, m, k, y, l, f) no_number))
 
     -- sent: 19, 8
-    sent-two : (is_true held_back → H HeldBack) → (H HeldBack → is_true held_back) → FirstOf P (4 ∷ 5 ∷ 6 ∷ 7 ∷ 20 ∷ 9 ∷ 10 ∷ 11 ∷ 19 ∷ 8 ∷ []) (decided_two s b true line body)
+    sent_two : (is_true held_back → H HeldBack) → (H HeldBack → is_true held_back) → FirstOf P (4 ∷ 5 ∷ 6 ∷ 7 ∷ 20 ∷ 9 ∷ 10 ∷ 11 ∷ 19 ∷ 8 ∷ []) (decided_two s b true line body)
     unfolding decided
-    sent-two to from =
-        early-two true (19 ∷ 8 ∷ [])
+    sent_two to from =
+        early_two true (19 ∷ 8 ∷ [])
         (λ z m k y l. step HeldBack (8 ∷ []) (decided_two s b true line body) held_back to from (λ f. rw (z, m, k, y, l, f))
-        (λ h. step-two NoSpace (SpacelessIn s b) (λ h. h, λ h. h) [] (decided_two s b true line body) spaceless (spaceless-from s b reached line body command_said said_so) (spaceless-to s b reached line body)
+        (λ h. step_two NoSpace (SpacelessIn s b) (λ h. h, λ h. h) [] (decided_two s b true line body) spaceless (spaceless_from s b reached line body command_said said_so) (spaceless_to s b reached line body)
         (λ f. rw (z, m, k, y, l, h, f)) (λ f. rw (z, m, k, y, l, h, f) no_number)))
 
   -- ---- a command of phase one
@@ -459,33 +459,33 @@ module _ (s : Session) (b : Buffers) (c : Call) where
     one_said = command_in s.machine s.name line body
 
     abbrev one_so : SaidOne s.machine line body one_said
-    one_so = said-one s.machine line body s.name
+    one_so = said_one s.machine line body s.name
 
-    test-one : (r : Refusal) (F : Brought → Type 0) → (H r ↔ F (brought_by c)) → (f : Bool) (n : ℕ) → number_of r ≡ n → (f ≡ true → F (in_one line body)) → (F (in_one line body) → f ≡ true) → FirstOf P (number_of r ∷ []) (when f n)
-    test-one r F i f n e to from = test r f n e (λ q. i.1 (subst F (sym brought) (to q))) (λ h. from (subst F brought (i.0 h)))
+    test_one : (r : Refusal) (F : Brought → Type 0) → (H r ↔ F (brought_by c)) → (f : Bool) (n : ℕ) → number_of r ≡ n → (f ≡ true → F (in_one line body)) → (F (in_one line body) → f ≡ true) → FirstOf P (number_of r ∷ []) (when f n)
+    test_one r F i f n e to from = test r f n e (λ q. i.1 (subst F (sym brought) (to q))) (λ h. from (subst F brought (i.0 h)))
 
-    fault-one : FirstOf P (4 ∷ 5 ∷ []) (fault_one one_said)
-    fault-one =
-        subst (FirstOf P (4 ∷ 5 ∷ [])) (sym (fault-one-is s.machine line body one_said one_so))
+    fault_one_lem : FirstOf P (4 ∷ 5 ∷ []) (fault_one one_said)
+    fault_one_lem =
+        subst (FirstOf P (4 ∷ 5 ∷ [])) (sym (fault_one_is s.machine line body one_said one_so))
         (both (4 ∷ []) (5 ∷ []) _ _
-        (test-one BadCommand (WrongIn s) (λ h. h, λ h. h) (is_bad_one 4 one_said) 4 refl (wrong-one-from s.machine line body one_said one_so) (λ h. ap (is_bad_one 4) (wrong-one s.machine line body s.name h)))
-        (λ z. test-one BadIndex (MisindexedIn s) (λ h. h, λ h. h) (is_bad_one 5 one_said) 5 refl (misindexed-one-from s.machine line body one_said one_so) (λ h. ap (is_bad_one 5) (misindexed-one s.machine line body s.name h))))
+        (test_one BadCommand (WrongIn s) (λ h. h, λ h. h) (is_bad_one 4 one_said) 4 refl (wrong_one_from s.machine line body one_said one_so) (λ h. ap (is_bad_one 4) (wrong_one s.machine line body s.name h)))
+        (λ z. test_one BadIndex (MisindexedIn s) (λ h. h, λ h. h) (is_bad_one 5 one_said) 5 refl (misindexed_one_from s.machine line body one_said one_so) (λ h. ap (is_bad_one 5) (misindexed_one s.machine line body s.name h))))
 
     -- `ks` where nothing of it is given in phase one
-    decided-one : (ks : List ℕ) → FirstOf P ks 0 → FirstOf P (4 ∷ 5 ∷ 6 ∷ 7 ∷ 20 ∷ 9 ∷ 10 ∷ 11 ∷ ks ++ (8 ∷ [])) (decided_one s b line body)
-    decided-one ks held =
+    decided_one_lem : (ks : List ℕ) → FirstOf P ks 0 → FirstOf P (4 ∷ 5 ∷ 6 ∷ 7 ∷ 20 ∷ 9 ∷ 10 ∷ 11 ∷ ks ++ (8 ∷ [])) (decided_one s b line body)
+    decided_one_lem ks held =
         subst (FirstOf P (4 ∷ 5 ∷ 6 ∷ 7 ∷ 20 ∷ 9 ∷ 10 ∷ 11 ∷ ks ++ (8 ∷ []))) (sym (decided_tests s.tables b.first one_said (payload_in s.machine s.name line body)))
-        (both (4 ∷ 5 ∷ []) (6 ∷ 7 ∷ 20 ∷ 9 ∷ 10 ∷ 11 ∷ ks ++ (8 ∷ [])) _ _ fault-one
+        (both (4 ∷ 5 ∷ []) (6 ∷ 7 ∷ 20 ∷ 9 ∷ 10 ∷ 11 ∷ ks ++ (8 ∷ [])) _ _ fault_one_lem
         (λ z. there NoSuchIndex (λ h. subst (MissingIn s b) brought h)
         (both (7 ∷ []) (20 ∷ 9 ∷ 10 ∷ 11 ∷ ks ++ (8 ∷ [])) _ _
-        (test-one FallingIndex (FallingIn s b) (λ h. h, λ h. h) (is_falling s.tables one_said) _ refl (falling-from s b reached line body one_said one_so) (falling-to s b reached line body))
+        (test_one FallingIndex (FallingIn s b) (λ h. h, λ h. h) (is_falling s.tables one_said) _ refl (falling_from s b reached line body one_said one_so) (falling_to s b reached line body))
         (λ z. both (20 ∷ []) (9 ∷ 10 ∷ 11 ∷ ks ++ (8 ∷ [])) _ _
-        (test-one Repeated (TwiceIn s b) (λ h. h, λ h. h) (is_repeated s.tables b.first one_said (payload_in s.machine s.name line body)) _ refl (repeated-from s b reached line body one_said one_so) (repeated-to s b reached line body))
+        (test_one Repeated (TwiceIn s b) (λ h. h, λ h. h) (is_repeated s.tables b.first one_said (payload_in s.machine s.name line body)) _ refl (repeated_from s b reached line body one_said one_so) (repeated_to s b reached line body))
         (λ z. there SecondKey (λ h. subst (SecondIn s b) brought h)
         (there TooManyStanzas (λ h. subst (TooManyIn s b) brought h)
         (there WorkAndError (λ h. subst (TogetherIn s b) brought h)
         (both ks (8 ∷ []) 0 _ held
-        (λ z. test-one NoSpace (SpacelessIn s b) (λ h. h, λ h. h) (is_spaceless_one s.tables b.first one_said (length (payload_in s.machine s.name line body))) _ refl (spaceless-one-from s b reached line body one_said one_so) (spaceless-one-to s b reached line body))))))))))
+        (λ z. test_one NoSpace (SpacelessIn s b) (λ h. h, λ h. h) (is_spaceless_one s.tables b.first one_said (length (payload_in s.machine s.name line body))) _ refl (spaceless_one_from s b reached line body one_said one_so) (spaceless_one_to s b reached line body))))))))))
 
 -- ---- what the client writes at once
 
@@ -496,60 +496,60 @@ module _ (s : Session) (line body : List ℕ) where
   abbrev AtOnceHere : Response → Type 0
   AtOnceHere r = WrittenAtOnce s.screen (KnownTwo s.machine line) Says r
 
-  at-once-said : (x : SayingTwo ℕ) → Says x → at_once s.screen (command_two s.machine line body) ≡ at_once s.screen (command_of x)
-  at-once-said x h = ap (at_once s.screen) (says-command s.machine line body x h)
+  at_once_said : (x : SayingTwo ℕ) → Says x → at_once s.screen (command_two s.machine line body) ≡ at_once s.screen (command_of x)
+  at_once_said x h = ap (at_once s.screen) (says_command s.machine line body x h)
 
-  question-fails : (q : Question) → s.screen ≡ false → at_once s.screen (command_of (asks q)) ≡ writes Fail
-  question-fails message e = rw e
-  question-fails confirmation e = rw e
-  question-fails public_value e = rw e
-  question-fails secret_value e = rw e
+  question_fails : (q : Question) → s.screen ≡ false → at_once s.screen (command_of (asks q)) ≡ writes Fail
+  question_fails message e = rw e
+  question_fails confirmation e = rw e
+  question_fails public_value e = rw e
+  question_fails secret_value e = rw e
 
-  error-answered-so : (n : Naming ℕ) → at_once s.screen (command_of (reports n)) ≡ writes Ok
-  error-answered-so internal = refl
-  error-answered-so (identity i) = refl
-  error-answered-so (recipient i) = refl
-  error-answered-so (header f i) = refl
+  error_answered_so : (n : Naming ℕ) → at_once s.screen (command_of (reports n)) ≡ writes Ok
+  error_answered_so internal = refl
+  error_answered_so (identity i) = refl
+  error_answered_so (recipient i) = refl
+  error_answered_so (header f i) = refl
 
-  at-once-to : (r : Response) → AtOnceHere r → at_once s.screen (command_two s.machine line body) ≡ writes r
-  at-once-to r (for_stanza f h e) = at-once-said (returns_stanza f) h ∙ ap writes (sym e)
-  at-once-to r (for_key f h e) = at-once-said (returns_key f) h ∙ ap writes (sym e)
-  at-once-to r (for_error n h e) = at-once-said (reports n) h ∙ error-answered-so n ∙ ap writes (sym e)
-  at-once-to r (for_other n e) = ap (at_once s.screen) (unknown-command s.machine line body n) ∙ ap writes (sym e)
-  at-once-to r (for_question q h d e) = at-once-said (asks q) h ∙ question-fails q d ∙ ap writes (sym e)
+  at_once_to : (r : Response) → AtOnceHere r → at_once s.screen (command_two s.machine line body) ≡ writes r
+  at_once_to r (for_stanza f h e) = at_once_said (returns_stanza f) h ∙ ap writes (sym e)
+  at_once_to r (for_key f h e) = at_once_said (returns_key f) h ∙ ap writes (sym e)
+  at_once_to r (for_error n h e) = at_once_said (reports n) h ∙ error_answered_so n ∙ ap writes (sym e)
+  at_once_to r (for_other n e) = ap (at_once s.screen) (unknown_command s.machine line body n) ∙ ap writes (sym e)
+  at_once_to r (for_question q h d e) = at_once_said (asks q) h ∙ question_fails q d ∙ ap writes (sym e)
 
-  at-once-from : (x : CommandTwo) → SaidTwo s.machine line body x → (r : Response) → at_once s.screen x ≡ writes r → AtOnceHere r
-  at-once-from (ask w) h r e = cases s.screen (λ f. let z : silent ≡ writes r = sym (ap (λ v. pick v silent (writes Fail)) f) ∙ e in let y : ◌≡◌ {A = ℕ} 0 1 = cc in absurd (omega arith)) (λ f. let z : writes Fail ≡ writes r = sym (ap (λ v. pick v silent (writes Fail)) f) ∙ e in for_question h.0 h.1 f (cc))
-  at-once-from (command.stanza f) h r e = for_stanza f h (cc)
-  at-once-from (key f) h r e = for_key f h (cc)
-  at-once-from (error n) h r e = for_error (naming_of n) h (cc)
-  at-once-from done h r e = let z : ◌≡◌ {A = ℕ} 0 1 = cc in absurd (omega arith)
-  at-once-from other h r e = for_other h (cc)
-  at-once-from (command.bad n) h r e = let z : ◌≡◌ {A = ℕ} 0 1 = cc in absurd (omega arith)
+  at_once_from : (x : CommandTwo) → SaidTwo s.machine line body x → (r : Response) → at_once s.screen x ≡ writes r → AtOnceHere r
+  at_once_from (ask w) h r e = cases s.screen (λ f. let z : silent ≡ writes r = sym (ap (λ v. pick v silent (writes Fail)) f) ∙ e in let y : ◌≡◌ {A = ℕ} 0 1 = cc in absurd (omega arith)) (λ f. let z : writes Fail ≡ writes r = sym (ap (λ v. pick v silent (writes Fail)) f) ∙ e in for_question h.0 h.1 f (cc))
+  at_once_from (command.stanza f) h r e = for_stanza f h (cc)
+  at_once_from (key f) h r e = for_key f h (cc)
+  at_once_from (error n) h r e = for_error (naming_of n) h (cc)
+  at_once_from done h r e = let z : ◌≡◌ {A = ℕ} 0 1 = cc in absurd (omega arith)
+  at_once_from other h r e = for_other h (cc)
+  at_once_from (command.bad n) h r e = let z : ◌≡◌ {A = ℕ} 0 1 = cc in absurd (omega arith)
 
   -- its text is longer than the output exactly if a response is
-  at-once-over : (out : List ℕ) → (length out < length (text_of (at_once s.screen (command_two s.machine line body)))) ↔ ((r : Response) × AtOnceHere r × (length out < length (stanza_text (response_line r) [])))
-  at-once-over out = (go (at_once s.screen (command_two s.machine line body)) refl, λ h. subst (λ a. length out < length (text_of a)) (sym (at-once-to h.0 h.1)) h.2)
+  at_once_over : (out : List ℕ) → (length out < length (text_of (at_once s.screen (command_two s.machine line body)))) ↔ ((r : Response) × AtOnceHere r × (length out < length (stanza_text (response_line r) [])))
+  at_once_over out = (go (at_once s.screen (command_two s.machine line body)) refl, λ h. subst (λ a. length out < length (text_of a)) (sym (at_once_to h.0 h.1)) h.2)
     where
       go : (a : AtOnce) → at_once s.screen (command_two s.machine line body) ≡ a → length out < length (text_of a) → (r : Response) × AtOnceHere r × (length out < length (stanza_text (response_line r) []))
-      go (writes r) e l = (r, at-once-from (command_two s.machine line body) (said-two s.machine line body) r e, l)
+      go (writes r) e l = (r, at_once_from (command_two s.machine line body) (said_two s.machine line body) r e, l)
       go silent e l = absurd (omega arith)
 
 -- ---- answers
 
 module _ (s : Session) (b : Buffers) where
   -- 13 and 14 of an answer, and what follows where one is due
-  answer-part : (c : Call) → (InTurn c s.phase ↔ ((w : WordTwo) × (s.phase ≡ Awaiting w))) → (ks : List ℕ) (late : WordTwo → ℕ) →
+  answer_part : (c : Call) → (InTurn c s.phase ↔ ((w : WordTwo) × (s.phase ≡ Awaiting w))) → (ks : List ℕ) (late : WordTwo → ℕ) →
       ((w : WordTwo) → s.phase ≡ Awaiting w → FirstOf (Condition s b c) ks (late w)) → FirstOf (Condition s b c) (13 ∷ 14 ∷ ks) (by_due s b (due_in s.phase) late)
-  answer-part c i ks late follows = go s.phase refl
+  answer_part c i ks late follows = go s.phase refl
     where
-      open-still : (p : Phase) → s.phase ≡ p → (p ≡ Closed → ⊥) → (p ≡ Ended → ⊥) → Over s.phase → ⊥
-      open-still p e h g = ⊎_elim (λ q. h (sym e ∙ q)) (λ q. g (sym e ∙ q))
+      open_still : (p : Phase) → s.phase ≡ p → (p ≡ Closed → ⊥) → (p ≡ Ended → ⊥) → Over s.phase → ⊥
+      open_still p e h g = ⊎_elim (λ q. h (sym e ∙ q)) (λ q. g (sym e ∙ q))
 
       go : (p : Phase) → s.phase ≡ p → FirstOf (Condition s b c) (13 ∷ 14 ∷ ks) (by_due s b (due_in p) late)
-      go One e = there s b c SessionOver (open-still One e (λ q. let z : ◌≡◌ {A = ℕ} 0 1 = cc in omega arith) (λ q. let z : ◌≡◌ {A = ℕ} 0 1 = cc in omega arith)) (here s b c OutOfTurn (λ n. let q = (i.0 n).1 in let z : ◌≡◌ {A = ℕ} 0 1 = cc in omega arith))
-      go Two e = there s b c SessionOver (open-still Two e (λ q. let z : ◌≡◌ {A = ℕ} 0 1 = cc in omega arith) (λ q. let z : ◌≡◌ {A = ℕ} 0 1 = cc in omega arith)) (here s b c OutOfTurn (λ n. let q = (i.0 n).1 in let z : ◌≡◌ {A = ℕ} 0 1 = cc in omega arith))
-      go (Awaiting w) e = there s b c SessionOver (open-still (Awaiting w) e (λ q. let z : ◌≡◌ {A = ℕ} 0 1 = cc in omega arith) (λ q. let z : ◌≡◌ {A = ℕ} 0 1 = cc in omega arith)) (there s b c OutOfTurn (λ n. n (i.1 (w, e))) (follows w e))
+      go One e = there s b c SessionOver (open_still One e (λ q. let z : ◌≡◌ {A = ℕ} 0 1 = cc in omega arith) (λ q. let z : ◌≡◌ {A = ℕ} 0 1 = cc in omega arith)) (here s b c OutOfTurn (λ n. let q = (i.0 n).1 in let z : ◌≡◌ {A = ℕ} 0 1 = cc in omega arith))
+      go Two e = there s b c SessionOver (open_still Two e (λ q. let z : ◌≡◌ {A = ℕ} 0 1 = cc in omega arith) (λ q. let z : ◌≡◌ {A = ℕ} 0 1 = cc in omega arith)) (here s b c OutOfTurn (λ n. let q = (i.0 n).1 in let z : ◌≡◌ {A = ℕ} 0 1 = cc in omega arith))
+      go (Awaiting w) e = there s b c SessionOver (open_still (Awaiting w) e (λ q. let z : ◌≡◌ {A = ℕ} 0 1 = cc in omega arith) (λ q. let z : ◌≡◌ {A = ℕ} 0 1 = cc in omega arith)) (there s b c OutOfTurn (λ n. n (i.1 (w, e))) (follows w e))
       go Ended e = here s b c SessionOver (inr e)
       go Closed e = here s b c SessionOver (inl e)
 
@@ -557,99 +557,99 @@ module _ (s : Session) (b : Buffers) where
   same_awaited : (v w : WordTwo) → s.phase ≡ Awaiting v → s.phase ≡ Awaiting w → v ≡ w
   same_awaited v w p q = cc
 
-  unfit-first : (f g : Bool) → ◌≡◌ {A = ℕ} (pick f (pick g 0 17) 12) (first_of (when (not f) 12) (when (not g) 17))
-  unfit-first true true = refl
-  unfit-first true false = refl
-  unfit-first false g = refl
+  unfit_first : (f g : Bool) → ◌≡◌ {A = ℕ} (pick f (pick g 0 17) 12) (first_of (when (not f) 12) (when (not g) 17))
+  unfit_first true true = refl
+  unfit_first true false = refl
+  unfit_first false g = refl
 
-  reply-part : (r : Response) (body out : List ℕ) (w : WordTwo) → s.phase ≡ Awaiting w →
+  reply_part : (r : Response) (body out : List ℕ) (w : WordTwo) → s.phase ≡ Awaiting w →
       FirstOf (Condition s b (reply r body out)) (12 ∷ 17 ∷ 15 ∷ []) (first_of (number_replied w r body) (shortness (stanza_text (response_line r) body) out))
-  reply-part r body out w e =
+  reply_part r body out w e =
       let c = reply r body out in
       both s b c (12 ∷ 17 ∷ []) (15 ∷ []) _ _
-      (subst (FirstOf (Condition s b c) (12 ∷ 17 ∷ [])) (sym (unfit-first (fits_whole w r body) (is_writable (response_line r) body)))
+      (subst (FirstOf (Condition s b c) (12 ∷ 17 ∷ [])) (sym (unfit_first (fits_whole w r body) (is_writable (response_line r) body)))
       (both s b c (12 ∷ []) (17 ∷ []) _ _
       (test s b c UnfitResponse (not (fits_whole w r body)) 12 refl (λ f. (w, e, λ x. true≢false (sym (fits_from w r body x) ∙ not-true _ f)))
       (λ h. ap not (refuted (fits_whole w r body) (λ f. h.2 (fits_to h.0 r body (subst (λ v. fits_whole v r body ≡ true) (same_awaited w h.0 e h.1) f))))))
-      (λ z. write-part s b c (response_line r) body (λ h. h, λ h. h))))
-      (λ z. output-part s b c (stanza_text (response_line r) body) out (λ h. h, λ h. h))
+      (λ z. write_part s b c (response_line r) body (λ h. h, λ h. h))))
+      (λ z. output_part s b c (stanza_text (response_line r) body) out (λ h. h, λ h. h))
 
   -- a response that was read is none that fits
-  unfit-to : (w : WordTwo) (line body : List ℕ) (q : ResponseRead) → response_of line ≡ q → (unfitness s b w q body ≡ 0) ⊎ ((unfitness s b w q body ≡ 12) × ((r : Response) → line ≡ response_line r → Fitting r body w → ⊥))
-  unfit-to w line body (response r) e =
+  unfit_to : (w : WordTwo) (line body : List ℕ) (q : ResponseRead) → response_of line ≡ q → (unfitness s b w q body ≡ 0) ⊎ ((unfitness s b w q body ≡ 12) × ((r : Response) → line ≡ response_line r → Fitting r body w → ⊥))
+  unfit_to w line body (response r) e =
       cases (fits_whole w r body) (λ f. inl (ap (λ v. pick v 0 12) f))
       (λ f. inr (ap (λ v. pick v 0 12) f, λ q l x. let z : response q ≡ response r = sym (read_line q) ∙ ap response_of (sym l) ∙ e in let y : q ≡ r = cc in true≢false (sym (fits_from w r body (subst (λ q. Fitting q body w) y x)) ∙ f)))
-  unfit-to w line body nothing e = inr (refl, λ q l x. let z : response q ≡ nothing = sym (read_line q) ∙ ap response_of (sym l) ∙ e in let y : ◌≡◌ {A = ℕ} 0 1 = cc in omega arith)
+  unfit_to w line body nothing e = inr (refl, λ q l x. let z : response q ≡ nothing = sym (read_line q) ∙ ap response_of (sym l) ∙ e in let y : ◌≡◌ {A = ℕ} 0 1 = cc in omega arith)
 
   fit_then : (w : WordTwo) (line body : List ℕ) (q : ResponseRead) → response_of line ≡ q → unfitness s b w q body ≡ 0 → (r : Response) × (line ≡ response_line r) × Fitting r body w
   fit_then w line body (response r) e z = (r, line_read_lem line r e, cases (fits_whole w r body) (λ f. fits_to w r body f) (λ f. let y : ◌≡◌ {A = ℕ} 12 0 = sym (ap (λ v. pick v 0 12) f) ∙ z in absurd (omega arith)))
   fit_then w line body nothing e z = absurd (omega arith)
 
-  respond-part : (text out : List ℕ) (w : WordTwo) → s.phase ≡ Awaiting w → FirstOf (Condition s b (respond text out)) (12 ∷ []) (unfitness s b w (response_of (line_in text)) (body_in text))
-  respond-part text out w e =
+  respond_part : (text out : List ℕ) (w : WordTwo) → s.phase ≡ Awaiting w → FirstOf (Condition s b (respond text out)) (12 ∷ []) (unfitness s b w (response_of (line_in text)) (body_in text))
+  respond_part text out w e =
       let c = respond text out in
       let q = response_of (line_in text) in
       ⊎_elim
       (λ z. let f = fit_then w (line_in text) (body_in text) q refl z in
       subst (FirstOf (Condition s b c) (12 ∷ [])) (sym z) (there s b c UnfitResponse (λ h. h.2 f.0 f.1 (subst (Fitting f.0 (body_in text)) (same_awaited w h.0 e h.1) f.2)) no_number))
       (λ z. subst (FirstOf (Condition s b c) (12 ∷ [])) (sym z.0) (here s b c UnfitResponse (w, e, z.1)))
-      (unfit-to w (line_in text) (body_in text) q refl)
+      (unfit_to w (line_in text) (body_in text) q refl)
 
 -- ---- the calls
 
 module _ (s : Session) (b : Buffers) (reached : ReachedSession s) where
   -- each number is given exactly where it is the first in the order whose condition holds
-  pub number-given : (c : Call) → FirstOf (Condition s b c) (order_of c) (outcome s b c).number
-  number-given (receive text) =
+  pub number_given : (c : Call) → FirstOf (Condition s b c) (order_of c) (outcome s b c).number
+  number_given (receive text) =
       let c = receive text in
       let commands : FirstOf (Condition s b c) (4 ∷ 5 ∷ 6 ∷ 7 ∷ 20 ∷ 9 ∷ 10 ∷ 11 ∷ 8 ∷ 15 ∷ []) (first_of (decided_one s b (line_in text) (body_in text)) 0) =
-      both s b c (4 ∷ 5 ∷ 6 ∷ 7 ∷ 20 ∷ 9 ∷ 10 ∷ 11 ∷ 8 ∷ []) (15 ∷ []) _ 0 (decided-one s b c reached (line_in text) (body_in text) refl [] no_number) (λ z. there s b c ShortOutput (λ h. h) no_number) in
-      subst (FirstOf (Condition s b c) (order_of c)) (sym (given-receive s b text))
-      (both s b c (13 ∷ 14 ∷ []) (1 ∷ 2 ∷ 3 ∷ 4 ∷ 5 ∷ 6 ∷ 7 ∷ 20 ∷ 9 ∷ 10 ∷ 11 ∷ 8 ∷ 15 ∷ []) _ _ (turned-one s b c (λ h. h, λ h. h) s.phase refl)
+      both s b c (4 ∷ 5 ∷ 6 ∷ 7 ∷ 20 ∷ 9 ∷ 10 ∷ 11 ∷ 8 ∷ []) (15 ∷ []) _ 0 (decided_one_lem s b c reached (line_in text) (body_in text) refl [] no_number) (λ z. there s b c ShortOutput (λ h. h) no_number) in
+      subst (FirstOf (Condition s b c) (order_of c)) (sym (given_receive s b text))
+      (both s b c (13 ∷ 14 ∷ []) (1 ∷ 2 ∷ 3 ∷ 4 ∷ 5 ∷ 6 ∷ 7 ∷ 20 ∷ 9 ∷ 10 ∷ 11 ∷ 8 ∷ 15 ∷ []) _ _ (turned_one s b c (λ h. h, λ h. h) s.phase refl)
       (λ z. subst (FirstOf (Condition s b c) (1 ∷ 2 ∷ 3 ∷ 4 ∷ 5 ∷ 6 ∷ 7 ∷ 20 ∷ 9 ∷ 10 ∷ 11 ∷ 8 ∷ 15 ∷ [])) (sym (read_first_lem text _))
-      (both s b c (1 ∷ 2 ∷ 3 ∷ []) (4 ∷ 5 ∷ 6 ∷ 7 ∷ 20 ∷ 9 ∷ 10 ∷ 11 ∷ 8 ∷ 15 ∷ []) _ _ (read-part s b c text (λ n. (λ h. h, λ h. h))) (λ y. commands))))
-  number-given (send word arguments body out) =
+      (both s b c (1 ∷ 2 ∷ 3 ∷ []) (4 ∷ 5 ∷ 6 ∷ 7 ∷ 20 ∷ 9 ∷ 10 ∷ 11 ∷ 8 ∷ 15 ∷ []) _ _ (read_part s b c text (λ n. (λ h. h, λ h. h))) (λ y. commands))))
+  number_given (send word arguments body out) =
       let c = send word arguments body out in
       let line = one_command.line_sent word arguments in
       let text = stanza_text line body in
       let commands : FirstOf (Condition s b c) (4 ∷ 5 ∷ 6 ∷ 7 ∷ 20 ∷ 9 ∷ 10 ∷ 11 ∷ 19 ∷ 8 ∷ 15 ∷ []) (first_of (decided_one s b line body) (shortness text out)) =
-      both s b c (4 ∷ 5 ∷ 6 ∷ 7 ∷ 20 ∷ 9 ∷ 10 ∷ 11 ∷ 19 ∷ 8 ∷ []) (15 ∷ []) _ _ (decided-one s b c reached line body refl (19 ∷ []) (there s b c HeldBack (λ h. h) no_number)) (λ z. output-part s b c text out (λ h. h, λ h. h)) in
-      subst (FirstOf (Condition s b c) (order_of c)) (sym (given-send s b word arguments body out))
-      (both s b c (13 ∷ 14 ∷ []) (17 ∷ 4 ∷ 5 ∷ 6 ∷ 7 ∷ 20 ∷ 9 ∷ 10 ∷ 11 ∷ 19 ∷ 8 ∷ 15 ∷ []) _ _ (turned-one s b c (λ h. h, λ h. h) s.phase refl)
+      both s b c (4 ∷ 5 ∷ 6 ∷ 7 ∷ 20 ∷ 9 ∷ 10 ∷ 11 ∷ 19 ∷ 8 ∷ []) (15 ∷ []) _ _ (decided_one_lem s b c reached line body refl (19 ∷ []) (there s b c HeldBack (λ h. h) no_number)) (λ z. output_part s b c text out (λ h. h, λ h. h)) in
+      subst (FirstOf (Condition s b c) (order_of c)) (sym (given_send s b word arguments body out))
+      (both s b c (13 ∷ 14 ∷ []) (17 ∷ 4 ∷ 5 ∷ 6 ∷ 7 ∷ 20 ∷ 9 ∷ 10 ∷ 11 ∷ 19 ∷ 8 ∷ 15 ∷ []) _ _ (turned_one s b c (λ h. h, λ h. h) s.phase refl)
       (λ z. subst (FirstOf (Condition s b c) (17 ∷ 4 ∷ 5 ∷ 6 ∷ 7 ∷ 20 ∷ 9 ∷ 10 ∷ 11 ∷ 19 ∷ 8 ∷ 15 ∷ [])) (sym (unwritten_first s b c (is_writable line body) _))
-      (both s b c (17 ∷ []) (4 ∷ 5 ∷ 6 ∷ 7 ∷ 20 ∷ 9 ∷ 10 ∷ 11 ∷ 19 ∷ 8 ∷ 15 ∷ []) _ _ (write-part s b c line body (λ h. h, λ h. h)) (λ y. commands))))
-  number-given (receive_two text out) =
+      (both s b c (17 ∷ []) (4 ∷ 5 ∷ 6 ∷ 7 ∷ 20 ∷ 9 ∷ 10 ∷ 11 ∷ 19 ∷ 8 ∷ 15 ∷ []) _ _ (write_part s b c line body (λ h. h, λ h. h)) (λ y. commands))))
+  number_given (receive_two text out) =
       let c = receive_two text out in
       let commands : FirstOf (Condition s b c) (4 ∷ 5 ∷ 6 ∷ 7 ∷ 20 ∷ 9 ∷ 10 ∷ 11 ∷ 8 ∷ 15 ∷ []) (first_of (decided_two s b false (line_in text) (body_in text)) (shortness (at_once_text s b (line_in text) (body_in text)) out)) =
-      both s b c (4 ∷ 5 ∷ 6 ∷ 7 ∷ 20 ∷ 9 ∷ 10 ∷ 11 ∷ 8 ∷ []) (15 ∷ []) _ _ (received-two s b c reached (line_in text) (body_in text) refl)
-      (λ z. output-part s b c (at_once_text s b (line_in text) (body_in text)) out (let i = at-once-over s (line_in text) (body_in text) out in (i.1, i.0))) in
-      subst (FirstOf (Condition s b c) (order_of c)) (sym (given-receive-two s b text out))
+      both s b c (4 ∷ 5 ∷ 6 ∷ 7 ∷ 20 ∷ 9 ∷ 10 ∷ 11 ∷ 8 ∷ []) (15 ∷ []) _ _ (received_two s b c reached (line_in text) (body_in text) refl)
+      (λ z. output_part s b c (at_once_text s b (line_in text) (body_in text)) out (let i = at_once_over s (line_in text) (body_in text) out in (i.1, i.0))) in
+      subst (FirstOf (Condition s b c) (order_of c)) (sym (given_receive_two s b text out))
       (both s b c (13 ∷ 14 ∷ []) (1 ∷ 2 ∷ 3 ∷ 4 ∷ 5 ∷ 6 ∷ 7 ∷ 20 ∷ 9 ∷ 10 ∷ 11 ∷ 8 ∷ 15 ∷ []) _ _ (turned_two s b c (λ h. h, λ h. h) s.phase refl)
       (λ z. subst (FirstOf (Condition s b c) (1 ∷ 2 ∷ 3 ∷ 4 ∷ 5 ∷ 6 ∷ 7 ∷ 20 ∷ 9 ∷ 10 ∷ 11 ∷ 8 ∷ 15 ∷ [])) (sym (read_first_lem text _))
-      (both s b c (1 ∷ 2 ∷ 3 ∷ []) (4 ∷ 5 ∷ 6 ∷ 7 ∷ 20 ∷ 9 ∷ 10 ∷ 11 ∷ 8 ∷ 15 ∷ []) _ _ (read-part s b c text (λ n. (λ h. h, λ h. h))) (λ y. commands))))
-  number-given (reply r body out) =
+      (both s b c (1 ∷ 2 ∷ 3 ∷ []) (4 ∷ 5 ∷ 6 ∷ 7 ∷ 20 ∷ 9 ∷ 10 ∷ 11 ∷ 8 ∷ 15 ∷ []) _ _ (read_part s b c text (λ n. (λ h. h, λ h. h))) (λ y. commands))))
+  number_given (reply r body out) =
       let c = reply r body out in
-      subst (FirstOf (Condition s b c) (order_of c)) (sym (given-reply s b r body out)) (answer-part s b c (λ h. h, λ h. h) (12 ∷ 17 ∷ 15 ∷ []) _ (reply-part s b r body out))
-  number-given (send_two word arguments body out) =
+      subst (FirstOf (Condition s b c) (order_of c)) (sym (given_reply s b r body out)) (answer_part s b c (λ h. h, λ h. h) (12 ∷ 17 ∷ 15 ∷ []) _ (reply_part s b r body out))
+  number_given (send_two word arguments body out) =
       let c = send_two word arguments body out in
       let line = line_sent word arguments in
       let text = stanza_text line body in
-      subst (FirstOf (Condition s b c) (order_of c)) (sym (given-send-two s b word arguments body out))
+      subst (FirstOf (Condition s b c) (order_of c)) (sym (given_send_two s b word arguments body out))
       (both s b c (13 ∷ 14 ∷ []) (17 ∷ 4 ∷ 5 ∷ 6 ∷ 7 ∷ 20 ∷ 9 ∷ 10 ∷ 11 ∷ 19 ∷ 8 ∷ 15 ∷ []) _ _ (turned_two s b c (λ h. h, λ h. h) s.phase refl)
       (λ z. both s b c (17 ∷ 4 ∷ 5 ∷ 6 ∷ 7 ∷ 20 ∷ 9 ∷ 10 ∷ 11 ∷ 19 ∷ 8 ∷ []) (15 ∷ []) _ _
       (subst (FirstOf (Condition s b c) (17 ∷ 4 ∷ 5 ∷ 6 ∷ 7 ∷ 20 ∷ 9 ∷ 10 ∷ 11 ∷ 19 ∷ 8 ∷ [])) (sym (unwritten_first s b c (is_writable line body) _))
-      (both s b c (17 ∷ []) (4 ∷ 5 ∷ 6 ∷ 7 ∷ 20 ∷ 9 ∷ 10 ∷ 11 ∷ 19 ∷ 8 ∷ []) _ _ (write-part s b c line body (λ h. h, λ h. h)) (λ y. sent-two s b c reached line body refl (held-from s b reached line body (command_two s.machine line body) (said-two s.machine line body)) (held_to s b reached line body))))
-      (λ y. output-part s b c text out (λ h. h, λ h. h))))
-  number-given (respond text out) =
+      (both s b c (17 ∷ []) (4 ∷ 5 ∷ 6 ∷ 7 ∷ 20 ∷ 9 ∷ 10 ∷ 11 ∷ 19 ∷ 8 ∷ []) _ _ (write_part s b c line body (λ h. h, λ h. h)) (λ y. sent_two s b c reached line body refl (held_from s b reached line body (command_two s.machine line body) (said_two s.machine line body)) (held_to s b reached line body))))
+      (λ y. output_part s b c text out (λ h. h, λ h. h))))
+  number_given (respond text out) =
       let c = respond text out in
-      subst (FirstOf (Condition s b c) (order_of c)) (sym (given-respond s b text out))
-      (answer-part s b c (λ h. h, λ h. h) (1 ∷ 2 ∷ 3 ∷ 12 ∷ 15 ∷ []) _
+      subst (FirstOf (Condition s b c) (order_of c)) (sym (given_respond s b text out))
+      (answer_part s b c (λ h. h, λ h. h) (1 ∷ 2 ∷ 3 ∷ 12 ∷ 15 ∷ []) _
       (λ w e. subst (FirstOf (Condition s b c) (1 ∷ 2 ∷ 3 ∷ 12 ∷ 15 ∷ [])) (sym (read_first_lem text _))
-      (both s b c (1 ∷ 2 ∷ 3 ∷ []) (12 ∷ 15 ∷ []) _ _ (read-part s b c text (λ n. (λ h. h, λ h. h)))
-      (λ z. both s b c (12 ∷ []) (15 ∷ []) _ _ (respond-part s b text out w e) (λ y. output-part s b c (body_in text) out (λ h. h, λ h. h))))))
+      (both s b c (1 ∷ 2 ∷ 3 ∷ []) (12 ∷ 15 ∷ []) _ _ (read_part s b c text (λ n. (λ h. h, λ h. h)))
+      (λ z. both s b c (12 ∷ []) (15 ∷ []) _ _ (respond_part s b text out w e) (λ y. output_part s b c (body_in text) out (λ h. h, λ h. h))))))
 
 -- so of any session that calls have made of an opening, each lent its own buffers
 pub number_after : (machine name : List ℕ) (screen : Bool) (cs : List CallWith) (b : Buffers) (c : Call) →
     let s = after_each (opened machine name screen).session cs in FirstOf (Condition s b c) (order_of c) (outcome s b c).number
 number_after machine name screen cs b c =
-    number-given (after_each (opened machine name screen).session cs) b (each_reached (opened machine name screen).session cs (opening_reached machine name screen)) c
+    number_given (after_each (opened machine name screen).session cs) b (each_reached (opened machine name screen).session cs (opening_reached machine name screen)) c

@@ -4,7 +4,7 @@ use mathlib.Core.Path.{◌≡◌, refl, sym, ap, ap₂, ◌∙◌, subst}
 use mathlib.Core.Bool.{Bool, true, false, true≢false}
 use mathlib.Core.Logic.{◌↔◌}
 use mathlib.Core.List.Permᴰ
-use mathlib.Core.List.{List, [], ◌∷◌, ◌++◌, map, map_append, append_assoc}
+use mathlib.Core.List.{List, [], ◌∷◌, ◌++◌, map, map-append, append_assoc}
 use lib.ListN.{length}
 use Rattle.refusal.specs.Pick.{pick}
 use Rattle.tables.specs.Tables.{view}
@@ -19,10 +19,10 @@ use Rattle.conversation.specs.PhaseTwo as two
 use Rattle.conversation.specs.Calls.{receive, outcome, written, State, state_of, after, Accepted}
 use Rattle.conversation.specs.Phases.{Part, All, keep, line_in, body_in, word_of, is_named, command_of, rows_from, is_of, one_part, Block, Phase, blocks_of, Quiet, IsPhase, Supply, skip, reply_calls, calls_of, written_in, responses_to, Starts, SameLengths, SameStart, is_kept, of_kind, is_in, Rearranged, SameOutcome, texts_of}
 use Rattle.conversation.specs.Allowed.{is_right, rows_in, slots_of, bytes_of, Rising, Distinct, Allowed}
-use Rattle.conversation.proofs.Laws.Lists.{all_append, all-permuted, all_kept, all_map, keep-map}
-use Rattle.conversation.proofs.Laws.Limits.{grown-rows}
+use Rattle.conversation.proofs.Laws.Lists.{all_append, all_permuted, all_kept, all_map, keep_map}
+use Rattle.conversation.proofs.Laws.Limits.{grown_rows}
 use Rattle.conversation.proofs.Laws.Steps.{grown, payload}
-use Rattle.conversation.proofs.Laws.AllowedOne.{Holds, accepted-iff, accepted-tables}
+use Rattle.conversation.proofs.Laws.AllowedOne.{Holds, accepted_iff, accepted_tables}
 
 -- ---- the rows of texts
 
@@ -33,22 +33,22 @@ module _ (machine : Machine) (name : List ℕ) (k : KindOne) where
   rows_append (x ∷ xs) ys = ap (λ r. rows_from machine name k x ++ r) (rows_append xs ys) ∙ sym (append_assoc (rows_from machine name k x) (rows_in machine name k xs) (rows_in machine name k ys))
 
   -- a text makes one row if it is of the kind, else none
-  one-rows : (x : List ℕ) (f : Bool) → rows_in machine name k (pick f (x ∷ []) []) ≡ pick f (rows_from machine name k x ++ []) []
+  one_rows : (x : List ℕ) (f : Bool) → rows_in machine name k (pick f (x ∷ []) []) ≡ pick f (rows_from machine name k x ++ []) []
   unfolding rows_in
-  one-rows x true = refl
-  one-rows x false = refl
+  one_rows x true = refl
+  one_rows x false = refl
 
-  rows-kept : (xs : List (List ℕ)) → rows_in machine name k xs ≡ rows_in machine name k (keep (is_of machine name k) xs)
+  rows_kept : (xs : List (List ℕ)) → rows_in machine name k xs ≡ rows_in machine name k (keep (is_of machine name k) xs)
   unfolding rows_in keep
-  rows-kept [] = refl
-  rows-kept (x ∷ xs) =
+  rows_kept [] = refl
+  rows_kept (x ∷ xs) =
       let f = is_of machine name k x in
-      let o = grown-rows (grown opened_tables (buffers_of [] [] [] []) (command_of machine name x) (payload machine name x) k) in
-      ap₂ (λ r q. r ++ q) (o ∙ sym (one-rows x f)) (rows-kept xs) ∙ sym (rows_append (pick f (x ∷ []) []) (keep (is_of machine name k) xs))
+      let o = grown_rows (grown opened_tables (buffers_of [] [] [] []) (command_of machine name x) (payload machine name x) k) in
+      ap₂ (λ r q. r ++ q) (o ∙ sym (one_rows x f)) (rows_kept xs) ∙ sym (rows_append (pick f (x ∷ []) []) (keep (is_of machine name k) xs))
 
   -- the rows of blocks are those of the kind's own
-  strand-rows : (xs : List Block) → rows_in machine name k (map (λ x. x.text) xs) ≡ rows_in machine name k (map (λ x. x.text) (keep (is_in one_part machine name (of_kind k)) xs))
-  strand-rows xs = rows-kept (map (λ x. x.text) xs) ∙ ap (rows_in machine name k) (keep-map (λ x. x.text) (is_of machine name k) xs)
+  strand_rows : (xs : List Block) → rows_in machine name k (map (λ x. x.text) xs) ≡ rows_in machine name k (map (λ x. x.text) (keep (is_in one_part machine name (of_kind k)) xs))
+  strand_rows xs = rows_kept (map (λ x. x.text) xs) ∙ ap (rows_in machine name k) (keep_map (λ x. x.text) (is_of machine name k) xs)
 
 -- ---- a command that is not known is right: it is ignored
 
@@ -75,27 +75,27 @@ module _ (machine : Machine) (name : List ℕ) where
     same_rows : (k : KindOne) → rows_in machine name k (texts_of p) ≡ rows_in machine name k (texts_of q)
     same_rows k =
         let text : Block → List ℕ = λ x. x.text in
-        ap (rows_in machine name k) (map_append text p.ahead (p.last ∷ [])) ∙ rows_append machine name k (map text p.ahead) (p.last.text ∷ [])
+        ap (rows_in machine name k) (map-append text p.ahead (p.last ∷ [])) ∙ rows_append machine name k (map text p.ahead) (p.last.text ∷ [])
         ∙ ap₂ (λ xs y. xs ++ rows_in machine name k (y.text ∷ []))
-        (strand-rows machine name k p.ahead ∙ ap (λ xs. rows_in machine name k (map text xs)) (r.same_order (of_kind k)) ∙ sym (strand-rows machine name k q.ahead)) r.same_last
-        ∙ sym (rows_append machine name k (map text q.ahead) (q.last.text ∷ [])) ∙ ap (rows_in machine name k) (sym (map_append text q.ahead (q.last ∷ [])))
+        (strand_rows machine name k p.ahead ∙ ap (λ xs. rows_in machine name k (map text xs)) (r.same_order (of_kind k)) ∙ sym (strand_rows machine name k q.ahead)) r.same_last
+        ∙ sym (rows_append machine name k (map text q.ahead) (q.last.text ∷ [])) ∙ ap (rows_in machine name k) (sym (map-append text q.ahead (q.last ∷ [])))
 
-    same-right : All (RightIn machine name) (blocks_of p) → All (RightIn machine name) (blocks_of q)
-    same-right h =
+    same_right : All (RightIn machine name) (blocks_of p) → All (RightIn machine name) (blocks_of q)
+    same_right h =
         let P : Block → Type 0 = RightIn machine name in
         let a = (all_append P p.ahead (p.last ∷ [])).0 h in
         let known : (xs : List Block) → All P xs ↔ All P (keep (is_kept one_part machine) xs) = λ xs. all_kept P (is_kept one_part machine) (unknown_right machine name) xs in
         (all_append P q.ahead (q.last ∷ [])).1 (
-          (known q.ahead).1 (all-permuted P r.permuted ((known p.ahead).0 a.0)),
+          (known q.ahead).1 (all_permuted P r.permuted ((known p.ahead).0 a.0)),
           subst (λ y. All P (y ∷ [])) r.same_last a.1,
         )
 
     -- with buffers of equal lengths the one is allowed where the other is
-    same-allowed : (b c : BuffersOne) → ((k : KindOne) → length (buffer_of k b) ≡ length (buffer_of k c)) → Allowed machine name b (texts_of p) → Allowed machine name c (texts_of q)
-    same-allowed b c l a =
+    same_allowed : (b c : BuffersOne) → ((k : KindOne) → length (buffer_of k b) ≡ length (buffer_of k c)) → Allowed machine name b (texts_of p) → Allowed machine name c (texts_of q)
+    same_allowed b c l a =
         let P : List ℕ → Type 0 = λ t. is_right (command_of machine name t) ≡ true in
         record {
-          right = (all_map (λ x. x.text) P (blocks_of q)).1 (same-right ((all_map (λ x. x.text) P (blocks_of p)).0 a.right));
+          right = (all_map (λ x. x.text) P (blocks_of q)).1 (same_right ((all_map (λ x. x.text) P (blocks_of p)).0 a.right));
           slots = λ k. subst (λ rs. length rs ≤ slots_of k) (same_rows k) (a.slots k);
           bytes = λ k. subst (λ n. bytes_of (rows_in machine name k (texts_of q)) ≤ n) (l k) (subst (λ rs. bytes_of rs ≤ length (buffer_of k b)) (same_rows k) (a.bytes k));
           rising = subst Rising (same_rows headers) a.rising;
@@ -133,7 +133,7 @@ module _ (machine : Machine) (name : List ℕ) where
   same_accepted : (b c : Buffers) → SameLengths one_part b c → (p q : Phase) → IsPhase one_part p → IsPhase one_part q → Rearranged one_part machine name p q → (outs outs' : Supply) →
       Accepted start b (calls_of one_part outs (blocks_of p)) → Accepted start c (calls_of one_part outs' (blocks_of q))
   same_accepted b c l p q hp hq r outs outs' a =
-      (accepted-iff machine name false c outs' q hq).1 (same-allowed machine name p q r b.first c.first l ((accepted-iff machine name false b outs p hp).0 a))
+      (accepted_iff machine name false c outs' q hq).1 (same_allowed machine name p q r b.first c.first l ((accepted_iff machine name false b outs p hp).0 a))
 
   same_outcome : (b c : Buffers) → SameLengths one_part b c → (p q : Phase) → IsPhase one_part p → IsPhase one_part q → Rearranged one_part machine name p q → (outs outs' : Supply) →
       SameOutcome one_part (state_of start b) (state_of start c) p q outs outs'
@@ -142,8 +142,8 @@ module _ (machine : Machine) (name : List ℕ) where
       record {
         accepted = (forth, same_accepted c b (λ k. sym (l k)) q p hq hp (turned machine name one_part p q r) outs' outs);
         tables = λ a.
-            let x = accepted-tables machine name false b outs p hp a in
-            let y = accepted-tables machine name false c outs' q hq (forth a) in
+            let x = accepted_tables machine name false b outs p hp a in
+            let y = accepted_tables machine name false c outs' q hq (forth a) in
             let end = after start b (calls_of one_part outs (blocks_of p)) in
             let end' = after start c (calls_of one_part outs' (blocks_of q)) in
             let late : (k : two.KindTwo) → view_of (second k) end.session.tables end.buffers ≡ view_of (second k) end'.session.tables end'.buffers =

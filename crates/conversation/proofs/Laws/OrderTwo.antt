@@ -26,10 +26,10 @@ use Rattle.conversation.specs.PhaseTwo.{KindTwo, errors, stanzas, returned, tabl
 use Rattle.conversation.specs.Phases.{All, keep, command_in, payload_in, is_named_two, is_error, is_stanza_for, two_part, Block, Phase, blocks_of, IsPhase, Supply, calls_of, written_in, responses_to, LongEnough, SameStart, is_kept, of_errors, of_one_file, Rearranged, SameTables, SameOutcome}
 use Rattle.session.specs.Session.{Session, moved}
 use Rattle.conversation.specs.Allowed.{Left, is_right_two, Present, is_key_for, Said, Sum, keys_for, stanzas_for_file, errors_for, entries, bytes, weight, total, slots_two, Limits, said_by, Answered, RightBlock, AllowedTwo, left_of, capacity_of}
-use Rattle.conversation.proofs.Laws.AllowedTwo.{limits_same, Standing, Fitting, accepted-from}
+use Rattle.conversation.proofs.Laws.AllowedTwo.{limits_same, Standing, Fitting, accepted_from}
 use Rattle.conversation.proofs.Laws.DecidedTwo.{labels_view, of_file_append}
-use Rattle.conversation.proofs.Laws.LeftTwo.{rows_by, rows_in, Grown, left-from}
-use Rattle.conversation.proofs.Laws.Lists.{all_append, all-permuted, all_kept, sum_of, sum-append, sum-permuted, sum_kept, length-keep, keep-permuted-once, keep-kept}
+use Rattle.conversation.proofs.Laws.LeftTwo.{rows_by, rows_in, Grown, left_from}
+use Rattle.conversation.proofs.Laws.Lists.{all_append, all_permuted, all_kept, sum_of, sum_append, sum_permuted, sum_kept, length_keep, keep_permuted_once, keep_kept}
 use Rattle.conversation.proofs.Laws.OrderOne.{turned}
 use Rattle.conversation.proofs.Laws.PresentTwo.{Shows, most_is}
 use Rattle.conversation.proofs.Laws.Reached.{LaterOpened, ReachedSession, JustReached}
@@ -96,23 +96,23 @@ fitting_all s b j cs =
     )
 
 module _ (s : Session) (b : Buffers) (j : JustReached s) (p : Phase) (h : IsPhase two_part p) (outs : Supply) (l : LongEnough s b (calls_of two_part outs (blocks_of p))) where
-  enough-two : LongEnough (at s Two s.tables) b (calls_of two_part outs (blocks_of p))
-  enough-two = subst (λ s. LongEnough s b (calls_of two_part outs (blocks_of p))) (sym (two_session s j)) l
+  enough_two : LongEnough (at s Two s.tables) b (calls_of two_part outs (blocks_of p))
+  enough_two = subst (λ s. LongEnough s b (calls_of two_part outs (blocks_of p))) (sym (two_session s j)) l
 
   -- exactly the allowed phases are accepted
-  pub accepted-two-iff : Accepted s b (calls_of two_part outs (blocks_of p)) ↔ AllowedTwo s.machine s.screen (left_of (state_of s b)) (capacity_of b) (blocks_of p)
-  accepted-two-iff =
-      let i = accepted-from s (left_of (state_of s b)) p.ahead p.last s.tables b outs (begins s b j) h.whole h.done_once h.done_last enough-two in
+  pub accepted_two_iff : Accepted s b (calls_of two_part outs (blocks_of p)) ↔ AllowedTwo s.machine s.screen (left_of (state_of s b)) (capacity_of b) (blocks_of p)
+  accepted_two_iff =
+      let i = accepted_from s (left_of (state_of s b)) p.ahead p.last s.tables b outs (begins s b j) h.whole h.done_once h.done_last enough_two in
       let f = fitting_all s b j (map (said_by s.machine) (blocks_of p)) in (
         λ a. let r = i.0 (subst (λ s. Accepted s b (calls_of two_part outs (blocks_of p))) (sym (two_session s j)) a) in record { right = r.0; limits = f.0 r.1 },
         λ a. subst (λ s. Accepted s b (calls_of two_part outs (blocks_of p))) (two_session s j) (i.1 (a.right, f.1 a.limits)),
       )
 
   -- what an accepted one leaves and writes
-  pub accepted-two-left : Accepted s b (calls_of two_part outs (blocks_of p)) →
+  pub accepted_two_left : Accepted s b (calls_of two_part outs (blocks_of p)) →
       Grown s.tables b (λ k. rows_in s.machine k (blocks_of p)) (after s b (calls_of two_part outs (blocks_of p))) × (written_in two_part s b outs (blocks_of p) ≡ map (responses_to two_part s.machine s.screen) (blocks_of p))
-  accepted-two-left a =
-      let d = left-from s (left_of (state_of s b)) p.ahead p.last s.tables b outs (begins s b j) h.whole h.done_once h.done_last enough-two (subst (λ s. Accepted s b (calls_of two_part outs (blocks_of p))) (sym (two_session s j)) a) in (
+  accepted_two_left a =
+      let d = left_from s (left_of (state_of s b)) p.ahead p.last s.tables b outs (begins s b j) h.whole h.done_once h.done_last enough_two (subst (λ s. Accepted s b (calls_of two_part outs (blocks_of p))) (sym (two_session s j)) a) in (
         subst (λ s'. Grown s.tables b (λ k. rows_in s.machine k (blocks_of p)) (after s' b (calls_of two_part outs (blocks_of p)))) (two_session s j) d.grown,
         ap (λ s'. written_in two_part s' b outs (blocks_of p)) (sym (two_session s j)) ∙ d.texts,
       )
@@ -138,8 +138,8 @@ no_replies (r ∷ rs) e = absurd (omega (arith, eqb-true (length (r ∷ rs)) 0 (
 
 module _ (machine : Machine) (screen : Bool) (left : Left) where
   -- it is right by itself
-  spare-right : (x : Block) → is_kept two_part machine x ≡ false → RightBlock machine screen left x
-  spare-right x e =
+  spare_right : (x : Block) → is_kept two_part machine x ≡ false → RightBlock machine screen left x
+  spare_right x e =
       let u = or_false (is_named_two (command_in machine x.text)) (not (eqb (length x.replies) 0)) e in
       let n = no_replies x.replies u.1 in
       record {
@@ -177,18 +177,18 @@ module _ (machine : Machine) (name : List ℕ) (p q : Phase) (r : Rearranged two
   same_total m =
       let w : Block → ℕ = λ x. weight m (said_by machine x) in
       let ahead : (xs : List Block) → sum_of w xs ≡ sum_of w (keep (is_kept two_part machine) xs) = sum_kept w (is_kept two_part machine) (spare_weight machine m) in
-      total_sum machine m (blocks_of q) ∙ sum-append w q.ahead (q.last ∷ [])
-      ∙ ap₂ (λ n y. n + sum_of w (y ∷ [])) (ahead q.ahead ∙ sym (sum-permuted w r.permuted) ∙ sym (ahead p.ahead)) (sym r.same_last)
-      ∙ sym (sum-append w p.ahead (p.last ∷ [])) ∙ sym (total_sum machine m (blocks_of p))
+      total_sum machine m (blocks_of q) ∙ sum_append w q.ahead (q.last ∷ [])
+      ∙ ap₂ (λ n y. n + sum_of w (y ∷ [])) (ahead q.ahead ∙ sym (sum_permuted w r.permuted) ∙ sym (ahead p.ahead)) (sym r.same_last)
+      ∙ sym (sum_append w p.ahead (p.last ∷ [])) ∙ sym (total_sum machine m (blocks_of p))
 
   -- with equal settings and lengths the one is allowed where the other is
-  same-allowed : (screen : Bool) (left : Left) (c d : KindTwo → ℕ) → ((k : KindTwo) → c k ≡ d k) → AllowedTwo machine screen left c (blocks_of p) → AllowedTwo machine screen left d (blocks_of q)
-  same-allowed screen left c d e a =
+  same_allowed : (screen : Bool) (left : Left) (c d : KindTwo → ℕ) → ((k : KindTwo) → c k ≡ d k) → AllowedTwo machine screen left c (blocks_of p) → AllowedTwo machine screen left d (blocks_of q)
+  same_allowed screen left c d e a =
       let P : Block → Type 0 = RightBlock machine screen left in
-      let known : (xs : List Block) → All P xs ↔ All P (keep (is_kept two_part machine) xs) = λ xs. all_kept P (is_kept two_part machine) (spare-right machine screen left) xs in
+      let known : (xs : List Block) → All P xs ↔ All P (keep (is_kept two_part machine) xs) = λ xs. all_kept P (is_kept two_part machine) (spare_right machine screen left) xs in
       let parts = (all_append P p.ahead (p.last ∷ [])).0 a.right in
       record {
-        right = (all_append P q.ahead (q.last ∷ [])).1 ((known q.ahead).1 (all-permuted P r.permuted ((known p.ahead).0 parts.0)), subst (λ y. All P (y ∷ [])) r.same_last parts.1);
+        right = (all_append P q.ahead (q.last ∷ [])).1 ((known q.ahead).1 (all_permuted P r.permuted ((known p.ahead).0 parts.0)), subst (λ y. All P (y ∷ [])) r.same_last parts.1);
         limits = limits_same _ _ c d (λ m. total m (map (said_by machine) (blocks_of p))) (λ m. total m (map (said_by machine) (blocks_of q))) refl e same_total a.limits;
       }
 
@@ -202,11 +202,11 @@ module _ (machine : Machine) (k : KindTwo) where
 
   -- of the rows that a choice leaves: they are those of the blocks that a test keeps
   module _ (choice : List Row → List Row) (none : choice [] ≡ []) (parts : (a b : List Row) → choice (a ++ b) ≡ choice a ++ choice b) (test : Block → Bool) (one : (x : Block) → choice (rows_by machine k x) ≡ pick (test x) (rows_by machine k x) []) where
-    rows-chosen : (xs : List Block) → choice (rows_in machine k xs) ≡ rows_in machine k (keep test xs)
+    rows_chosen : (xs : List Block) → choice (rows_in machine k xs) ≡ rows_in machine k (keep test xs)
     unfolding rows_in keep
-    rows-chosen [] = none
-    rows-chosen (x ∷ xs) =
-        parts (rows_by machine k x) (rows_in machine k xs) ∙ ap₂ (λ a b. a ++ b) (one x) (rows-chosen xs) ∙ go (test x)
+    rows_chosen [] = none
+    rows_chosen (x ∷ xs) =
+        parts (rows_by machine k x) (rows_in machine k xs) ∙ ap₂ (λ a b. a ++ b) (one x) (rows_chosen xs) ∙ go (test x)
       where
         go : (f : Bool) → pick f (rows_by machine k x) [] ++ rows_in machine k (keep test xs) ≡ rows_in machine k (pick f (x ∷ []) [] ++ keep test xs)
         go true = refl
@@ -216,7 +216,7 @@ module _ (machine : Machine) (k : KindTwo) where
     same_chosen : (p q : Phase) → p.last ≡ q.last → keep test p.ahead ≡ keep test q.ahead → choice (rows_in machine k (blocks_of p)) ≡ choice (rows_in machine k (blocks_of q))
     same_chosen p q l e =
         let front : (xs : List Block) (y : Block) → choice (rows_in machine k (xs ++ (y ∷ []))) ≡ rows_in machine k (keep test xs) ++ choice (rows_in machine k (y ∷ [])) =
-        λ xs y. ap choice (rows_append xs (y ∷ [])) ∙ parts (rows_in machine k xs) (rows_in machine k (y ∷ [])) ∙ ap (λ a. a ++ choice (rows_in machine k (y ∷ []))) (rows-chosen xs) in
+        λ xs y. ap choice (rows_append xs (y ∷ [])) ∙ parts (rows_in machine k xs) (rows_in machine k (y ∷ [])) ∙ ap (λ a. a ++ choice (rows_in machine k (y ∷ []))) (rows_chosen xs) in
         front p.ahead p.last ∙ ap₂ (λ xs y. rows_in machine k xs ++ choice (rows_in machine k (y ∷ []))) e l ∙ sym (front q.ahead q.last)
 
 -- an error makes a row among the errors, and nothing else does
@@ -252,27 +252,27 @@ key_row f other p = refl
 key_row f (bad n) p = refl
 
 module _ (machine : Machine) (name : List ℕ) (p q : Phase) (r : Rearranged two_part machine name p q) where
-  same-errors : rows_in machine errors (blocks_of p) ≡ rows_in machine errors (blocks_of q)
-  same-errors =
+  same_errors : rows_in machine errors (blocks_of p) ≡ rows_in machine errors (blocks_of q)
+  same_errors =
       same_chosen machine errors (λ l. l) refl (λ a b. refl) (λ x. is_error (command_in machine x.text)) (λ x. error_row (command_in machine x.text) (payload_in machine x.text)) p q r.same_last (r.same_order of_errors)
 
-  file-none : (f : ℕ) → of_file f [] ≡ []
+  file_none : (f : ℕ) → of_file f [] ≡ []
   unfolding of_file
-  file-none f = refl
+  file_none f = refl
 
-  same-stanzas : (f : ℕ) → of_file f (rows_in machine stanzas (blocks_of p)) ≡ of_file f (rows_in machine stanzas (blocks_of q))
-  same-stanzas f =
-      same_chosen machine stanzas (of_file f) (file-none f) (of_file_append f) (λ x. is_stanza_for f (command_in machine x.text)) (λ x. stanza_row f (command_in machine x.text) (payload_in machine x.text)) p q r.same_last (r.same_order (of_one_file f))
+  same_stanzas : (f : ℕ) → of_file f (rows_in machine stanzas (blocks_of p)) ≡ of_file f (rows_in machine stanzas (blocks_of q))
+  same_stanzas f =
+      same_chosen machine stanzas (of_file f) (file_none f) (of_file_append f) (λ x. is_stanza_for f (command_in machine x.text)) (λ x. stanza_row f (command_in machine x.text) (payload_in machine x.text)) p q r.same_last (r.same_order (of_one_file f))
 
   -- at most one key a file: so its order does not matter
   same_keys : (f : ℕ) → total (keys_for f) (map (said_by machine) (blocks_of p)) ≤ 1 → of_file f (rows_in machine returned (blocks_of p)) ≡ of_file f (rows_in machine returned (blocks_of q))
   same_keys f h =
       let test : Block → Bool = λ x. is_key_for f (command_in machine x.text) in
       let w : Block → ℕ = λ x. weight (keys_for f) (said_by machine x) in
-      let kept : (xs : List Block) → keep test (keep (is_kept two_part machine) xs) ≡ keep test xs = keep-kept (is_kept two_part machine) test (known_kept machine (is_key_for f) refl) in
-      let few : length (keep test (keep (is_kept two_part machine) p.ahead)) ≤ 1 = omega (arith, ap length (kept p.ahead), length-keep test p.ahead, sum-append w p.ahead (p.last ∷ []), total_sum machine (keys_for f) (blocks_of p)) in
-      same_chosen machine returned (of_file f) (file-none f) (of_file_append f) test (λ x. key_row f (command_in machine x.text) (payload_in machine x.text)) p q r.same_last
-      (sym (kept p.ahead) ∙ keep-permuted-once test r.permuted few ∙ kept q.ahead)
+      let kept : (xs : List Block) → keep test (keep (is_kept two_part machine) xs) ≡ keep test xs = keep_kept (is_kept two_part machine) test (known_kept machine (is_key_for f) refl) in
+      let few : length (keep test (keep (is_kept two_part machine) p.ahead)) ≤ 1 = omega (arith, ap length (kept p.ahead), length_keep test p.ahead, sum_append w p.ahead (p.last ∷ []), total_sum machine (keys_for f) (blocks_of p)) in
+      same_chosen machine returned (of_file f) (file_none f) (of_file_append f) test (λ x. key_row f (command_in machine x.text) (payload_in machine x.text)) p q r.same_last
+      (sym (kept p.ahead) ∙ keep_permuted_once test r.permuted few ∙ kept q.ahead)
 
 -- ---- both
 
@@ -282,52 +282,52 @@ second_empty t b l k = ap (λ x. view x (buffer_of k b.second)) (second_opened t
 
 module _ (x y : State) (jx : JustReached x.session) (jy : JustReached y.session) (e : SameStart two_part x y) (p q : Phase) (hp : IsPhase two_part p) (hq : IsPhase two_part q) (r : Rearranged two_part x.session.machine x.session.name p q) (outs outs' : Supply)
     (lx : LongEnough x.session x.buffers (calls_of two_part outs (blocks_of p))) (ly : LongEnough y.session y.buffers (calls_of two_part outs' (blocks_of q))) where
-  allowed-x : Accepted x.session x.buffers (calls_of two_part outs (blocks_of p)) ↔ AllowedTwo x.session.machine x.session.screen (left_of x) (capacity_of x.buffers) (blocks_of p)
-  allowed-x = accepted-two-iff x.session x.buffers jx p hp outs lx
+  allowed_x : Accepted x.session x.buffers (calls_of two_part outs (blocks_of p)) ↔ AllowedTwo x.session.machine x.session.screen (left_of x) (capacity_of x.buffers) (blocks_of p)
+  allowed_x = accepted_two_iff x.session x.buffers jx p hp outs lx
 
-  allowed-y : Accepted y.session y.buffers (calls_of two_part outs' (blocks_of q)) ↔ AllowedTwo x.session.machine x.session.screen (left_of x) (capacity_of y.buffers) (blocks_of q)
-  allowed-y =
+  allowed_y : Accepted y.session y.buffers (calls_of two_part outs' (blocks_of q)) ↔ AllowedTwo x.session.machine x.session.screen (left_of x) (capacity_of y.buffers) (blocks_of q)
+  allowed_y =
       let left : left_of x ≡ left_of y = fun_ext e.views in
       let same : AllowedTwo x.session.machine x.session.screen (left_of x) (capacity_of y.buffers) (blocks_of q) ≡ AllowedTwo y.session.machine y.session.screen (left_of y) (capacity_of y.buffers) (blocks_of q) =
       ap (λ m. AllowedTwo m x.session.screen (left_of x) (capacity_of y.buffers) (blocks_of q)) e.machine
       ∙ ap (λ c. AllowedTwo y.session.machine c (left_of x) (capacity_of y.buffers) (blocks_of q)) e.screen
       ∙ ap (λ l. AllowedTwo y.session.machine y.session.screen l (capacity_of y.buffers) (blocks_of q)) left in
-      let i = accepted-two-iff y.session y.buffers jy q hq outs' ly in
+      let i = accepted_two_iff y.session y.buffers jy q hq outs' ly in
       (λ a. subst (λ T. T) (sym same) (i.0 a), λ a. i.1 (subst (λ T. T) same a))
 
   forth : Accepted x.session x.buffers (calls_of two_part outs (blocks_of p)) → Accepted y.session y.buffers (calls_of two_part outs' (blocks_of q))
-  forth a = allowed-y.1 (same-allowed x.session.machine x.session.name p q r x.session.screen (left_of x) (capacity_of x.buffers) (capacity_of y.buffers) e.lengths (allowed-x.0 a))
+  forth a = allowed_y.1 (same_allowed x.session.machine x.session.name p q r x.session.screen (left_of x) (capacity_of x.buffers) (capacity_of y.buffers) e.lengths (allowed_x.0 a))
 
   back : Accepted y.session y.buffers (calls_of two_part outs' (blocks_of q)) → Accepted x.session x.buffers (calls_of two_part outs (blocks_of p))
-  back a = allowed-x.1 (same-allowed x.session.machine x.session.name q p (turned x.session.machine x.session.name two_part p q r) x.session.screen (left_of x) (capacity_of y.buffers) (capacity_of x.buffers) (λ k. sym (e.lengths k)) (allowed-y.0 a))
+  back a = allowed_x.1 (same_allowed x.session.machine x.session.name q p (turned x.session.machine x.session.name two_part p q r) x.session.screen (left_of x) (capacity_of y.buffers) (capacity_of x.buffers) (λ k. sym (e.lengths k)) (allowed_y.0 a))
 
   module _ (a : Accepted x.session x.buffers (calls_of two_part outs (blocks_of p))) where
-    left-x : Grown x.session.tables x.buffers (λ k. rows_in x.session.machine k (blocks_of p)) (after x.session x.buffers (calls_of two_part outs (blocks_of p)))
-    left-x = (accepted-two-left x.session x.buffers jx p hp outs lx a).0
+    left_x : Grown x.session.tables x.buffers (λ k. rows_in x.session.machine k (blocks_of p)) (after x.session x.buffers (calls_of two_part outs (blocks_of p)))
+    left_x = (accepted_two_left x.session x.buffers jx p hp outs lx a).0
 
-    left-y : Grown y.session.tables y.buffers (λ k. rows_in x.session.machine k (blocks_of q)) (after y.session y.buffers (calls_of two_part outs' (blocks_of q)))
-    left-y = subst (λ m. Grown y.session.tables y.buffers (λ k. rows_in m k (blocks_of q)) (after y.session y.buffers (calls_of two_part outs' (blocks_of q)))) (sym e.machine) (accepted-two-left y.session y.buffers jy q hq outs' ly (forth a)).0
+    left_y : Grown y.session.tables y.buffers (λ k. rows_in x.session.machine k (blocks_of q)) (after y.session y.buffers (calls_of two_part outs' (blocks_of q)))
+    left_y = subst (λ m. Grown y.session.tables y.buffers (λ k. rows_in m k (blocks_of q)) (after y.session y.buffers (calls_of two_part outs' (blocks_of q)))) (sym e.machine) (accepted_two_left y.session y.buffers jy q hq outs' ly (forth a)).0
 
-    view-x : (k : KindTwo) → view_of k (after x.session x.buffers (calls_of two_part outs (blocks_of p))).session.tables (after x.session x.buffers (calls_of two_part outs (blocks_of p))).buffers.second ≡ rows_in x.session.machine k (blocks_of p)
-    view-x k = left-x.views k ∙ ap (λ v. v ++ rows_in x.session.machine k (blocks_of p)) (second_empty x.session.tables x.buffers jx.later_opened k)
+    view_x : (k : KindTwo) → view_of k (after x.session x.buffers (calls_of two_part outs (blocks_of p))).session.tables (after x.session x.buffers (calls_of two_part outs (blocks_of p))).buffers.second ≡ rows_in x.session.machine k (blocks_of p)
+    view_x k = left_x.views k ∙ ap (λ v. v ++ rows_in x.session.machine k (blocks_of p)) (second_empty x.session.tables x.buffers jx.later_opened k)
 
-    view-y : (k : KindTwo) → view_of k (after y.session y.buffers (calls_of two_part outs' (blocks_of q))).session.tables (after y.session y.buffers (calls_of two_part outs' (blocks_of q))).buffers.second ≡ rows_in x.session.machine k (blocks_of q)
-    view-y k = left-y.views k ∙ ap (λ v. v ++ rows_in x.session.machine k (blocks_of q)) (second_empty y.session.tables y.buffers jy.later_opened k)
+    view_y : (k : KindTwo) → view_of k (after y.session y.buffers (calls_of two_part outs' (blocks_of q))).session.tables (after y.session y.buffers (calls_of two_part outs' (blocks_of q))).buffers.second ≡ rows_in x.session.machine k (blocks_of q)
+    view_y k = left_y.views k ∙ ap (λ v. v ++ rows_in x.session.machine k (blocks_of q)) (second_empty y.session.tables y.buffers jy.later_opened k)
 
     same_tables : SameTables (after x.session x.buffers (calls_of two_part outs (blocks_of p))) (after y.session y.buffers (calls_of two_part outs' (blocks_of q)))
     same_tables = record {
-      views = λ k. ap₂ (λ t b. view t (one_kind.buffer_of k b)) (left-x.tables k) left-x.buffers ∙ e.views k ∙ sym (ap₂ (λ t b. view t (one_kind.buffer_of k b)) (left-y.tables k) left-y.buffers);
-      errors = view-x errors ∙ same-errors x.session.machine x.session.name p q r ∙ sym (view-y errors);
-      stanzas = λ f. ap (of_file f) (view-x stanzas) ∙ same-stanzas x.session.machine x.session.name p q r f ∙ sym (ap (of_file f) (view-y stanzas));
-      returned = λ f. ap (of_file f) (view-x returned) ∙ same_keys x.session.machine x.session.name p q r f ((allowed-x.0 a).limits.once f) ∙ sym (ap (of_file f) (view-y returned));
+      views = λ k. ap₂ (λ t b. view t (one_kind.buffer_of k b)) (left_x.tables k) left_x.buffers ∙ e.views k ∙ sym (ap₂ (λ t b. view t (one_kind.buffer_of k b)) (left_y.tables k) left_y.buffers);
+      errors = view_x errors ∙ same_errors x.session.machine x.session.name p q r ∙ sym (view_y errors);
+      stanzas = λ f. ap (of_file f) (view_x stanzas) ∙ same_stanzas x.session.machine x.session.name p q r f ∙ sym (ap (of_file f) (view_y stanzas));
+      returned = λ f. ap (of_file f) (view_x returned) ∙ same_keys x.session.machine x.session.name p q r f ((allowed_x.0 a).limits.once f) ∙ sym (ap (of_file f) (view_y returned));
     }
 
-    texts-y : written_in two_part y.session y.buffers outs' (blocks_of q) ≡ map (responses_to two_part x.session.machine x.session.screen) (blocks_of q)
-    texts-y = (accepted-two-left y.session y.buffers jy q hq outs' ly (forth a)).1 ∙ ap₂ (λ m c. map (responses_to two_part m c) (blocks_of q)) (sym e.machine) (sym e.screen)
+    texts_y : written_in two_part y.session y.buffers outs' (blocks_of q) ≡ map (responses_to two_part x.session.machine x.session.screen) (blocks_of q)
+    texts_y = (accepted_two_left y.session y.buffers jy q hq outs' ly (forth a)).1 ∙ ap₂ (λ m c. map (responses_to two_part m c) (blocks_of q)) (sym e.machine) (sym e.screen)
 
-  pub order-reached : SameOutcome two_part x y p q outs outs'
-  order-reached = record {
+  pub order_reached : SameOutcome two_part x y p q outs outs'
+  order_reached = record {
     accepted = (forth, back);
     tables = same_tables;
-    responses = λ a. ((accepted-two-left x.session x.buffers jx p hp outs lx a).1, texts-y a);
+    responses = λ a. ((accepted_two_left x.session x.buffers jx p hp outs lx a).1, texts_y a);
   }

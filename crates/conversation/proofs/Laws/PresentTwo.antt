@@ -19,31 +19,31 @@ use Rattle.conversation.specs.PhaseTwo.{Label, labels, how_many, is_any, passes,
 use Rattle.conversation.specs.Allowed.{Left, RowAt, Present}
 use Rattle.conversation.proofs.Laws.DecidedTwo.{row_label, row_labels, of_file_many}
 use Rattle.conversation.proofs.Laws.SumsTwo.{not_is}
-use Rattle.conversation.proofs.Laws.ViewsTwo.{two-leaves}
+use Rattle.conversation.proofs.Laws.ViewsTwo.{two_leaves}
 
 -- ---- a test of labels and a property of rows
 
 module _ (q : Label → Bool) (P : Row → Type 0) (same : (r : Row) → (q (row_label r) ≡ true) ↔ P r) where
-  pub at-iff : (rs : List Row) (i : ℕ) → (passes q (row_labels rs) i ≡ true) ↔ RowAt P rs i
+  pub at_iff : (rs : List Row) (i : ℕ) → (passes q (row_labels rs) i ≡ true) ↔ RowAt P rs i
   unfolding passes RowAt
-  at-iff [] i = (λ e. absurd (false≢true e), λ e. absurd e)
-  at-iff (r ∷ rs) zero = same r
-  at-iff (r ∷ rs) (suc i) = at-iff rs i
+  at_iff [] i = (λ e. absurd (false≢true e), λ e. absurd e)
+  at_iff (r ∷ rs) zero = same r
+  at_iff (r ∷ rs) (suc i) = at_iff rs i
 
-  any-to : (rs : List Row) → 0 < how_many q (row_labels rs) → (i : ℕ) × RowAt P rs i
+  any_to : (rs : List Row) → 0 < how_many q (row_labels rs) → (i : ℕ) × RowAt P rs i
   unfolding how_many RowAt
-  any-to [] h = absurd (omega arith)
-  any-to (r ∷ rs) h = cases (q (row_label r)) (λ e. (0, (same r).0 e)) (λ e. let h' = rw e at h in let j = any-to rs (omega arith) in (suc j.0, j.1))
+  any_to [] h = absurd (omega arith)
+  any_to (r ∷ rs) h = cases (q (row_label r)) (λ e. (0, (same r).0 e)) (λ e. let h' = rw e at h in let j = any_to rs (omega arith) in (suc j.0, j.1))
 
-  any-from : (rs : List Row) (i : ℕ) → RowAt P rs i → 0 < how_many q (row_labels rs)
+  any_from : (rs : List Row) (i : ℕ) → RowAt P rs i → 0 < how_many q (row_labels rs)
   unfolding how_many RowAt
-  any-from [] i h = absurd h
-  any-from (r ∷ rs) zero h = rw ((same r).1 h) (omega arith)
-  any-from (r ∷ rs) (suc i) h = omega (arith, any-from rs i h)
+  any_from [] i h = absurd h
+  any_from (r ∷ rs) zero h = rw ((same r).1 h) (omega arith)
+  any_from (r ∷ rs) (suc i) h = omega (arith, any_from rs i h)
 
   -- one of them passes
-  pub any-iff : (rs : List Row) → (is_any q (row_labels rs) ≡ true) ↔ ((i : ℕ) × RowAt P rs i)
-  any-iff rs = (λ e. any-to rs (ltb-true 0 (how_many q (row_labels rs)) e), λ j. lt-ltb 0 (how_many q (row_labels rs)) (any-from rs j.0 j.1))
+  pub any_iff : (rs : List Row) → (is_any q (row_labels rs) ≡ true) ↔ ((i : ℕ) × RowAt P rs i)
+  any_iff rs = (λ e. any_to rs (ltb-true 0 (how_many q (row_labels rs)) e), λ j. lt-ltb 0 (how_many q (row_labels rs)) (any_from rs j.0 j.1))
 
 -- ---- what phase one left
 
@@ -58,8 +58,8 @@ most_is t left s = ap₂ ◌+◌ (s.counts recipients) (s.counts identities)
 -- a command of phase two leaves them
 pub applied_shows : (t : Tables) (b : BuffersTwo) (c : CommandTwo) (p : List ℕ) (left : Left) → Shows t left → Shows (applied t b c p) left
 applied_shows t b c p left s = record {
-  counts = λ k. ap (λ x. x.count) (two-leaves t p b c k) ∙ s.counts k;
-  labelled = λ k. ap labels (two-leaves t p b c k) ∙ s.labelled k;
+  counts = λ k. ap (λ x. x.count) (two_leaves t p b c k) ∙ s.counts k;
+  labelled = λ k. ap labels (two_leaves t p b c k) ∙ s.labelled k;
 }
 
 -- ---- No. 6
@@ -77,7 +77,7 @@ not_iff f i = (λ h. i.0 (not-false f h), λ x. not_is f (i.1 x))
 pub present_iff : (t : Tables) (left : Left) → Shows t left → (c : CommandTwo) → (is_missing t c ≡ false) ↔ Present left c
 present_iff t left s (ask w) = (λ e. tt, λ e. refl)
 present_iff t left s (stanza f) = below_iff f t.keys.count (length (left keys)) (s.counts keys)
-present_iff t left s (key f) = not_iff (is_any (is_file f) (labels t.headers)) (subst (λ l. (is_any (is_file f) l ≡ true) ↔ ((i : ℕ) × RowAt (λ r. r.index ≡ f) (left headers) i)) (sym (s.labelled headers)) (any-iff (is_file f) (λ r. r.index ≡ f) (file_same f) (left headers)))
+present_iff t left s (key f) = not_iff (is_any (is_file f) (labels t.headers)) (subst (λ l. (is_any (is_file f) l ≡ true) ↔ ((i : ℕ) × RowAt (λ r. r.index ≡ f) (left headers) i)) (sym (s.labelled headers)) (any_iff (is_file f) (λ r. r.index ≡ f) (file_same f) (left headers)))
 present_iff t left s (error internal) = (λ e. tt, λ e. refl)
 present_iff t left s (error (identity i)) = below_iff i t.identities.count (length (left identities)) (s.counts identities)
 present_iff t left s (error (recipient i)) = below_iff i t.recipients.count (length (left recipients)) (s.counts recipients)

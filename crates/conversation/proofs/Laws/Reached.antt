@@ -25,7 +25,7 @@ use Rattle.phase_one.specs.Views.{recipients, identities, keys, headers}
 use Rattle.session.specs.declared.phases.Phase.{Phase}
 use Rattle.session.specs.declared.phases.Phase.TheVariants.{One, Two, Closed}
 use Rattle.session.specs.declared.opening.Machine.{Machine}
-use Rattle.phase_one.proofs.Laws.Views.{Reached, opened_reached, applied_reached, payload-stored}
+use Rattle.phase_one.proofs.Laws.Views.{Reached, opened_reached, applied_reached, payload_stored}
 use Rattle.session.specs.Session.{Session, moved, closed, opened_session, opened}
 use Rattle.conversation.specs.Kinds.{AnyKind, first, second, Buffers, table_of}
 use Rattle.conversation.specs.CommandsTwo as two_command
@@ -39,7 +39,7 @@ use Rattle.conversation.specs.Calls.{Call, receive, send, receive_two, reply, se
 use Rattle.conversation.specs.Phases.{CallWith, after_each, JustDone, JustReceived}
 use Rattle.conversation.proofs.Laws.Accepted.{Applied, AppliedTwo, command_at, payload_at, AcceptedBy, accepted}
 use Rattle.conversation.proofs.Laws.Refusals.{refusal}
-use Rattle.conversation.proofs.Laws.ViewsTwo.{ReachedTwo, opened_reached_two, applied_reached_two, payload-stored-two, one-leaves, two-leaves, KeptAs}
+use Rattle.conversation.proofs.Laws.ViewsTwo.{ReachedTwo, opened_reached_two, applied_reached_two, payload_stored_two, one_leaves, two_leaves, KeptAs}
 
 -- phase two's tables are as opened
 abbrev pub LaterOpened : Tables → Type 0
@@ -139,41 +139,41 @@ module _ (t : Tables) (b : one.BuffersOne) (p : List ℕ) where
   widths other k = refl
   widths (bad n) k = refl
 
-  applied-wide : (c : CommandOne) → Wide t → Wide (one.applied t b c p)
-  applied-wide c w (first k) = widths c k ∙ w (first k)
-  applied-wide c w (second k) = ap (λ x. x.width) (one-leaves t p b c k) ∙ w (second k)
+  applied_wide : (c : CommandOne) → Wide t → Wide (one.applied t b c p)
+  applied_wide c w (first k) = widths c k ∙ w (first k)
+  applied_wide c w (second k) = ap (λ x. x.width) (one_leaves t p b c k) ∙ w (second k)
 
-  applied-later-tables : (c : CommandOne) → ReachedTwo t → ReachedTwo (one.applied t b c p)
+  applied_later_tables : (c : CommandOne) → ReachedTwo t → ReachedTwo (one.applied t b c p)
   unfolding ReachedTwo
-  applied-later-tables c r k = subst (KeptAs k) (sym (one-leaves t p b c k)) (r k)
+  applied_later_tables c r k = subst (KeptAs k) (sym (one_leaves t p b c k)) (r k)
 
-  applied-later : (c : CommandOne) → LaterOpened t → LaterOpened (one.applied t b c p)
-  applied-later c l = (one-leaves t p b c errors ∙ l.0, one-leaves t p b c stanzas ∙ l.1, one-leaves t p b c returned ∙ l.2)
+  applied_later : (c : CommandOne) → LaterOpened t → LaterOpened (one.applied t b c p)
+  applied_later c l = (one_leaves t p b c errors ∙ l.0, one_leaves t p b c stanzas ∙ l.1, one_leaves t p b c returned ∙ l.2)
 
 -- .. of phase two
 module _ (t : Tables) (b : two.BuffersTwo) (p : List ℕ) where
-  widths-two : (c : CommandTwo) (k : two.KindTwo) → (two.table_of k (two.applied t b c p)).width ≡ (two.table_of k t).width
-  widths-two (two_command.ask w) k = refl
-  widths-two (two_command.stanza f) errors = refl
-  widths-two (two_command.stanza f) stanzas = entered_width t.stanzas (length p) f 0 (length b.stanzas)
-  widths-two (two_command.stanza f) returned = refl
-  widths-two (two_command.key f) errors = refl
-  widths-two (two_command.key f) stanzas = refl
-  widths-two (two_command.key f) returned = entered_width t.returned (length p) f 0 (length b.returned)
-  widths-two (two_command.error n) errors = entered_width t.errors (length p) (two.index_of n) (two.mark_of n) (length b.errors)
-  widths-two (two_command.error n) stanzas = refl
-  widths-two (two_command.error n) returned = refl
-  widths-two two_command.done k = refl
-  widths-two two_command.other k = refl
-  widths-two (two_command.bad n) k = refl
+  widths_two : (c : CommandTwo) (k : two.KindTwo) → (two.table_of k (two.applied t b c p)).width ≡ (two.table_of k t).width
+  widths_two (two_command.ask w) k = refl
+  widths_two (two_command.stanza f) errors = refl
+  widths_two (two_command.stanza f) stanzas = entered_width t.stanzas (length p) f 0 (length b.stanzas)
+  widths_two (two_command.stanza f) returned = refl
+  widths_two (two_command.key f) errors = refl
+  widths_two (two_command.key f) stanzas = refl
+  widths_two (two_command.key f) returned = entered_width t.returned (length p) f 0 (length b.returned)
+  widths_two (two_command.error n) errors = entered_width t.errors (length p) (two.index_of n) (two.mark_of n) (length b.errors)
+  widths_two (two_command.error n) stanzas = refl
+  widths_two (two_command.error n) returned = refl
+  widths_two two_command.done k = refl
+  widths_two two_command.other k = refl
+  widths_two (two_command.bad n) k = refl
 
-  applied-wide-two : (c : CommandTwo) → Wide t → Wide (two.applied t b c p)
-  applied-wide-two c w (first k) = ap (λ x. x.width) (two-leaves t p b c k) ∙ w (first k)
-  applied-wide-two c w (second k) = widths-two c k ∙ w (second k)
+  applied_wide_two : (c : CommandTwo) → Wide t → Wide (two.applied t b c p)
+  applied_wide_two c w (first k) = ap (λ x. x.width) (two_leaves t p b c k) ∙ w (first k)
+  applied_wide_two c w (second k) = widths_two c k ∙ w (second k)
 
-  applied-tables-two : (c : CommandTwo) → Reached t → Reached (two.applied t b c p)
+  applied_tables_two : (c : CommandTwo) → Reached t → Reached (two.applied t b c p)
   unfolding Reached
-  applied-tables-two c r k = subst Filled (sym (two-leaves t p b c k)) (r k)
+  applied_tables_two c r k = subst Filled (sym (two_leaves t p b c k)) (r k)
 
 -- ---- calls
 
@@ -199,63 +199,63 @@ sent_on (two_command.bad n) e = let z : ◌≡◌ {A = ℕ} 0 1 = cc in omega ar
 
 module _ (s : Session) (r : ReachedSession s) where
   -- another phase that is not the first
-  moved-reached : (p : Phase) → (p ≡ One → ⊥) → ReachedSession (moved s p s.tables)
-  moved-reached p h = record { tables = r.tables; later_tables = r.later_tables; wide = r.wide; later = λ e. absurd (h e) }
+  moved_reached : (p : Phase) → (p ≡ One → ⊥) → ReachedSession (moved s p s.tables)
+  moved_reached p h = record { tables = r.tables; later_tables = r.later_tables; wide = r.wide; later = λ e. absurd (h e) }
 
-  closed-reached : (f : Bool) → ReachedSession (pick f (closed s) s)
-  closed-reached true = moved-reached Closed (λ e. let z : ◌≡◌ {A = ℕ} 0 1 = cc in omega arith)
-  closed-reached false = r
+  closed_reached : (f : Bool) → ReachedSession (pick f (closed s) s)
+  closed_reached true = moved_reached Closed (λ e. let z : ◌≡◌ {A = ℕ} 0 1 = cc in omega arith)
+  closed_reached false = r
 
-  left-reached : (c : Call) (n : ℕ) → ReachedSession (session_after c n s)
-  left-reached (receive text) n = closed-reached (closes n)
-  left-reached (send word arguments body out) n = r
-  left-reached (receive_two text out) n = closed-reached (closes n)
-  left-reached (reply x body out) n = r
-  left-reached (send_two word arguments body out) n = r
-  left-reached (respond text out) n = closed-reached (closes n)
+  left_reached : (c : Call) (n : ℕ) → ReachedSession (session_after c n s)
+  left_reached (receive text) n = closed_reached (closes n)
+  left_reached (send word arguments body out) n = r
+  left_reached (receive_two text out) n = closed_reached (closes n)
+  left_reached (reply x body out) n = r
+  left_reached (send_two word arguments body out) n = r
+  left_reached (respond text out) n = closed_reached (closes n)
 
   -- an accepted command of phase one
-  applied-so : (b b' : one.BuffersOne) (line body : List ℕ) (s' : Session) → Applied s b line body s' b' → ReachedSession s'
-  applied-so b b' line body s' a =
+  applied_so : (b b' : one.BuffersOne) (line body : List ℕ) (s' : Session) → Applied s b line body s' b' → ReachedSession s'
+  applied_so b b' line body s' a =
       let c = command_in s.machine s.name line body in
       let p = payload_in s.machine s.name line body in
       subst ReachedSession (sym a.session) record {
-        tables = applied_reached s.tables b c p (payload-stored s.name line body a.argued s.machine) r.tables;
-        later_tables = applied-later-tables s.tables b p c r.later_tables;
-        wide = applied-wide s.tables b p c r.wide;
-        later = λ e. applied-later s.tables b p c (r.later a.turn);
+        tables = applied_reached s.tables b c p (payload_stored s.name line body a.argued s.machine) r.tables;
+        later_tables = applied_later_tables s.tables b p c r.later_tables;
+        wide = applied_wide s.tables b p c r.wide;
+        later = λ e. applied_later s.tables b p c (r.later a.turn);
       }
 
   -- .. of phase two
-  applied-two-so : (own : Bool) (b : Buffers) (line body : List ℕ) (phase : Phase) (text out : List ℕ) (o : Outcome) → AppliedTwo own s b line body phase text out o → (phase ≡ One → ⊥) → ReachedSession o.session
-  applied-two-so own b line body phase text out o a h =
+  applied_two_so : (own : Bool) (b : Buffers) (line body : List ℕ) (phase : Phase) (text out : List ℕ) (o : Outcome) → AppliedTwo own s b line body phase text out o → (phase ≡ One → ⊥) → ReachedSession o.session
+  applied_two_so own b line body phase text out o a h =
       let c = command_at s line body in
       let p = payload_at s line body in
       subst ReachedSession (sym a.session) record {
-        tables = applied-tables-two s.tables b.second p c r.tables;
-        later_tables = applied_reached_two s.tables b.second c p (payload-stored-two line body s.machine) r.later_tables;
-        wide = applied-wide-two s.tables b.second p c r.wide;
+        tables = applied_tables_two s.tables b.second p c r.tables;
+        later_tables = applied_reached_two s.tables b.second c p (payload_stored_two line body s.machine) r.later_tables;
+        wide = applied_wide_two s.tables b.second p c r.wide;
         later = λ e. absurd (h e);
       }
 
   -- .. an answer
-  answered-so : (s' : Session) → s' ≡ answered s → ReachedSession s'
-  answered-so s' e = subst ReachedSession (sym e) (moved-reached Two (λ q. let z : ◌≡◌ {A = ℕ} 0 1 = cc in omega arith))
+  answered_so : (s' : Session) → s' ≡ answered s → ReachedSession s'
+  answered_so s' e = subst ReachedSession (sym e) (moved_reached Two (λ q. let z : ◌≡◌ {A = ℕ} 0 1 = cc in omega arith))
 
-  accepted-reached : (b : Buffers) (c : Call) → AcceptedBy s b c → ReachedSession (outcome s b c).session
-  accepted-reached b (receive text) a = applied-so b.first (outcome s b (receive text)).buffers.first _ _ _ a.applied
-  accepted-reached b (send word arguments body out) a = applied-so b.first (outcome s b (send word arguments body out)).buffers.first _ _ _ a.applied
-  accepted-reached b (receive_two text out) a = applied-two-so false b _ _ _ _ _ _ a (received_on s.screen (command_at s (line_read (read_first text) text) (body_read (read_first text) text)))
-  accepted-reached b (reply x body out) a = answered-so _ a.session
-  accepted-reached b (send_two word arguments body out) a = applied-two-so true b _ _ _ _ _ _ a (sent_on (command_at s (two_command.line_sent word arguments) body))
-  accepted-reached b (respond text out) a = answered-so _ a.1.session
+  accepted_reached : (b : Buffers) (c : Call) → AcceptedBy s b c → ReachedSession (outcome s b c).session
+  accepted_reached b (receive text) a = applied_so b.first (outcome s b (receive text)).buffers.first _ _ _ a.applied
+  accepted_reached b (send word arguments body out) a = applied_so b.first (outcome s b (send word arguments body out)).buffers.first _ _ _ a.applied
+  accepted_reached b (receive_two text out) a = applied_two_so false b _ _ _ _ _ _ a (received_on s.screen (command_at s (line_read (read_first text) text) (body_read (read_first text) text)))
+  accepted_reached b (reply x body out) a = answered_so _ a.session
+  accepted_reached b (send_two word arguments body out) a = applied_two_so true b _ _ _ _ _ _ a (sent_on (command_at s (two_command.line_sent word arguments) body))
+  accepted_reached b (respond text out) a = answered_so _ a.1.session
 
 -- each call keeps a session so, accepted or refused
 pub call_reached : (s : Session) (b : Buffers) (c : Call) → ReachedSession s → ReachedSession (outcome s b c).session
 call_reached s b c r =
     cases (eqb (outcome s b c).number 0)
-    (λ f. accepted-reached s r b c (accepted s b c (eqb-true (outcome s b c).number 0 f)))
-    (λ f. subst ReachedSession (sym (refusal s b c (eqb-false (outcome s b c).number 0 f)).session) (left-reached s r c (outcome s b c).number))
+    (λ f. accepted_reached s r b c (accepted s b c (eqb-true (outcome s b c).number 0 f)))
+    (λ f. subst ReachedSession (sym (refusal s b c (eqb-false (outcome s b c).number 0 f)).session) (left_reached s r c (outcome s b c).number))
 
 -- and so does every list of calls
 pub after_reached : (s : Session) (b : Buffers) (cs : List Call) → ReachedSession s → ReachedSession (after s b cs).session
@@ -285,7 +285,7 @@ just_applied s₀ s b b' line body r a d reached =
     let d₀ : c ≡ done = sym (ap (λ x. command_in x.machine x.name line body) a.session) ∙ d in
     record {
       turn = ap (λ x. x.phase) a.session ∙ ap phase_after d₀;
-      later_opened = subst (λ x. LaterOpened x.tables) (sym a.session) (applied-later s₀.tables b p c (r.later a.turn));
+      later_opened = subst (λ x. LaterOpened x.tables) (sym a.session) (applied_later s₀.tables b p c (r.later a.turn));
       reached = reached;
     }
 

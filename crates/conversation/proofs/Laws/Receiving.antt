@@ -54,15 +54,15 @@ module _ (m : Machine) (g : List ℕ) (x : Bool) (q : Phase) (t : Tables) (b : B
         go false true = refl
         go false false = refl
 
-    pub received-by : (n : ℕ) (c : CommandOne) (a : Taking) (p : Phase) (t' : Tables) (b' : BuffersOne) → n ≡ number_one m g t b 0 l y → c ≡ command_in m g l y → a ≡ answer_of n c k → p ≡ phase_received q n c → t' ≡ tables_one m g t b 0 l y → b' ≡ buffers_one m g t b 0 l y →
+    pub received_by : (n : ℕ) (c : CommandOne) (a : Taking) (p : Phase) (t' : Tables) (b' : BuffersOne) → n ≡ number_one m g t b 0 l y → c ≡ command_in m g l y → a ≡ answer_of n c k → p ≡ phase_received q n c → t' ≡ tables_one m g t b 0 l y → b' ≡ buffers_one m g t b 0 l y →
         receipt a (session_in m g x p t') b' ≡ received_stanza (session_in m g x q t) b l y k
-    received-by n c a p t' b' en ec ea ep et eb = rw (ea, ep, et, eb, en, ec) step_is
+    received_by n c a p t' b' en ec ea ep et eb = rw (ea, ep, et, eb, en, ec) step_is
 
     -- the same where name, arguments' text and body are said otherwise
-    pub received-from : (g' l' y' : List ℕ) (n : ℕ) (c : CommandOne) (a : Taking) (p : Phase) (t' : Tables) (b' : BuffersOne) → g' ≡ g → l' ≡ l → y' ≡ y → n ≡ number_one m g' t b 0 l' y' → c ≡ command_in m g' l' y' → a ≡ answer_of n c k → p ≡ phase_received q n c →
+    pub received_from : (g' l' y' : List ℕ) (n : ℕ) (c : CommandOne) (a : Taking) (p : Phase) (t' : Tables) (b' : BuffersOne) → g' ≡ g → l' ≡ l → y' ≡ y → n ≡ number_one m g' t b 0 l' y' → c ≡ command_in m g' l' y' → a ≡ answer_of n c k → p ≡ phase_received q n c →
         t' ≡ tables_one m g' t b 0 l' y' → b' ≡ buffers_one m g' t b 0 l' y' → receipt a (session_in m g x p t') b' ≡ received_stanza (session_in m g x q t) b l y k
-    received-from g' l' y' n c a p t' b' eg el ey en ec ea ep et eb =
-        received-by n c a p t' b' (en ∙ same (λ g l y. number_one m g t b 0 l y)) (ec ∙ same (λ g l y. command_in m g l y)) ea ep (et ∙ same (λ g l y. tables_one m g t b 0 l y)) (eb ∙ same (λ g l y. buffers_one m g t b 0 l y))
+    received_from g' l' y' n c a p t' b' eg el ey en ec ea ep et eb =
+        received_by n c a p t' b' (en ∙ same (λ g l y. number_one m g t b 0 l y)) (ec ∙ same (λ g l y. command_in m g l y)) ea ep (et ∙ same (λ g l y. tables_one m g t b 0 l y)) (eb ∙ same (λ g l y. buffers_one m g t b 0 l y))
       where
         same : {X : Type 0} (f : List ℕ → List ℕ → List ℕ → X) → f g' l' y' ≡ f g l y
         same f = ap (λ g. f g l' y') eg ∙ ap (λ l. f g l y') el ∙ ap (f g l) ey

@@ -61,13 +61,13 @@ module _ (m : Machine) (g : List ℕ) (x : Bool) (q : Phase) (t : Tables) (b : B
 
     -- the same by what each part of the code came to: the command, what is ruled, the answer at once, its length, the output's shortness, the number; then the
     -- answer, the phase, the tables, the buffers and the output
-    pub received-from : (c : CommandTwo) (r : ℕ) (w : AtOnce) (j late n : ℕ) (a : Taking) (p : Phase) (t' : Tables) (b' : BuffersTwo) (o' : List ℕ) →
+    pub received_from : (c : CommandTwo) (r : ℕ) (w : AtOnce) (j late n : ℕ) (a : Taking) (p : Phase) (t' : Tables) (b' : BuffersTwo) (o' : List ℕ) →
         c ≡ row_two (word_two m (argument_of l 0)) m l (length y) → r ≡ ruled false t c → w ≡ at_once x c → j ≡ length (text_of w) → late ≡ pick (ltb (length out) j) 15 0 →
         n ≡ first_of (first_of r (when (is_spaceless t b c (length (payload_of c l y))) 8)) late → a ≡ pick (eqb n 0) (took (word_of c) k j) (declined n) →
         p ≡ pick (eqb n 0) (phase_received x c) (pick (closes n) Closed q) → t' ≡ pick (eqb n 0) (applied t b c (payload_of c l y)) t → b' ≡ pick (eqb n 0) (filled_by t b c (payload_of c l y)) b →
         o' ≡ pick (eqb n 0) (filled (text_of w) out) out → receipt a (session_in m g x p t') b' o' ≡ received_stanza (session_in m g x q t) b out l y k
     unfolding command_two decided
-    received-from c r w j late n a p t' b' o' ec er ew ej el en ea ep et eb eo =
+    received_from c r w j late n a p t' b' o' ec er ew ej el en ea ep et eb eo =
         let text : text_of w ≡ text_of (at_once x c) = ap text_of ew in
         let number : n ≡ first_of (decided false t b c (length (payload_of c l y))) (shortness (text_of (at_once x c)) out) =
         en ∙ ap₂ (λ r z. first_of (first_of r (when (is_spaceless t b c (length (payload_of c l y))) 8)) z) er (el ∙ ap (λ j. pick (ltb (length out) j) 15 0) (ej ∙ ap length text)) in

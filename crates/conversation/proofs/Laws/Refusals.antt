@@ -48,117 +48,117 @@ module _ (s : Session) where
     abbrev LeftReceived : receiving.Received → Type 0
     LeftReceived = Left (λ r. taking_number r.answer) (λ n. receiving.refused_receipt n s b)
 
-    stanza-left : (line body : List ℕ) (k : ℕ) → LeftReceived (receiving.received_stanza s b line body k)
+    stanza_left : (line body : List ℕ) (k : ℕ) → LeftReceived (receiving.received_stanza s b line body k)
     unfolding receiving.received_stanza
-    stanza-left line body k = either LeftReceived (eqb (one.number_one s.machine s.name s.tables b 0 line body) 0) _ _ (λ h. absurd (h refl)) (λ h. refl)
+    stanza_left line body k = either LeftReceived (eqb (one.number_one s.machine s.name s.tables b 0 line body) 0) _ _ (λ h. absurd (h refl)) (λ h. refl)
 
-    as-left : (r : Reading) (text : List ℕ) → LeftReceived (receiving.received_as r s text b)
-    as-left (stanza e n k) text = stanza-left _ _ k
-    as-left (refused n) text = λ h. refl
+    as_left : (r : Reading) (text : List ℕ) → LeftReceived (receiving.received_as r s text b)
+    as_left (stanza e n k) text = stanza_left _ _ k
+    as_left (refused n) text = λ h. refl
 
-    received-left : (text : List ℕ) → LeftReceived (receiving.received s text b)
+    received_left : (text : List ℕ) → LeftReceived (receiving.received s text b)
     unfolding receiving.received
-    received-left text = either LeftReceived (eqb (turn_one s.phase) 0) _ _ (as-left (read_first text) text) (λ h. refl)
+    received_left text = either LeftReceived (eqb (turn_one s.phase) 0) _ _ (as_left (read_first text) text) (λ h. refl)
 
     -- .. and sent
     module _ (out : List ℕ) where
       abbrev LeftSent : sending.Sent → Type 0
       LeftSent = Left (λ r. sent_number r.answer) (λ n. sending.refused_sending n s b out)
 
-      sent-stanza-left : (line body : List ℕ) → LeftSent (sending.sent_stanza s b line body out)
+      sent_stanza_left : (line body : List ℕ) → LeftSent (sending.sent_stanza s b line body out)
       unfolding sending.sent_stanza
-      sent-stanza-left line body = either LeftSent (eqb (one.number_one s.machine s.name s.tables b (shortness (stanza_text line body) out) line body) 0) _ _ (λ h. absurd (h refl)) (λ h. refl)
+      sent_stanza_left line body = either LeftSent (eqb (one.number_one s.machine s.name s.tables b (shortness (stanza_text line body) out) line body) 0) _ _ (λ h. absurd (h refl)) (λ h. refl)
 
-      sent-left : (word : WordOne) (arguments body : List ℕ) → LeftSent (sending.sent s word arguments body b out)
+      sent_left : (word : WordOne) (arguments body : List ℕ) → LeftSent (sending.sent s word arguments body b out)
       unfolding sending.sent
-      sent-left word arguments body =
+      sent_left word arguments body =
           either LeftSent (eqb (turn_one s.phase) 0) _ _
-          (by_writable LeftSent s b (one_command.line_sent word arguments) body out (λ w. sent-stanza-left (one_command.line_sent word arguments) body) (λ w h. refl)) (λ h. refl)
+          (by_writable LeftSent s b (one_command.line_sent word arguments) body out (λ w. sent_stanza_left (one_command.line_sent word arguments) body) (λ w h. refl)) (λ h. refl)
 
   -- phase two, commands: received
   module _ (b : two.BuffersTwo) (out : List ℕ) where
     abbrev LeftReceivedTwo : receiving_two.Received → Type 0
     LeftReceivedTwo = Left (λ r. taking_two_number r.answer) (λ n. receiving_two.refused_receipt n s b out)
 
-    stanza-two-left : (line body : List ℕ) (k : ℕ) → LeftReceivedTwo (receiving_two.received_stanza s b out line body k)
+    stanza_two_left : (line body : List ℕ) (k : ℕ) → LeftReceivedTwo (receiving_two.received_stanza s b out line body k)
     unfolding receiving_two.received_stanza
-    stanza-two-left line body k =
+    stanza_two_left line body k =
         let text = receiving_two.text_of (receiving_two.at_once s.screen (two_command.command_two s.machine line body)) in
         either LeftReceivedTwo (eqb (first_of (receiving_two.number_received s b line body) (shortness text out)) 0) _ _ (λ h. absurd (h refl)) (λ h. refl)
 
-    as-two-left : (r : Reading) (text : List ℕ) → LeftReceivedTwo (receiving_two.received_as r s text b out)
-    as-two-left (stanza e n k) text = stanza-two-left _ _ k
-    as-two-left (refused n) text = λ h. refl
+    as_two_left : (r : Reading) (text : List ℕ) → LeftReceivedTwo (receiving_two.received_as r s text b out)
+    as_two_left (stanza e n k) text = stanza_two_left _ _ k
+    as_two_left (refused n) text = λ h. refl
 
-    received-two-left : (text : List ℕ) → LeftReceivedTwo (receiving_two.received s text b out)
+    received_two_left : (text : List ℕ) → LeftReceivedTwo (receiving_two.received s text b out)
     unfolding receiving_two.received
-    received-two-left text = either LeftReceivedTwo (eqb (turn_two s.phase) 0) _ _ (as-two-left (read_first text) text) (λ h. refl)
+    received_two_left text = either LeftReceivedTwo (eqb (turn_two s.phase) 0) _ _ (as_two_left (read_first text) text) (λ h. refl)
 
     -- .. and sent
     abbrev LeftSentTwo : sending_two.Sent → Type 0
     LeftSentTwo = Left (λ r. sent_number r.answer) (λ n. sending_two.refused_sending n s b out)
 
-    sent-line-left : (line body : List ℕ) → LeftSentTwo (sending_two.sent_line s b line body out)
+    sent_line_left : (line body : List ℕ) → LeftSentTwo (sending_two.sent_line s b line body out)
     unfolding sending_two.sent_line
-    sent-line-left line body = either LeftSentTwo (eqb (first_of (sending_two.number_sent s b line body) (shortness (stanza_text line body) out)) 0) _ _ (λ h. absurd (h refl)) (λ h. refl)
+    sent_line_left line body = either LeftSentTwo (eqb (first_of (sending_two.number_sent s b line body) (shortness (stanza_text line body) out)) 0) _ _ (λ h. absurd (h refl)) (λ h. refl)
 
-    sent-two-left : (word : WordTwo) (arguments body : List ℕ) → LeftSentTwo (sending_two.sent s word arguments body b out)
+    sent_two_left : (word : WordTwo) (arguments body : List ℕ) → LeftSentTwo (sending_two.sent s word arguments body b out)
     unfolding sending_two.sent
-    sent-two-left word arguments body = either LeftSentTwo (eqb (turn_two s.phase) 0) _ _ (sent-line-left (two_command.line_sent word arguments) body) (λ h. refl)
+    sent_two_left word arguments body = either LeftSentTwo (eqb (turn_two s.phase) 0) _ _ (sent_line_left (two_command.line_sent word arguments) body) (λ h. refl)
 
   -- phase two, answers: a host's reply
   module _ (out : List ℕ) where
     abbrev LeftReplied : replying.Replied → Type 0
     LeftReplied = Left (λ r. sent_number r.answer) (λ n. replying.refused_reply n s out)
 
-    reply-to-left : (w : WordTwo) (r : Response) (body : List ℕ) → LeftReplied (replying.replied_to w s r body out)
+    reply_to_left : (w : WordTwo) (r : Response) (body : List ℕ) → LeftReplied (replying.replied_to w s r body out)
     unfolding replying.replied_to
-    reply-to-left w r body = either LeftReplied (eqb (first_of (replying.number_replied w r body) (shortness (stanza_text (response_line r) body) out)) 0) _ _ (λ h. absurd (h refl)) (λ h. refl)
+    reply_to_left w r body = either LeftReplied (eqb (first_of (replying.number_replied w r body) (shortness (stanza_text (response_line r) body) out)) 0) _ _ (λ h. absurd (h refl)) (λ h. refl)
 
-    replied-left : (p : Phase) (r : Response) (body : List ℕ) → LeftReplied (replying.replied_by (due_in p) s r body out)
-    replied-left One r body = λ h. refl
-    replied-left Two r body = λ h. refl
-    replied-left (Awaiting w) r body = reply-to-left w r body
-    replied-left Ended r body = λ h. refl
-    replied-left Closed r body = λ h. refl
+    replied_left : (p : Phase) (r : Response) (body : List ℕ) → LeftReplied (replying.replied_by (due_in p) s r body out)
+    replied_left One r body = λ h. refl
+    replied_left Two r body = λ h. refl
+    replied_left (Awaiting w) r body = reply_to_left w r body
+    replied_left Ended r body = λ h. refl
+    replied_left Closed r body = λ h. refl
 
     -- .. and a response received
     abbrev LeftResponded : responding.Responded → Type 0
     LeftResponded = Left (λ r. responded_number r.answer) (λ n. responding.refused_response n s out)
 
-    response-left : (w : WordTwo) (r : ResponseRead) (body : List ℕ) (k : ℕ) → LeftResponded (responding.responded_as w s r body k out)
+    response_left : (w : WordTwo) (r : ResponseRead) (body : List ℕ) (k : ℕ) → LeftResponded (responding.responded_as w s r body k out)
     unfolding responding.responded_as
-    response-left w nothing body k = λ h. refl
-    response-left w (response r) body k = either LeftResponded (eqb (first_of (pick (fits_whole w r body) 0 12) (shortness body out)) 0) _ _ (λ h. absurd (h refl)) (λ h. refl)
+    response_left w nothing body k = λ h. refl
+    response_left w (response r) body k = either LeftResponded (eqb (first_of (pick (fits_whole w r body) 0 12) (shortness body out)) 0) _ _ (λ h. absurd (h refl)) (λ h. refl)
 
-    response-text-left : (q : Reading) (w : WordTwo) (text : List ℕ) → LeftResponded (responding.responded_text q w s text out)
-    response-text-left (stanza e n k) w text = response-left w _ _ k
-    response-text-left (refused n) w text = λ h. refl
+    response_text_left : (q : Reading) (w : WordTwo) (text : List ℕ) → LeftResponded (responding.responded_text q w s text out)
+    response_text_left (stanza e n k) w text = response_left w _ _ k
+    response_text_left (refused n) w text = λ h. refl
 
-    responded-left : (p : Phase) (text : List ℕ) → LeftResponded (responding.responded_by (due_in p) s text out)
-    responded-left One text = λ h. refl
-    responded-left Two text = λ h. refl
-    responded-left (Awaiting w) text = response-text-left (read_first text) w text
-    responded-left Ended text = λ h. refl
-    responded-left Closed text = λ h. refl
+    responded_left : (p : Phase) (text : List ℕ) → LeftResponded (responding.responded_by (due_in p) s text out)
+    responded_left One text = λ h. refl
+    responded_left Two text = λ h. refl
+    responded_left (Awaiting w) text = response_text_left (read_first text) w text
+    responded_left Ended text = λ h. refl
+    responded_left Closed text = λ h. refl
 
-  closed-tables : (f : Bool) → (pick f (closed s) s).tables ≡ s.tables
-  closed-tables true = refl
-  closed-tables false = refl
+  closed_tables : (f : Bool) → (pick f (closed s) s).tables ≡ s.tables
+  closed_tables true = refl
+  closed_tables false = refl
 
 -- a refused call leaves the session as document 01's column says, and tables, buffers and output buffer as they were
 pub refusal : (s : Session) (b : Buffers) (c : Call) → ((outcome s b c).number ≡ 0 → ⊥) → Refused s b c
 refusal s b (receive text) h =
-    let e = received-left s b.first text h in
+    let e = received_left s b.first text h in
     record {
       session = ap (λ r. r.session) e;
-      tables = ap (λ r. r.session.tables) e ∙ closed-tables s (closes (outcome s b (receive text)).number);
+      tables = ap (λ r. r.session.tables) e ∙ closed_tables s (closes (outcome s b (receive text)).number);
       buffers = ap (λ r. buffers_of r.buffers b.second) e;
       output = refl;
       size = refl;
     }
 refusal s b (send word arguments body out) h =
-    let e = sent-left s b.first out word arguments body h in
+    let e = sent_left s b.first out word arguments body h in
     record {
       session = ap (λ r. r.session) e;
       tables = ap (λ r. r.session.tables) e;
@@ -167,16 +167,16 @@ refusal s b (send word arguments body out) h =
       size = ap (λ r. sent_size r.answer) e;
     }
 refusal s b (receive_two text out) h =
-    let e = received-two-left s b.second out text h in
+    let e = received_two_left s b.second out text h in
     record {
       session = ap (λ r. r.session) e;
-      tables = ap (λ r. r.session.tables) e ∙ closed-tables s (closes (outcome s b (receive_two text out)).number);
+      tables = ap (λ r. r.session.tables) e ∙ closed_tables s (closes (outcome s b (receive_two text out)).number);
       buffers = ap (λ r. buffers_of b.first r.buffers) e;
       output = ap (λ r. r.output) e;
       size = ap (λ r. taking_two_size r.answer) e;
     }
 refusal s b (reply r body out) h =
-    let e = replied-left s out s.phase r body h in
+    let e = replied_left s out s.phase r body h in
     record {
       session = ap (λ r. r.session) e;
       tables = ap (λ r. r.session.tables) e;
@@ -185,7 +185,7 @@ refusal s b (reply r body out) h =
       size = ap (λ r. sent_size r.answer) e;
     }
 refusal s b (send_two word arguments body out) h =
-    let e = sent-two-left s b.second out word arguments body h in
+    let e = sent_two_left s b.second out word arguments body h in
     record {
       session = ap (λ r. r.session) e;
       tables = ap (λ r. r.session.tables) e;
@@ -194,10 +194,10 @@ refusal s b (send_two word arguments body out) h =
       size = ap (λ r. sent_size r.answer) e;
     }
 refusal s b (respond text out) h =
-    let e = responded-left s out s.phase text h in
+    let e = responded_left s out s.phase text h in
     record {
       session = ap (λ r. r.session) e;
-      tables = ap (λ r. r.session.tables) e ∙ closed-tables s (closes (outcome s b (respond text out)).number);
+      tables = ap (λ r. r.session.tables) e ∙ closed_tables s (closes (outcome s b (respond text out)).number);
       buffers = refl;
       output = ap (λ r. r.output) e;
       size = ap (λ r. responded_size r.answer) e;

@@ -34,23 +34,23 @@ module _ (s : Session) (out : List ℕ) (k : ℕ) (whole : List ℕ) where
   by_bytes true false n o e q = ap₂ (λ a o. reply a (answered s) o) e q
   by_bytes false v n o e q = let z : ◌≡◌ {A = ℕ} 0 1 = cc in absurd (omega arith)
 
-  by-refused : (z v : Bool) (n : ℕ) (o : List ℕ) → refused n ≡ pick z (pick v (refused 15) (bytes k)) (refused 17) → o ≡ pick z (pick v out whole) out → reply (refused n) s o ≡ reply_by true z v s out k whole
-  by-refused true true n o e q = ap₂ (λ a o. reply a s o) e q
-  by-refused true false n o e q = let z : ◌≡◌ {A = ℕ} 0 1 = cc in absurd (omega arith)
-  by-refused false v n o e q = ap₂ (λ a o. reply a s o) e q
+  by_refused : (z v : Bool) (n : ℕ) (o : List ℕ) → refused n ≡ pick z (pick v (refused 15) (bytes k)) (refused 17) → o ≡ pick z (pick v out whole) out → reply (refused n) s o ≡ reply_by true z v s out k whole
+  by_refused true true n o e q = ap₂ (λ a o. reply a s o) e q
+  by_refused true false n o e q = let z : ◌≡◌ {A = ℕ} 0 1 = cc in absurd (omega arith)
+  by_refused false v n o e q = ap₂ (λ a o. reply a s o) e q
 
 module _ (w : WordTwo) (s : Session) (r : Response) (y out : List ℕ) where
   -- a response that does not fit
-  pub replied-unfit : false ≡ fits_whole w r y → reply (refused 12) s out ≡ replied_to w s r y out
+  pub replied_unfit : false ≡ fits_whole w r y → reply (refused 12) s out ≡ replied_to w s r y out
   unfolding replied_to
-  replied-unfit e = rw (sym e)
+  replied_unfit e = rw (sym e)
 
   -- one that fits, and was written
-  pub replied-bytes : (a : Answer) (n : ℕ) (o : List ℕ) → a ≡ bytes n → true ≡ fits_whole w r y → a ≡ written (response_line r) y out → o ≡ buffer_after (response_line r) y out → reply a (answered s) o ≡ replied_to w s r y out
+  pub replied_bytes : (a : Answer) (n : ℕ) (o : List ℕ) → a ≡ bytes n → true ≡ fits_whole w r y → a ≡ written (response_line r) y out → o ≡ buffer_after (response_line r) y out → reply a (answered s) o ≡ replied_to w s r y out
   unfolding replied_to
-  replied-bytes a n o h f e q = rw (sym f, h) (by_bytes s out _ _ (is_writable (response_line r) y) (overflows (stanza_text (response_line r) y) out) n o (sym h ∙ e) q)
+  replied_bytes a n o h f e q = rw (sym f, h) (by_bytes s out _ _ (is_writable (response_line r) y) (overflows (stanza_text (response_line r) y) out) n o (sym h ∙ e) q)
 
   -- one that fits, and was not
-  pub replied-refused : (a : Answer) (n : ℕ) (o : List ℕ) → a ≡ refused n → true ≡ fits_whole w r y → a ≡ written (response_line r) y out → o ≡ buffer_after (response_line r) y out → reply a s o ≡ replied_to w s r y out
+  pub replied_refused : (a : Answer) (n : ℕ) (o : List ℕ) → a ≡ refused n → true ≡ fits_whole w r y → a ≡ written (response_line r) y out → o ≡ buffer_after (response_line r) y out → reply a s o ≡ replied_to w s r y out
   unfolding replied_to
-  replied-refused a n o h f e q = rw (sym f, h) (by-refused s out _ _ (is_writable (response_line r) y) (overflows (stanza_text (response_line r) y) out) n o (sym h ∙ e) q)
+  replied_refused a n o h f e q = rw (sym f, h) (by_refused s out _ _ (is_writable (response_line r) y) (overflows (stanza_text (response_line r) y) out) n o (sym h ∙ e) q)

@@ -3,7 +3,7 @@ use Prim.Native.Nat.{ℕ, zero, suc, ◌+◌}
 use mathlib.Core.Path.{◌≡◌, refl, sym, ap, ap₂, ◌∙◌, subst}
 use mathlib.Core.Bool.{Bool, true, false, not, ◌||◌, true≢false}
 use mathlib.Core.Logic.{◌⊎◌, inl, inr, ⊎_elim, ◌↔◌}
-use mathlib.Core.List.{List, [], ◌∷◌, ◌++◌, map_append}
+use mathlib.Core.List.{List, [], ◌∷◌, ◌++◌, map-append}
 use lib.Dec.{eqb}
 use lib.ListN.{length, length-append}
 use native.Mathlib.Omega.{arith}
@@ -29,18 +29,18 @@ file_more f before x = ap length (of_file_append f before (x ∷ [])) ∙ length
 
 module _ (P : Row → Type 0) (f : ℕ) (x : Row) (rs : List Row) where
   -- a row of the file behind it
-  row-behind : (i : ℕ) → RowAt P (of_file f rs) i → RowAt P (of_file f (x ∷ rs)) (pick (eqb x.index f) 1 0 + i)
+  row_behind : (i : ℕ) → RowAt P (of_file f rs) i → RowAt P (of_file f (x ∷ rs)) (pick (eqb x.index f) 1 0 + i)
   unfolding RowAt of_file
-  row-behind i h = go (eqb x.index f)
+  row_behind i h = go (eqb x.index f)
     where
       go : (g : Bool) → RowAt P (pick g (x ∷ []) [] ++ of_file f rs) (pick g 1 0 + i)
       go true = let e : suc i ≡ 1 + i = omega arith in subst (RowAt P (x ∷ of_file f rs)) e h
       go false = let e : i ≡ 0 + i = omega arith in subst (RowAt P (of_file f rs)) e h
 
   -- a row of the file: this one, or one behind it
-  row-ahead : (i : ℕ) → RowAt P (of_file f (x ∷ rs)) i → ((x.index ≡ f) × (i ≡ 0) × P x) ⊎ ((j : ℕ) × (i ≡ pick (eqb x.index f) 1 0 + j) × RowAt P (of_file f rs) j)
+  row_ahead : (i : ℕ) → RowAt P (of_file f (x ∷ rs)) i → ((x.index ≡ f) × (i ≡ 0) × P x) ⊎ ((j : ℕ) × (i ≡ pick (eqb x.index f) 1 0 + j) × RowAt P (of_file f rs) j)
   unfolding RowAt of_file
-  row-ahead i h = go (eqb x.index f) refl i h
+  row_ahead i h = go (eqb x.index f) refl i h
     where
       go : (g : Bool) → eqb x.index f ≡ g → (i : ℕ) → RowAt P (pick g (x ∷ []) [] ++ of_file f rs) i → ((x.index ≡ f) × (i ≡ 0) × P x) ⊎ ((j : ℕ) × (i ≡ pick g 1 0 + j) × RowAt P (of_file f rs) j)
       go true e zero h = inl (eqb-true x.index f e, refl, h)
@@ -66,37 +66,37 @@ module _ (es : List Label) (Had : ℕ → ℕ → Type 0) (had : (f i : ℕ) →
   named before x = subst (λ n. (naming before x ≡ true) ↔ Had x.index n) (of_file_many x.index before) (had x.index (how_many (is_file x.index) (row_labels before)))
 
   -- the rows before the one behind
-  labels-behind : (before : List Row) (x : Row) (rs : List Row) → are_stanzas_reported (row_labels before ++ (row_label x ∷ [])) (row_labels rs) es ≡ are_stanzas_reported (row_labels (before ++ (x ∷ []))) (row_labels rs) es
-  labels-behind before x rs = ap (λ l. are_stanzas_reported l (row_labels rs) es) (sym (map_append row_label before (x ∷ [])))
+  labels_behind : (before : List Row) (x : Row) (rs : List Row) → are_stanzas_reported (row_labels before ++ (row_label x ∷ [])) (row_labels rs) es ≡ are_stanzas_reported (row_labels (before ++ (x ∷ []))) (row_labels rs) es
+  labels_behind before x rs = ap (λ l. are_stanzas_reported l (row_labels rs) es) (sym (map-append row_label before (x ∷ [])))
 
-  pub owed-from : (before rs : List Row) → are_stanzas_reported (row_labels before) (row_labels rs) es ≡ false → Unreported before rs
+  pub owed_from : (before rs : List Row) → are_stanzas_reported (row_labels before) (row_labels rs) es ≡ false → Unreported before rs
   unfolding are_stanzas_reported
-  owed-from before [] e = absurd (true≢false e)
-  owed-from before (x ∷ rs) e =
+  owed_from before [] e = absurd (true≢false e)
+  owed_from before (x ∷ rs) e =
       ⊎_elim
       (λ z.
       let h = or_false (not (is_nonconforming (row_label x))) (naming before x) z in
       let f = x.index in
-      (f, 0, first-row f (eq-eqb f f refl) (eqb-true x.mark 1 (not-false _ h.0)), λ y. true≢false (sym ((named before x).1 (subst (Had f) (omega arith) y)) ∙ h.1)))
+      (f, 0, first_row f (eq-eqb f f refl) (eqb-true x.mark 1 (not-false _ h.0)), λ y. true≢false (sym ((named before x).1 (subst (Had f) (omega arith) y)) ∙ h.1)))
       (λ z.
-      let k = owed-from (before ++ (x ∷ [])) rs (sym (labels-behind before x rs) ∙ z) in
-      (k.0, pick (eqb x.index k.0) 1 0 + k.1, row-behind Owes k.0 x rs k.1 k.2, λ y. k.3 (subst (Had k.0) (omega (arith, file_more k.0 before x)) y)))
+      let k = owed_from (before ++ (x ∷ [])) rs (sym (labels_behind before x rs) ∙ z) in
+      (k.0, pick (eqb x.index k.0) 1 0 + k.1, row_behind Owes k.0 x rs k.1 k.2, λ y. k.3 (subst (Had k.0) (omega (arith, file_more k.0 before x)) y)))
       (and_false (not (is_nonconforming (row_label x)) || naming before x) (are_stanzas_reported (row_labels before ++ (row_label x ∷ [])) (row_labels rs) es) e)
     where
-      first-row : (f : ℕ) → eqb x.index f ≡ true → Owes x → RowAt Owes (of_file f (x ∷ rs)) 0
-      first-row f e o = unfold RowAt in unfold of_file in subst (λ g. RowAt Owes (pick g (x ∷ []) [] ++ of_file f rs) 0) (sym e) o
+      first_row : (f : ℕ) → eqb x.index f ≡ true → Owes x → RowAt Owes (of_file f (x ∷ rs)) 0
+      first_row f e o = unfold RowAt in unfold of_file in subst (λ g. RowAt Owes (pick g (x ∷ []) [] ++ of_file f rs) 0) (sym e) o
 
-  pub owed-to : (before rs : List Row) → Unreported before rs → are_stanzas_reported (row_labels before) (row_labels rs) es ≡ false
+  pub owed_to : (before rs : List Row) → Unreported before rs → are_stanzas_reported (row_labels before) (row_labels rs) es ≡ false
   unfolding are_stanzas_reported
-  owed-to before [] u = absurd (unfold RowAt in unfold of_file in u.2)
-  owed-to before (x ∷ rs) u =
+  owed_to before [] u = absurd (unfold RowAt in unfold of_file in u.2)
+  owed_to before (x ∷ rs) u =
       let f = u.0 in
       ⊎_elim
       (λ z. false_and _ _ (inl (false_or (not (is_nonconforming (row_label x))) (naming before x) (ap not (eq-eqb x.mark 1 z.2))
       (refuted (naming before x) (λ e. u.3 (subst (λ n. Had f (length (of_file f before) + n)) (sym z.1) (subst (Had f) (omega arith) (subst (λ g. Had g (length (of_file g before))) z.0 ((named before x).0 e)))))))))
       (λ z. false_and (not (is_nonconforming (row_label x)) || naming before x) _
-      (inr (labels-behind before x rs ∙ owed-to (before ++ (x ∷ [])) rs (f, z.0, z.2, λ y. u.3 (subst (Had f) (omega (arith, file_more f before x, z.1)) y)))))
-      (row-ahead Owes f x rs u.1 u.2)
+      (inr (labels_behind before x rs ∙ owed_to (before ++ (x ∷ [])) rs (f, z.0, z.2, λ y. u.3 (subst (Had f) (omega (arith, file_more f before x, z.1)) y)))))
+      (row_ahead Owes f x rs u.1 u.2)
 
 -- ---- what an error's entry names is one to one
 

@@ -34,17 +34,17 @@ short false n m e = let z : ◌≡◌ {A = ℕ} 0 1 = cc in absurd (omega arith)
 
 module _ (m : Machine) (g : List ℕ) (x : Bool) (q : Phase) (t : Tables) (w : WordTwo) where
   -- a refusal
-  pub response-refused : (n : ℕ) (out : List ℕ) → responding (declined_response n) (session_in m g x (pick (closes n) Closed q) t) out ≡ refused_response n (session_in m g x q t) out
-  response-refused n out = go (closes n)
+  pub response_refused : (n : ℕ) (out : List ℕ) → responding (declined_response n) (session_in m g x (pick (closes n) Closed q) t) out ≡ refused_response n (session_in m g x q t) out
+  response_refused n out = go (closes n)
     where
       go : (f : Bool) → responding (declined_response n) (session_in m g x (pick f Closed q) t) out ≡ responding (declined_response n) (pick f (session_in m g x Closed t) (session_in m g x q t)) out
       go true = refl
       go false = refl
 
   -- no response at all
-  pub responded-nothing : (body : List ℕ) (k : ℕ) (out : List ℕ) → responding (declined_response 12) (session_in m g x Closed t) out ≡ responded_as w (session_in m g x q t) nothing body k out
+  pub responded_nothing : (body : List ℕ) (k : ℕ) (out : List ℕ) → responding (declined_response 12) (session_in m g x Closed t) out ≡ responded_as w (session_in m g x q t) nothing body k out
   unfolding responded_as
-  responded-nothing body k out = refl
+  responded_nothing body k out = refl
 
   module _ (r : Response) (body : List ℕ) (k : ℕ) (out : List ℕ) where
     -- by whether it fits, and whether its body is longer than the output buffer
@@ -53,21 +53,21 @@ module _ (m : Machine) (g : List ℕ) (x : Bool) (q : Phase) (t : Tables) (w : W
         let n = first_of (pick f 0 12) (pick h 15 0) in
         pick (eqb n 0) (responding (took_response r k (length body)) (replied (session_in m g x q t)) (filled body out)) (refused_response n (session_in m g x q t) out)
 
-    by-is : by (fits_whole w r body) (overflows body out) ≡ responded_as w (session_in m g x q t) (response r) body k out
+    by_is : by (fits_whole w r body) (overflows body out) ≡ responded_as w (session_in m g x q t) (response r) body k out
     unfolding responded_as
-    by-is = refl
+    by_is = refl
 
-    pub responded-unfit : fits_whole w r body ≡ false → responding (declined_response 12) (session_in m g x Closed t) out ≡ responded_as w (session_in m g x q t) (response r) body k out
-    responded-unfit e = sym (ap (λ f. by f (overflows body out)) e) ∙ by-is
+    pub responded_unfit : fits_whole w r body ≡ false → responding (declined_response 12) (session_in m g x Closed t) out ≡ responded_as w (session_in m g x q t) (response r) body k out
+    responded_unfit e = sym (ap (λ f. by f (overflows body out)) e) ∙ by_is
 
     -- the body written to the output buffer
-    pub responded-whole : (n : ℕ) (o' : List ℕ) → fits_whole w r body ≡ true → bytes n ≡ answered body out → o' ≡ filled body out →
+    pub responded_whole : (n : ℕ) (o' : List ℕ) → fits_whole w r body ≡ true → bytes n ≡ answered body out → o' ≡ filled body out →
         responding (took_response r k n) (session_in m g x Two t) o' ≡ responded_as w (session_in m g x q t) (response r) body k out
-    responded-whole n o' e a o = let z = whole (overflows body out) n (length body) a in rw (z.1, o) (sym (ap (λ f. by f false) e) ∙ sym (ap (by (fits_whole w r body)) z.0) ∙ by-is)
+    responded_whole n o' e a o = let z = whole (overflows body out) n (length body) a in rw (z.1, o) (sym (ap (λ f. by f false) e) ∙ sym (ap (by (fits_whole w r body)) z.0) ∙ by_is)
 
     -- the body longer than the output buffer
-    pub responded-short : (n : ℕ) (o' : List ℕ) → fits_whole w r body ≡ true → refused n ≡ answered body out → o' ≡ filled body out →
+    pub responded_short : (n : ℕ) (o' : List ℕ) → fits_whole w r body ≡ true → refused n ≡ answered body out → o' ≡ filled body out →
         responding (declined_response n) (session_in m g x q t) o' ≡ responded_as w (session_in m g x q t) (response r) body k out
-    responded-short n o' e a o =
+    responded_short n o' e a o =
         let z = short (overflows body out) n (length body) a in
-        rw (z.1, o, z.0) (sym (ap (λ f. by f true) e) ∙ sym (ap (by (fits_whole w r body)) z.0) ∙ by-is)
+        rw (z.1, o, z.0) (sym (ap (λ f. by f true) e) ∙ sym (ap (by (fits_whole w r body)) z.0) ∙ by_is)

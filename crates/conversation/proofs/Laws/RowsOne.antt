@@ -35,26 +35,26 @@ module _ (name line body : List ℕ) where
   command_of (brings_stanza t) = indexed (read_index t) (header_mark name line (length body))
   command_of ends_one = done
 
-  at-word : (machine : Machine) (ws : List (List ℕ)) → words line ≡ ws → command_in machine name line body ≡ row_command (word_in machine (get_or ws 0 [])) name line (length body)
-  at-word machine ws h = ap (λ v. row_command (word_in machine (get_or v 0 [])) name line (length body)) h
+  at_word : (machine : Machine) (ws : List (List ℕ)) → words line ≡ ws → command_in machine name line body ≡ row_command (word_in machine (get_or ws 0 [])) name line (length body)
+  at_word machine ws h = ap (λ v. row_command (word_in machine (get_or v 0 [])) name line (length body)) h
 
   -- a row is read as its command
-  row-command : (machine : Machine) (x : SayingOne (List ℕ)) → RowOne machine (words line) body x → command_in machine name line body ≡ command_of x
+  row_command_lem : (machine : Machine) (x : SayingOne (List ℕ)) → RowOne machine (words line) body x → command_in machine name line body ≡ command_of x
   unfolding same
-  row-command RecipientV1 (adds_recipient a) h = at-word RecipientV1 (add_recipient_text ∷ a ∷ []) h.1 ∙ rw (h.1, h.2)
-  row-command IdentityV1 (adds_recipient a) h = let e = h.0 in let z : ◌≡◌ {A = ℕ} 0 1 = cc in absurd (omega arith)
-  row-command RecipientV1 (adds_identity a) h = at-word RecipientV1 (add_identity_text ∷ a ∷ []) h.0 ∙ rw (h.0, h.1)
-  row-command IdentityV1 (adds_identity a) h = at-word IdentityV1 (add_identity_text ∷ a ∷ []) h.0 ∙ rw (h.0, h.1)
-  row-command RecipientV1 wraps_key h = at-word RecipientV1 (wrap_file_key_text ∷ []) h.1 ∙ rw (h.1, h.2)
-  row-command IdentityV1 wraps_key h = let e = h.0 in let z : ◌≡◌ {A = ℕ} 0 1 = cc in absurd (omega arith)
-  row-command RecipientV1 (brings_stanza t) h = let e = h.0 in let z : ◌≡◌ {A = ℕ} 0 1 = cc in absurd (omega arith)
-  row-command IdentityV1 (brings_stanza t) h =
+  row_command_lem RecipientV1 (adds_recipient a) h = at_word RecipientV1 (add_recipient_text ∷ a ∷ []) h.1 ∙ rw (h.1, h.2)
+  row_command_lem IdentityV1 (adds_recipient a) h = let e = h.0 in let z : ◌≡◌ {A = ℕ} 0 1 = cc in absurd (omega arith)
+  row_command_lem RecipientV1 (adds_identity a) h = at_word RecipientV1 (add_identity_text ∷ a ∷ []) h.0 ∙ rw (h.0, h.1)
+  row_command_lem IdentityV1 (adds_identity a) h = at_word IdentityV1 (add_identity_text ∷ a ∷ []) h.0 ∙ rw (h.0, h.1)
+  row_command_lem RecipientV1 wraps_key h = at_word RecipientV1 (wrap_file_key_text ∷ []) h.1 ∙ rw (h.1, h.2)
+  row_command_lem IdentityV1 wraps_key h = let e = h.0 in let z : ◌≡◌ {A = ℕ} 0 1 = cc in absurd (omega arith)
+  row_command_lem RecipientV1 (brings_stanza t) h = let e = h.0 in let z : ◌≡◌ {A = ℕ} 0 1 = cc in absurd (omega arith)
+  row_command_lem IdentityV1 (brings_stanza t) h =
       let ws = recipient_stanza_text ∷ t ∷ h.1.0 ∷ h.1.1 in
-      at-word IdentityV1 ws h.1.2
+      at_word IdentityV1 ws h.1.2
       ∙ ap (λ v. pick (leb 3 (length v)) (indexed (read_index (get_or v 1 [])) (header_mark name line (length body))) (bad 4)) h.1.2
       ∙ rw (three_more recipient_stanza_text t h.1.0 h.1.1)
-  row-command RecipientV1 ends_one h = at-word RecipientV1 (done_word ∷ []) h.0 ∙ rw (h.0, h.1)
-  row-command IdentityV1 ends_one h = at-word IdentityV1 (done_word ∷ []) h.0 ∙ rw (h.0, h.1)
+  row_command_lem RecipientV1 ends_one h = at_word RecipientV1 (done_word ∷ []) h.0 ∙ rw (h.0, h.1)
+  row_command_lem IdentityV1 ends_one h = at_word IdentityV1 (done_word ∷ []) h.0 ∙ rw (h.0, h.1)
 
 -- ---- what a command is read from: no word of the table, no row of it, or a row
 
@@ -93,20 +93,20 @@ module _ (machine : Machine) (name line body : List ℕ) where
       let h = and_true (eqb (count_of line) 1) (eqb (length body) n) f in
       (one_word_laws (words line) (eqb-true (count_of line) 1 h.0) ∙ ap (λ w. w ∷ []) e, eqb-true (length body) n h.1)
 
-  identity-row : KnownOne machine line → word ≡ add_identity_text → Read (row_of add_identity)
-  identity-row k e = either (λ f. as_row (adds_identity (argument_of line 1)) (argued add_identity_text e f)) (λ f. wrong k)
+  identity_row : KnownOne machine line → word ≡ add_identity_text → Read (row_of add_identity)
+  identity_row k e = either (λ f. as_row (adds_identity (argument_of line 1)) (argued add_identity_text e f)) (λ f. wrong k)
 
-  done-row : KnownOne machine line → word ≡ done_word → Read (row_of done_command)
-  done-row k e = either (λ f. let h = bare done_word 0 e f in as_row ends_one (h.0, no_bytes body h.1)) (λ f. wrong k)
+  done_row : KnownOne machine line → word ≡ done_word → Read (row_of done_command)
+  done_row k e = either (λ f. let h = bare done_word 0 e f in as_row ends_one (h.0, no_bytes body h.1)) (λ f. wrong k)
 
   -- a word that is another
   apart : (v : List ℕ) → same word v ≡ false → word ≡ v → ⊥
   apart v f e = true≢false (sym (same_refl v) ∙ ap (λ w. same w v) (sym e) ∙ f)
 
 module _ (name line body : List ℕ) where
-  recipient-row : argument_of line 0 ≡ add_recipient_text → ReadOne RecipientV1 name line body (row_command add_recipient name line (length body))
+  recipient_row : argument_of line 0 ≡ add_recipient_text → ReadOne RecipientV1 name line body (row_command add_recipient name line (length body))
   unfolding OneOf
-  recipient-row e =
+  recipient_row e =
       either RecipientV1 name line body (λ f. let h = argued RecipientV1 name line body add_recipient_text e f in as_row (adds_recipient (argument_of line 1)) (refl, h.0, h.1)) (λ f. wrong (inl e))
 
   key_row : argument_of line 0 ≡ wrap_file_key_text → ReadOne RecipientV1 name line body (row_command wrap_file_key name line (length body))
@@ -129,10 +129,10 @@ module _ (name line body : List ℕ) where
       let third = pick (same w done_word) done_command other_word in
       let second = pick (same w wrap_file_key_text) wrap_file_key third in
       let first = pick (same w add_identity_text) add_identity second in
-      by_word m name line body (same w add_recipient_text) add_recipient first (λ f. recipient-row (same_eq w add_recipient_text f)) (λ f1.
-      by_word m name line body (same w add_identity_text) add_identity second (λ f. let e = same_eq w add_identity_text f in identity-row m name line body (inr (inl e)) e) (λ f2.
+      by_word m name line body (same w add_recipient_text) add_recipient first (λ f. recipient_row (same_eq w add_recipient_text f)) (λ f1.
+      by_word m name line body (same w add_identity_text) add_identity second (λ f. let e = same_eq w add_identity_text f in identity_row m name line body (inr (inl e)) e) (λ f2.
       by_word m name line body (same w wrap_file_key_text) wrap_file_key third (λ f. key_row (same_eq w wrap_file_key_text f)) (λ f3.
-      by_word m name line body (same w done_word) done_command other_word (λ f. let e = same_eq w done_word f in done-row m name line body (inr (inr (inr (inl e)))) e) (λ f4.
+      by_word m name line body (same w done_word) done_command other_word (λ f. let e = same_eq w done_word f in done_row m name line body (inr (inr (inr (inl e)))) e) (λ f4.
       unknown
       (⊎_elim (apart m name line body add_recipient_text f1) (⊎_elim (apart m name line body add_identity_text f2) (⊎_elim (apart m name line body wrap_file_key_text f3) (⊎_elim (apart m name line body done_word f4) (λ z. z)))))))))
   read_one IdentityV1 =
@@ -140,9 +140,9 @@ module _ (name line body : List ℕ) where
       let m = IdentityV1 in
       let second = pick (same w done_word) done_command other_word in
       let first = pick (same w recipient_stanza_text) recipient_stanza second in
-      by_word m name line body (same w add_identity_text) add_identity first (λ f. let e = same_eq w add_identity_text f in identity-row m name line body (inl e) e) (λ f1.
+      by_word m name line body (same w add_identity_text) add_identity first (λ f. let e = same_eq w add_identity_text f in identity_row m name line body (inl e) e) (λ f1.
       by_word m name line body (same w recipient_stanza_text) recipient_stanza second (λ f. stanza_row (same_eq w recipient_stanza_text f)) (λ f2.
-      by_word m name line body (same w done_word) done_command other_word (λ f. let e = same_eq w done_word f in done-row m name line body (inr (inr (inl e))) e) (λ f3.
+      by_word m name line body (same w done_word) done_command other_word (λ f. let e = same_eq w done_word f in done_row m name line body (inr (inr (inl e))) e) (λ f3.
       unknown (⊎_elim (apart m name line body add_identity_text f1) (⊎_elim (apart m name line body recipient_stanza_text f2) (⊎_elim (apart m name line body done_word f3) (λ z. z)))))))
 
 -- ---- what is said, by the command
@@ -179,51 +179,51 @@ module _ (machine : Machine) (line body : List ℕ) where
     said_row ends_one h = record { row = h; small = tt }
 
     -- no row has the number 4
-    right-row : (x : SayingOne (List ℕ)) → command_of name line body x ≡ bad 4 → ⊥
-    right-row (adds_recipient a) e = let z : ◌≡◌ {A = ℕ} 0 1 = cc in omega arith
-    right-row (adds_identity a) e = let z : ◌≡◌ {A = ℕ} 0 1 = cc in omega arith
-    right-row wraps_key e = let z : ◌≡◌ {A = ℕ} 0 1 = cc in omega arith
-    right-row (brings_stanza t) e =
+    right_row : (x : SayingOne (List ℕ)) → command_of name line body x ≡ bad 4 → ⊥
+    right_row (adds_recipient a) e = let z : ◌≡◌ {A = ℕ} 0 1 = cc in omega arith
+    right_row (adds_identity a) e = let z : ◌≡◌ {A = ℕ} 0 1 = cc in omega arith
+    right_row wraps_key e = let z : ◌≡◌ {A = ℕ} 0 1 = cc in omega arith
+    right_row (brings_stanza t) e =
         by_index (λ j. indexed j (header_mark name line (length body)) ≡ bad 4 → ⊥) t (λ i l q e. let z : ◌≡◌ {A = ℕ} 0 1 = cc in omega arith) (λ n e. let z : ◌≡◌ {A = ℕ} 5 4 = cc in omega arith) e
-    right-row ends_one e = let z : ◌≡◌ {A = ℕ} 0 1 = cc in omega arith
+    right_row ends_one e = let z : ◌≡◌ {A = ℕ} 0 1 = cc in omega arith
 
-    pub said-one : SaidOne (command_in machine name line body)
-    said-one = go (command_in machine name line body) refl (read_one name line body machine)
+    pub said_one : SaidOne (command_in machine name line body)
+    said_one = go (command_in machine name line body) refl (read_one name line body machine)
       where
         go : (c : CommandOne) → command_in machine name line body ≡ c → ReadOne machine name line body c → SaidOne c
         go c e (unknown n) = n
-        go c e (wrong k) = inl (refl, (k, λ x h. right-row x (sym (row-command name line body machine x h) ∙ e)))
+        go c e (wrong k) = inl (refl, (k, λ x h. right_row x (sym (row_command_lem name line body machine x h) ∙ e)))
         go c e (as_row x h) = said_row x h
 
     -- and back
-    pub says-recipient : (a : List ℕ) → Says (adds_recipient a) → (command_in machine name line body ≡ recipient (mark_of (parse (form_of the_kind.Recipient) a) name)) × (a ≡ argument_of line 1)
-    says-recipient a h = (row-command name line body machine (adds_recipient a) h.row, argument_is add_recipient_text a h.row.1)
+    pub says_recipient : (a : List ℕ) → Says (adds_recipient a) → (command_in machine name line body ≡ recipient (mark_of (parse (form_of the_kind.Recipient) a) name)) × (a ≡ argument_of line 1)
+    says_recipient a h = (row_command_lem name line body machine (adds_recipient a) h.row, argument_is add_recipient_text a h.row.1)
 
-    pub says-identity : (a : List ℕ) → Says (adds_identity a) → (command_in machine name line body ≡ identity (mark_of (parse (form_of the_kind.Identity) a) name)) × (a ≡ argument_of line 1)
-    says-identity a h = (row-command name line body machine (adds_identity a) h.row, argument_is add_identity_text a h.row.0)
+    pub says_identity : (a : List ℕ) → Says (adds_identity a) → (command_in machine name line body ≡ identity (mark_of (parse (form_of the_kind.Identity) a) name)) × (a ≡ argument_of line 1)
+    says_identity a h = (row_command_lem name line body machine (adds_identity a) h.row, argument_is add_identity_text a h.row.0)
 
-    pub says-key : Says wraps_key → command_in machine name line body ≡ key
-    says-key h = row-command name line body machine wraps_key h.row
+    pub says_key : Says wraps_key → command_in machine name line body ≡ key
+    says_key h = row_command_lem name line body machine wraps_key h.row
 
-    pub says-header : (i : ℕ) → Says (brings_stanza i) → command_in machine name line body ≡ header i (header_mark name line (length body))
+    pub says_header : (i : ℕ) → Says (brings_stanza i) → command_in machine name line body ≡ header i (header_mark name line (length body))
     unfolding All
-    says-header i h = row-command name line body machine (brings_stanza (decimal i)) h.row ∙ ap (λ j. indexed j (header_mark name line (length body))) (read_decimal i h.small.0)
+    says_header i h = row_command_lem name line body machine (brings_stanza (decimal i)) h.row ∙ ap (λ j. indexed j (header_mark name line (length body))) (read_decimal i h.small.0)
 
     -- a row whose text is no index
-    pub misindexed-one : Misindexed Row indices_one → command_in machine name line body ≡ bad 5
+    pub misindexed_one : Misindexed Row indices_one → command_in machine name line body ≡ bad 5
     unfolding All
-    misindexed-one (x, h, n) = row-command name line body machine x h ∙ bad-row x n
+    misindexed_one (x, h, n) = row_command_lem name line body machine x h ∙ bad_row x n
       where
-        bad-row : (x : SayingOne (List ℕ)) → (All IsIndex (indices_one x) → ⊥) → command_of name line body x ≡ bad 5
-        bad-row (adds_recipient a) n = absurd (n tt)
-        bad-row (adds_identity a) n = absurd (n tt)
-        bad-row wraps_key n = absurd (n tt)
-        bad-row (brings_stanza t) n = by_index (λ j. indexed j (header_mark name line (length body)) ≡ bad 5) t (λ i l e. absurd (n ((i, l, e), tt))) (λ m. refl)
-        bad-row ends_one n = absurd (n tt)
+        bad_row : (x : SayingOne (List ℕ)) → (All IsIndex (indices_one x) → ⊥) → command_of name line body x ≡ bad 5
+        bad_row (adds_recipient a) n = absurd (n tt)
+        bad_row (adds_identity a) n = absurd (n tt)
+        bad_row wraps_key n = absurd (n tt)
+        bad_row (brings_stanza t) n = by_index (λ j. indexed j (header_mark name line (length body)) ≡ bad 5) t (λ i l e. absurd (n ((i, l, e), tt))) (λ m. refl)
+        bad_row ends_one n = absurd (n tt)
 
     -- a word of the table and no row
-    pub wrong-one : Wrong (KnownOne machine line) Row → command_in machine name line body ≡ bad 4
-    wrong-one w = go (command_in machine name line body) (read_one name line body machine)
+    pub wrong_one : Wrong (KnownOne machine line) Row → command_in machine name line body ≡ bad 4
+    wrong_one w = go (command_in machine name line body) (read_one name line body machine)
       where
         go : (c : CommandOne) → ReadOne machine name line body c → c ≡ bad 4
         go c (unknown n) = absurd (n w.0)

@@ -45,33 +45,33 @@ three_more a b c more = le-leb 3 (length (a ∷ b ∷ c ∷ more)) (omega arith)
 
 -- a row is read as its command
 module _ (line body : List ℕ) where
-  at-word : (machine : Machine) (ws : List (List ℕ)) → words line ≡ ws → command_two machine line body ≡ row_two (word_two machine (get_or ws 0 [])) machine line (length body)
+  at_word : (machine : Machine) (ws : List (List ℕ)) → words line ≡ ws → command_two machine line body ≡ row_two (word_two machine (get_or ws 0 [])) machine line (length body)
   unfolding command_two
-  at-word machine ws h = ap (λ v. row_two (word_two machine (get_or v 0 [])) machine line (length body)) h
+  at_word machine ws h = ap (λ v. row_two (word_two machine (get_or v 0 [])) machine line (length body)) h
 
-  labels-command : (machine : Machine) → Labels (words line) → command_two machine line body ≡ ask Confirm
+  labels_command : (machine : Machine) → Labels (words line) → command_two machine line body ≡ ask Confirm
   unfolding same
-  labels-command machine (one_label a h e) = at-word machine (confirm_word ∷ a ∷ []) h ∙ rw (h, e)
-  labels-command machine (two_labels a b h e g) = at-word machine (confirm_word ∷ a ∷ b ∷ []) h ∙ rw (h, e, g)
+  labels_command machine (one_label a h e) = at_word machine (confirm_word ∷ a ∷ []) h ∙ rw (h, e)
+  labels_command machine (two_labels a b h e g) = at_word machine (confirm_word ∷ a ∷ b ∷ []) h ∙ rw (h, e, g)
 
-  row-command : (machine : Machine) (x : SayingTwo (List ℕ)) → RowTwo machine (words line) body x → command_two machine line body ≡ command_of x
+  row_command_lem : (machine : Machine) (x : SayingTwo (List ℕ)) → RowTwo machine (words line) body x → command_two machine line body ≡ command_of x
   unfolding same
-  row-command machine (asks message) h = at-word machine (msg_word ∷ []) h ∙ rw h
-  row-command machine (asks confirmation) h = labels-command machine h
-  row-command machine (asks public_value) h = at-word machine (request_public ∷ []) h ∙ rw h
-  row-command machine (asks secret_value) h = at-word machine (request_secret ∷ []) h ∙ rw h
-  row-command RecipientV1 (returns_stanza f) h =
-      let ws = recipient_stanza_text ∷ f ∷ h.1.0 ∷ h.1.1 in at-word RecipientV1 ws h.1.2 ∙ rw (h.1.2, three_more recipient_stanza_text f h.1.0 h.1.1)
-  row-command IdentityV1 (returns_stanza f) h = let e = h.0 in let z : ◌≡◌ {A = ℕ} 0 1 = cc in absurd (omega arith)
-  row-command RecipientV1 (returns_key f) h = let e = h.0 in let z : ◌≡◌ {A = ℕ} 0 1 = cc in absurd (omega arith)
-  row-command IdentityV1 (returns_key f) h = at-word IdentityV1 (file_key_word ∷ f ∷ []) h.1 ∙ rw (h.1, h.2)
-  row-command machine (reports internal) h = at-word machine (error_word ∷ internal_word ∷ []) h ∙ rw h
-  row-command machine (reports (identity i)) h = at-word machine (error_word ∷ identity_word ∷ i ∷ []) h ∙ rw h
-  row-command RecipientV1 (reports (recipient i)) h = at-word RecipientV1 (error_word ∷ recipient_word ∷ i ∷ []) h.1 ∙ rw h.1
-  row-command IdentityV1 (reports (recipient i)) h = let e = h.0 in let z : ◌≡◌ {A = ℕ} 0 1 = cc in absurd (omega arith)
-  row-command RecipientV1 (reports (header f i)) h = let e = h.0 in let z : ◌≡◌ {A = ℕ} 0 1 = cc in absurd (omega arith)
-  row-command IdentityV1 (reports (header f i)) h = at-word IdentityV1 (error_word ∷ stanza_word ∷ f ∷ i ∷ []) h.1 ∙ rw h.1
-  row-command machine ends_two h = at-word machine (done_word ∷ []) h.0 ∙ rw (h.0, h.1)
+  row_command_lem machine (asks message) h = at_word machine (msg_word ∷ []) h ∙ rw h
+  row_command_lem machine (asks confirmation) h = labels_command machine h
+  row_command_lem machine (asks public_value) h = at_word machine (request_public ∷ []) h ∙ rw h
+  row_command_lem machine (asks secret_value) h = at_word machine (request_secret ∷ []) h ∙ rw h
+  row_command_lem RecipientV1 (returns_stanza f) h =
+      let ws = recipient_stanza_text ∷ f ∷ h.1.0 ∷ h.1.1 in at_word RecipientV1 ws h.1.2 ∙ rw (h.1.2, three_more recipient_stanza_text f h.1.0 h.1.1)
+  row_command_lem IdentityV1 (returns_stanza f) h = let e = h.0 in let z : ◌≡◌ {A = ℕ} 0 1 = cc in absurd (omega arith)
+  row_command_lem RecipientV1 (returns_key f) h = let e = h.0 in let z : ◌≡◌ {A = ℕ} 0 1 = cc in absurd (omega arith)
+  row_command_lem IdentityV1 (returns_key f) h = at_word IdentityV1 (file_key_word ∷ f ∷ []) h.1 ∙ rw (h.1, h.2)
+  row_command_lem machine (reports internal) h = at_word machine (error_word ∷ internal_word ∷ []) h ∙ rw h
+  row_command_lem machine (reports (identity i)) h = at_word machine (error_word ∷ identity_word ∷ i ∷ []) h ∙ rw h
+  row_command_lem RecipientV1 (reports (recipient i)) h = at_word RecipientV1 (error_word ∷ recipient_word ∷ i ∷ []) h.1 ∙ rw h.1
+  row_command_lem IdentityV1 (reports (recipient i)) h = let e = h.0 in let z : ◌≡◌ {A = ℕ} 0 1 = cc in absurd (omega arith)
+  row_command_lem RecipientV1 (reports (header f i)) h = let e = h.0 in let z : ◌≡◌ {A = ℕ} 0 1 = cc in absurd (omega arith)
+  row_command_lem IdentityV1 (reports (header f i)) h = at_word IdentityV1 (error_word ∷ stanza_word ∷ f ∷ i ∷ []) h.1 ∙ rw h.1
+  row_command_lem machine ends_two h = at_word machine (done_word ∷ []) h.0 ∙ rw (h.0, h.1)
 
 -- ---- words taken apart
 
@@ -134,67 +134,67 @@ module _ (machine : Machine) (line body : List ℕ) where
   count : (n : ℕ) (a : Bool) → (a && eqb (count_of line) n) ≡ true → (a ≡ true) × (count_of line ≡ n)
   count n a f = let h = and_true a (eqb (count_of line) n) f in (h.0, eqb-true (count_of line) n h.1)
 
-  msg-row : word ≡ msg_word → Read (row_of Msg)
+  msg_row : word ≡ msg_word → Read (row_of Msg)
   unfolding OneOf
-  msg-row e = either (λ f. as_row (asks message) (alone msg_word e f)) (λ f. wrong (inl e))
+  msg_row e = either (λ f. as_row (asks message) (alone msg_word e f)) (λ f. wrong (inl e))
 
-  public-row : word ≡ request_public → Read (row_of RequestPublic)
+  public_row : word ≡ request_public → Read (row_of RequestPublic)
   unfolding OneOf
-  public-row e = either (λ f. as_row (asks public_value) (alone request_public e f)) (λ f. wrong (inr (inr (inl e))))
+  public_row e = either (λ f. as_row (asks public_value) (alone request_public e f)) (λ f. wrong (inr (inr (inl e))))
 
-  secret-row : word ≡ request_secret → Read (row_of RequestSecret)
+  secret_row : word ≡ request_secret → Read (row_of RequestSecret)
   unfolding OneOf
-  secret-row e = either (λ f. as_row (asks secret_value) (alone request_secret e f)) (λ f. wrong (inr (inr (inr (inl e)))))
+  secret_row e = either (λ f. as_row (asks secret_value) (alone request_secret e f)) (λ f. wrong (inr (inr (inr (inl e)))))
 
-  done-row : word ≡ done_word → Read (row_of Done)
+  done_row : word ≡ done_word → Read (row_of Done)
   unfolding OneOf
-  done-row e =
+  done_row e =
       either (λ f. let h = and_true (eqb (count_of line) 1) (eqb (length body) 0) f in as_row ends_two (alone done_word e h.0, no_bytes body (eqb-true (length body) 0 h.1)))
       (λ f. wrong (inr (inr (inr (inr (inr (inr (inl e))))))))
 
   -- one label or two
-  labels-row : word ≡ confirm_word → are_labels line ≡ true → Labels (words line)
-  labels-row e f =
+  labels_row : word ≡ confirm_word → are_labels line ≡ true → Labels (words line)
+  labels_row e f =
       let h = and_true (is_base64 (argument_of line 1)) (eqb (count_of line) 2 || eqb (count_of line) 3 && is_base64 (argument_of line 2)) f in
       cases (eqb (count_of line) 2)
       (λ g. one_label (argument_of line 1) (two_words_laws (words line) (eqb-true (count_of line) 2 g) ∙ ap (λ w. w ∷ argument_of line 1 ∷ []) e) h.0)
       (λ g. let i = and_true (eqb (count_of line) 3) (is_base64 (argument_of line 2)) (rw g at h.1) in
       two_labels (argument_of line 1) (argument_of line 2) (words_three (words line) (eqb-true (count_of line) 3 i.0) ∙ ap (λ w. w ∷ argument_of line 1 ∷ argument_of line 2 ∷ []) e) h.0 i.1)
 
-  confirm-row : word ≡ confirm_word → Read (row_of Confirm)
+  confirm_row : word ≡ confirm_word → Read (row_of Confirm)
   unfolding OneOf
-  confirm-row e = either (λ f. as_row (asks confirmation) (labels-row e f)) (λ f. wrong (inr (inl e)))
+  confirm_row e = either (λ f. as_row (asks confirmation) (labels_row e f)) (λ f. wrong (inr (inl e)))
 
-  error-known : word ≡ error_word → KnownTwo machine line
+  error_known : word ≡ error_word → KnownTwo machine line
   unfolding OneOf
-  error-known e = inr (inr (inr (inr (inr (inl e)))))
+  error_known e = inr (inr (inr (inr (inr (inl e)))))
 
-  internal-row : word ≡ error_word → (same (argument_of line 1) internal_word && eqb (count_of line) 2) ≡ true → Read (error command.internal)
-  internal-row e f =
+  internal_row : word ≡ error_word → (same (argument_of line 1) internal_word && eqb (count_of line) 2) ≡ true → Read (error command.internal)
+  internal_row e f =
       let h = count 2 (same (argument_of line 1) internal_word) f in
       as_row (reports internal) (two_words_laws (words line) h.1 ∙ ap₂ (λ w v. w ∷ v ∷ []) e (same_eq (argument_of line 1) internal_word h.0))
 
-  identity-row : word ≡ error_word → (same (argument_of line 1) identity_word && eqb (count_of line) 3) ≡ true → Read (error_at command.identity (read_index (argument_of line 2)))
-  identity-row e f =
+  identity_row : word ≡ error_word → (same (argument_of line 1) identity_word && eqb (count_of line) 3) ≡ true → Read (error_at command.identity (read_index (argument_of line 2)))
+  identity_row e f =
       let h = count 3 (same (argument_of line 1) identity_word) f in
       as_row (reports (identity (argument_of line 2))) (words_three (words line) h.1 ∙ ap₂ (λ w v. w ∷ v ∷ argument_of line 2 ∷ []) e (same_eq (argument_of line 1) identity_word h.0))
 
 -- what is for one machine alone
 module _ (line body : List ℕ) where
-  error-rest : (machine : Machine) → argument_of line 0 ≡ error_word → ReadTwo machine line body (error_of machine line)
-  error-rest RecipientV1 e =
+  error_rest : (machine : Machine) → argument_of line 0 ≡ error_word → ReadTwo machine line body (error_of machine line)
+  error_rest RecipientV1 e =
       either RecipientV1 line body
       (λ f. let h = count RecipientV1 line body 3 (same (argument_of line 1) recipient_word) f in
       as_row (reports (recipient (argument_of line 2))) (refl, words_three (words line) h.1 ∙ ap₂ (λ w v. w ∷ v ∷ argument_of line 2 ∷ []) e (same_eq (argument_of line 1) recipient_word h.0)))
-      (λ f. wrong (error-known RecipientV1 line body e))
-  error-rest IdentityV1 e =
+      (λ f. wrong (error_known RecipientV1 line body e))
+  error_rest IdentityV1 e =
       either IdentityV1 line body
       (λ f. let h = count IdentityV1 line body 4 (same (argument_of line 1) stanza_word) f in
       as_row (reports (header (argument_of line 2) (argument_of line 3))) (refl, words_four (words line) h.1 ∙ ap₂ (λ w v. w ∷ v ∷ argument_of line 2 ∷ argument_of line 3 ∷ []) e (same_eq (argument_of line 1) stanza_word h.0)))
-      (λ f. wrong (error-known IdentityV1 line body e))
+      (λ f. wrong (error_known IdentityV1 line body e))
 
   error_row : (machine : Machine) → argument_of line 0 ≡ error_word → ReadTwo machine line body (error_command machine line)
-  error_row machine e = either machine line body (internal-row machine line body e) (λ f. either machine line body (identity-row machine line body e) (λ g. error-rest machine e))
+  error_row machine e = either machine line body (internal_row machine line body e) (λ f. either machine line body (identity_row machine line body e) (λ g. error_rest machine e))
 
   stanza_row : argument_of line 0 ≡ recipient_stanza_text → ReadTwo RecipientV1 line body (row_two RecipientStanza RecipientV1 line (length body))
   unfolding OneOf
@@ -217,28 +217,28 @@ module _ (line body : List ℕ) where
   apart v f e = true≢false (sym (same_refl v) ∙ ap (λ w. same w v) (sym e) ∙ f)
 
   -- the word that each machine has for itself; else any other
-  work-row : (machine : Machine) → ((argument_of line 0 ≡ returning_word machine → ⊥) → KnownTwo machine line → ⊥) →
+  work_row : (machine : Machine) → ((argument_of line 0 ≡ returning_word machine → ⊥) → KnownTwo machine line → ⊥) →
       ReadTwo machine line body (row_two (work_word machine (argument_of line 0)) machine line (length body))
-  work-row RecipientV1 none =
+  work_row RecipientV1 none =
       by_word RecipientV1 line body (same (argument_of line 0) recipient_stanza_text) RecipientStanza Other (λ f. stanza_row (same_eq (argument_of line 0) recipient_stanza_text f)) (λ f. unknown (none (apart recipient_stanza_text f)))
-  work-row IdentityV1 none = by_word IdentityV1 line body (same (argument_of line 0) file_key_word) FileKey Other (λ f. key_row (same_eq (argument_of line 0) file_key_word f)) (λ f. unknown (none (apart file_key_word f)))
+  work_row IdentityV1 none = by_word IdentityV1 line body (same (argument_of line 0) file_key_word) FileKey Other (λ f. key_row (same_eq (argument_of line 0) file_key_word f)) (λ f. unknown (none (apart file_key_word f)))
 
-  read-two : (machine : Machine) → ReadTwo machine line body (command_two machine line body)
+  read_two : (machine : Machine) → ReadTwo machine line body (command_two machine line body)
   unfolding command_two OneOf
-  read-two machine =
+  read_two machine =
       let w = argument_of line 0 in
       let last = work_word machine w in
       let fourth = pick (same w error_word) Error (pick (same w done_word) Done last) in
       let third = pick (same w request_secret) RequestSecret fourth in
       let second = pick (same w request_public) RequestPublic third in
       let first = pick (same w confirm_word) Confirm second in
-      by_word machine line body (same w msg_word) Msg first (λ f. msg-row machine line body (same_eq w msg_word f)) (λ f1.
-      by_word machine line body (same w confirm_word) Confirm second (λ f. confirm-row machine line body (same_eq w confirm_word f)) (λ f2.
-      by_word machine line body (same w request_public) RequestPublic third (λ f. public-row machine line body (same_eq w request_public f)) (λ f3.
-      by_word machine line body (same w request_secret) RequestSecret fourth (λ f. secret-row machine line body (same_eq w request_secret f)) (λ f4.
+      by_word machine line body (same w msg_word) Msg first (λ f. msg_row machine line body (same_eq w msg_word f)) (λ f1.
+      by_word machine line body (same w confirm_word) Confirm second (λ f. confirm_row machine line body (same_eq w confirm_word f)) (λ f2.
+      by_word machine line body (same w request_public) RequestPublic third (λ f. public_row machine line body (same_eq w request_public f)) (λ f3.
+      by_word machine line body (same w request_secret) RequestSecret fourth (λ f. secret_row machine line body (same_eq w request_secret f)) (λ f4.
       by_word machine line body (same w error_word) Error (pick (same w done_word) Done last) (λ f. error_row machine (same_eq w error_word f)) (λ f5.
-      by_word machine line body (same w done_word) Done last (λ f. done-row machine line body (same_eq w done_word f)) (λ f6.
-      work-row machine (λ f7.
+      by_word machine line body (same w done_word) Done last (λ f. done_row machine line body (same_eq w done_word f)) (λ f6.
+      work_row machine (λ f7.
       ⊎_elim (apart msg_word f1) (⊎_elim (apart confirm_word f2) (⊎_elim (apart request_public f3) (⊎_elim (apart request_secret f4) (⊎_elim f7 (⊎_elim (apart error_word f5) (⊎_elim (apart done_word f6) (λ z. z))))))))))))))
 
 -- ---- what is said, by the command
@@ -325,55 +325,55 @@ module _ (machine : Machine) (line body : List ℕ) where
   said_row ends_two h = record { row = h; small = tt }
 
   -- no row has the number 4
-  right-row : (x : SayingTwo (List ℕ)) → command_of x ≡ bad 4 → ⊥
-  right-row (asks message) e = let z : ◌≡◌ {A = ℕ} 0 1 = cc in omega arith
-  right-row (asks confirmation) e = let z : ◌≡◌ {A = ℕ} 0 1 = cc in omega arith
-  right-row (asks public_value) e = let z : ◌≡◌ {A = ℕ} 0 1 = cc in omega arith
-  right-row (asks secret_value) e = let z : ◌≡◌ {A = ℕ} 0 1 = cc in omega arith
-  right-row (returns_stanza t) e = by_index (λ j. stanza_at j ≡ bad 4 → ⊥) t (λ i l q e. let z : ◌≡◌ {A = ℕ} 0 1 = cc in omega arith) (λ n e. let z : ◌≡◌ {A = ℕ} 5 4 = cc in omega arith) e
-  right-row (returns_key t) e = by_index (λ j. key_at j ≡ bad 4 → ⊥) t (λ i l q e. let z : ◌≡◌ {A = ℕ} 0 1 = cc in omega arith) (λ n e. let z : ◌≡◌ {A = ℕ} 5 4 = cc in omega arith) e
-  right-row (reports internal) e = let z : ◌≡◌ {A = ℕ} 0 1 = cc in omega arith
-  right-row (reports (identity t)) e = by_index (λ j. error_at command.identity j ≡ bad 4 → ⊥) t (λ i l q e. let z : ◌≡◌ {A = ℕ} 0 1 = cc in omega arith) (λ n e. let z : ◌≡◌ {A = ℕ} 5 4 = cc in omega arith) e
-  right-row (reports (recipient t)) e = by_index (λ j. error_at command.recipient j ≡ bad 4 → ⊥) t (λ i l q e. let z : ◌≡◌ {A = ℕ} 0 1 = cc in omega arith) (λ n e. let z : ◌≡◌ {A = ℕ} 5 4 = cc in omega arith) e
-  right-row (reports (header t u)) e =
+  right_row : (x : SayingTwo (List ℕ)) → command_of x ≡ bad 4 → ⊥
+  right_row (asks message) e = let z : ◌≡◌ {A = ℕ} 0 1 = cc in omega arith
+  right_row (asks confirmation) e = let z : ◌≡◌ {A = ℕ} 0 1 = cc in omega arith
+  right_row (asks public_value) e = let z : ◌≡◌ {A = ℕ} 0 1 = cc in omega arith
+  right_row (asks secret_value) e = let z : ◌≡◌ {A = ℕ} 0 1 = cc in omega arith
+  right_row (returns_stanza t) e = by_index (λ j. stanza_at j ≡ bad 4 → ⊥) t (λ i l q e. let z : ◌≡◌ {A = ℕ} 0 1 = cc in omega arith) (λ n e. let z : ◌≡◌ {A = ℕ} 5 4 = cc in omega arith) e
+  right_row (returns_key t) e = by_index (λ j. key_at j ≡ bad 4 → ⊥) t (λ i l q e. let z : ◌≡◌ {A = ℕ} 0 1 = cc in omega arith) (λ n e. let z : ◌≡◌ {A = ℕ} 5 4 = cc in omega arith) e
+  right_row (reports internal) e = let z : ◌≡◌ {A = ℕ} 0 1 = cc in omega arith
+  right_row (reports (identity t)) e = by_index (λ j. error_at command.identity j ≡ bad 4 → ⊥) t (λ i l q e. let z : ◌≡◌ {A = ℕ} 0 1 = cc in omega arith) (λ n e. let z : ◌≡◌ {A = ℕ} 5 4 = cc in omega arith) e
+  right_row (reports (recipient t)) e = by_index (λ j. error_at command.recipient j ≡ bad 4 → ⊥) t (λ i l q e. let z : ◌≡◌ {A = ℕ} 0 1 = cc in omega arith) (λ n e. let z : ◌≡◌ {A = ℕ} 5 4 = cc in omega arith) e
+  right_row (reports (header t u)) e =
       by_index (λ j. header_at j (read_index u) ≡ bad 4 → ⊥) t
       (λ f l q. by_index (λ j. header_at (number f) j ≡ bad 4 → ⊥) u (λ i l q e. let z : ◌≡◌ {A = ℕ} 0 1 = cc in omega arith) (λ n e. let z : ◌≡◌ {A = ℕ} 5 4 = cc in omega arith)) (λ n e. let z : ◌≡◌ {A = ℕ} 5 4 = cc in omega arith) e
-  right-row ends_two e = let z : ◌≡◌ {A = ℕ} 0 1 = cc in omega arith
+  right_row ends_two e = let z : ◌≡◌ {A = ℕ} 0 1 = cc in omega arith
 
-  pub said-two : SaidTwo (command_two machine line body)
-  said-two = go (command_two machine line body) refl (read-two line body machine)
+  pub said_two : SaidTwo (command_two machine line body)
+  said_two = go (command_two machine line body) refl (read_two line body machine)
     where
       go : (c : CommandTwo) → command_two machine line body ≡ c → ReadTwo machine line body c → SaidTwo c
       go c e (unknown n) = n
-      go c e (wrong k) = inl (refl, (k, λ x h. right-row x (sym (row-command line body machine x h) ∙ e)))
+      go c e (wrong k) = inl (refl, (k, λ x h. right_row x (sym (row_command_lem line body machine x h) ∙ e)))
       go c e (as_row x h) = said_row x h
 
   -- and back
-  pub says-command : (x : SayingTwo ℕ) → Says x → command_two machine line body ≡ command_said x
-  says-command x h = row-command line body machine (written_two x) h.row ∙ said_as x h.small
+  pub says_command : (x : SayingTwo ℕ) → Says x → command_two machine line body ≡ command_said x
+  says_command x h = row_command_lem line body machine (written_two x) h.row ∙ said_as x h.small
 
   -- a row whose texts are not all indices
-  pub misindexed-command : Misindexed Row indices_two → command_two machine line body ≡ bad 5
+  pub misindexed_command : Misindexed Row indices_two → command_two machine line body ≡ bad 5
   unfolding All
-  misindexed-command (x, h, n) = row-command line body machine x h ∙ bad-row x n
+  misindexed_command (x, h, n) = row_command_lem line body machine x h ∙ bad_row x n
     where
-      bad-row : (x : SayingTwo (List ℕ)) → (All IsIndex (indices_two x) → ⊥) → command_of x ≡ bad 5
-      bad-row (asks message) n = absurd (n tt)
-      bad-row (asks confirmation) n = absurd (n tt)
-      bad-row (asks public_value) n = absurd (n tt)
-      bad-row (asks secret_value) n = absurd (n tt)
-      bad-row (returns_stanza t) n = by_index (λ j. stanza_at j ≡ bad 5) t (λ i l e. absurd (n ((i, l, e), tt))) (λ m. refl)
-      bad-row (returns_key t) n = by_index (λ j. key_at j ≡ bad 5) t (λ i l e. absurd (n ((i, l, e), tt))) (λ m. refl)
-      bad-row (reports internal) n = absurd (n tt)
-      bad-row (reports (identity t)) n = by_index (λ j. error_at command.identity j ≡ bad 5) t (λ i l e. absurd (n ((i, l, e), tt))) (λ m. refl)
-      bad-row (reports (recipient t)) n = by_index (λ j. error_at command.recipient j ≡ bad 5) t (λ i l e. absurd (n ((i, l, e), tt))) (λ m. refl)
-      bad-row (reports (header t u)) n =
+      bad_row : (x : SayingTwo (List ℕ)) → (All IsIndex (indices_two x) → ⊥) → command_of x ≡ bad 5
+      bad_row (asks message) n = absurd (n tt)
+      bad_row (asks confirmation) n = absurd (n tt)
+      bad_row (asks public_value) n = absurd (n tt)
+      bad_row (asks secret_value) n = absurd (n tt)
+      bad_row (returns_stanza t) n = by_index (λ j. stanza_at j ≡ bad 5) t (λ i l e. absurd (n ((i, l, e), tt))) (λ m. refl)
+      bad_row (returns_key t) n = by_index (λ j. key_at j ≡ bad 5) t (λ i l e. absurd (n ((i, l, e), tt))) (λ m. refl)
+      bad_row (reports internal) n = absurd (n tt)
+      bad_row (reports (identity t)) n = by_index (λ j. error_at command.identity j ≡ bad 5) t (λ i l e. absurd (n ((i, l, e), tt))) (λ m. refl)
+      bad_row (reports (recipient t)) n = by_index (λ j. error_at command.recipient j ≡ bad 5) t (λ i l e. absurd (n ((i, l, e), tt))) (λ m. refl)
+      bad_row (reports (header t u)) n =
           by_index (λ j. header_at j (read_index u) ≡ bad 5) t (λ f l e. by_index (λ j. header_at (number f) j ≡ bad 5) u (λ i m g. absurd (n ((f, l, e), ((i, m, g), tt)))) (λ m. refl)) (λ m. refl)
-      bad-row ends_two n = absurd (n tt)
+      bad_row ends_two n = absurd (n tt)
 
   -- a word of the table and no row
-  pub wrong-command : Wrong (KnownTwo machine line) Row → command_two machine line body ≡ bad 4
-  wrong-command w = go (command_two machine line body) refl (read-two line body machine)
+  pub wrong_command : Wrong (KnownTwo machine line) Row → command_two machine line body ≡ bad 4
+  wrong_command w = go (command_two machine line body) refl (read_two line body machine)
     where
       go : (c : CommandTwo) → command_two machine line body ≡ c → ReadTwo machine line body c → c ≡ bad 4
       go c e (unknown n) = absurd (n w.0)
@@ -384,30 +384,30 @@ module _ (machine : Machine) (line body : List ℕ) where
   first_word : (v : List ℕ) (ws : List (List ℕ)) → words line ≡ v ∷ ws → argument_of line 0 ≡ v
   first_word v ws e = ap (λ w. get_or w 0 []) e
 
-  labels-known : Labels (words line) → KnownTwo machine line
+  labels_known : Labels (words line) → KnownTwo machine line
   unfolding OneOf
-  labels-known (one_label a e f) = inr (inl (first_word confirm_word (a ∷ []) e))
-  labels-known (two_labels a b e f g) = inr (inl (first_word confirm_word (a ∷ b ∷ []) e))
+  labels_known (one_label a e f) = inr (inl (first_word confirm_word (a ∷ []) e))
+  labels_known (two_labels a b e f g) = inr (inl (first_word confirm_word (a ∷ b ∷ []) e))
 
-  row-known : (x : SayingTwo (List ℕ)) → Row x → KnownTwo machine line
+  row_known : (x : SayingTwo (List ℕ)) → Row x → KnownTwo machine line
   unfolding OneOf
-  row-known (asks message) h = inl (first_word msg_word [] h)
-  row-known (asks confirmation) h = labels-known h
-  row-known (asks public_value) h = inr (inr (inl (first_word request_public [] h)))
-  row-known (asks secret_value) h = inr (inr (inr (inl (first_word request_secret [] h))))
-  row-known (returns_stanza f) h = inr (inr (inr (inr (inl (first_word recipient_stanza_text _ h.1.2 ∙ ap returning_word (sym h.0))))))
-  row-known (returns_key f) h = inr (inr (inr (inr (inl (first_word file_key_word _ h.1 ∙ ap returning_word (sym h.0))))))
-  row-known (reports internal) h = inr (inr (inr (inr (inr (inl (first_word error_word _ h))))))
-  row-known (reports (identity i)) h = inr (inr (inr (inr (inr (inl (first_word error_word _ h))))))
-  row-known (reports (recipient i)) h = inr (inr (inr (inr (inr (inl (first_word error_word _ h.1))))))
-  row-known (reports (header f i)) h = inr (inr (inr (inr (inr (inl (first_word error_word _ h.1))))))
-  row-known ends_two h = inr (inr (inr (inr (inr (inr (inl (first_word done_word [] h.0)))))))
+  row_known (asks message) h = inl (first_word msg_word [] h)
+  row_known (asks confirmation) h = labels_known h
+  row_known (asks public_value) h = inr (inr (inl (first_word request_public [] h)))
+  row_known (asks secret_value) h = inr (inr (inr (inl (first_word request_secret [] h))))
+  row_known (returns_stanza f) h = inr (inr (inr (inr (inl (first_word recipient_stanza_text _ h.1.2 ∙ ap returning_word (sym h.0))))))
+  row_known (returns_key f) h = inr (inr (inr (inr (inl (first_word file_key_word _ h.1 ∙ ap returning_word (sym h.0))))))
+  row_known (reports internal) h = inr (inr (inr (inr (inr (inl (first_word error_word _ h))))))
+  row_known (reports (identity i)) h = inr (inr (inr (inr (inr (inl (first_word error_word _ h))))))
+  row_known (reports (recipient i)) h = inr (inr (inr (inr (inr (inl (first_word error_word _ h.1))))))
+  row_known (reports (header f i)) h = inr (inr (inr (inr (inr (inl (first_word error_word _ h.1))))))
+  row_known ends_two h = inr (inr (inr (inr (inr (inr (inl (first_word done_word [] h.0)))))))
 
   -- no word of the table
-  pub unknown-command : (KnownTwo machine line → ⊥) → command_two machine line body ≡ other
-  unknown-command u = go (command_two machine line body) (read-two line body machine)
+  pub unknown_command : (KnownTwo machine line → ⊥) → command_two machine line body ≡ other
+  unknown_command u = go (command_two machine line body) (read_two line body machine)
     where
       go : (c : CommandTwo) → ReadTwo machine line body c → c ≡ other
       go c (unknown n) = refl
       go c (wrong k) = absurd (u k)
-      go c (as_row x h) = absurd (u (row-known x h))
+      go c (as_row x h) = absurd (u (row_known x h))

@@ -62,10 +62,10 @@ module _ (m : Machine) (g : List ℕ) (x : Bool) (q : Phase) (t : Tables) (b : B
       go false h = refl
 
   -- a stanza that can be written, where the name is said otherwise
-  pub sent-from : (g' : List ℕ) (late n : ℕ) (c : CommandOne) (a : Answer) (p : Phase) (t' : Tables) (b' : BuffersOne) (o' : List ℕ) → g' ≡ g → late ≡ shortness (stanza_text l y) out →
+  pub sent_from : (g' : List ℕ) (late n : ℕ) (c : CommandOne) (a : Answer) (p : Phase) (t' : Tables) (b' : BuffersOne) (o' : List ℕ) → g' ≡ g → late ≡ shortness (stanza_text l y) out →
       n ≡ number_one m g' t b late l y → c ≡ command_in m g' l y → a ≡ pick (eqb n 0) (written l y out) (refused n) → p ≡ phase_sent q n c → t' ≡ tables_one m g' t b late l y → b' ≡ buffers_one m g' t b late l y →
       o' ≡ pick (eqb n 0) (buffer_after l y out) out → sending a (session_in m g x p t') b' o' ≡ sent_line (session_in m g x q t) b l y out
-  sent-from g' late n c a p t' b' o' eg el en ec ea ep et eb eo =
+  sent_from g' late n c a p t' b' o' eg el en ec ea ep et eb eo =
       rw (ea, ep, et, eb, eo, en, ec, eg, el) (step_is ∙ sym (sends_writable (session_in m g x q t) b l y out w))
 
 -- a line that cannot be written

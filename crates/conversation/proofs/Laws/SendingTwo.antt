@@ -42,10 +42,10 @@ module _ (m : Machine) (g : List ℕ) (x : Bool) (q : Phase) (t : Tables) (b : B
       pick f (sending (bytes (length (stanza_text l y))) (session_in m g x (phase_sent c) (applied t b c (payload_of c l y))) (filled_by t b c (payload_of c l y)) (filled (stanza_text l y) out))
       (refused_sending n (session_in m g x q t) b out)
 
-  came-is : (c : CommandTwo) → c ≡ row_two (word_two m (argument_of l 0)) m l (length y) →
+  came_is : (c : CommandTwo) → c ≡ row_two (word_two m (argument_of l 0)) m l (length y) →
       came c (first_of (decided true t b c (length (payload_of c l y))) (shortness (stanza_text l y) out)) (eqb (first_of (decided true t b c (length (payload_of c l y))) (shortness (stanza_text l y) out)) 0) ≡ sent_line (session_in m g x q t) b l y out
   unfolding sent_line command_two
-  came-is c e = rw e (ap (λ v. let n = first_of (pick v (decided true t b (command_two m l y) (length (payload_of (command_two m l y) l y))) 17) (shortness (stanza_text l y) out) in came (command_two m l y) n (eqb n 0)) (sym w))
+  came_is c e = rw e (ap (λ v. let n = first_of (pick v (decided true t b (command_two m l y) (length (payload_of (command_two m l y) l y))) 17) (shortness (stanza_text l y) out) in came (command_two m l y) n (eqb n 0)) (sym w))
 
   -- the parts, by the same
   parts : (c : CommandTwo) (n : ℕ) (f : Bool) → (f ≡ true → overflows (stanza_text l y) out ≡ false) →
@@ -57,17 +57,17 @@ module _ (m : Machine) (g : List ℕ) (x : Bool) (q : Phase) (t : Tables) (b : B
   parts c n false h = refl
 
   -- a stanza that can be written, by its command, what is ruled, the output's shortness and the number
-  pub sent-from : (c : CommandTwo) (r late n : ℕ) (a : Answer) (p : Phase) (t' : Tables) (b' : BuffersTwo) (o' : List ℕ) →
+  pub sent_from : (c : CommandTwo) (r late n : ℕ) (a : Answer) (p : Phase) (t' : Tables) (b' : BuffersTwo) (o' : List ℕ) →
       c ≡ row_two (word_two m (argument_of l 0)) m l (length y) → r ≡ ruled true t c → late ≡ shortness (stanza_text l y) out →
       n ≡ first_of (first_of r (when (is_spaceless t b c (length (payload_of c l y))) 8)) late → a ≡ pick (eqb n 0) (written l y out) (refused n) → p ≡ pick (eqb n 0) (phase_sent c) q →
       t' ≡ pick (eqb (first_of (first_of r (when (is_spaceless t b c (length (payload_of c l y))) 8)) late) 0) (applied t b c (payload_of c l y)) t →
       b' ≡ pick (eqb (first_of (first_of r (when (is_spaceless t b c (length (payload_of c l y))) 8)) late) 0) (filled_by t b c (payload_of c l y)) b → o' ≡ pick (eqb n 0) (buffer_after l y out) out →
       sending a (session_in m g x p t') b' o' ≡ sent_line (session_in m g x q t) b l y out
   unfolding decided
-  sent-from c r late n a p t' b' o' ec er el en ea ep et eb eo =
+  sent_from c r late n a p t' b' o' ec er el en ea ep et eb eo =
       let k = first_of (decided true t b c (length (payload_of c l y))) (shortness (stanza_text l y) out) in
       rw (ea, ep, et, eb, eo, en, er, el)
-      (parts c k (eqb k 0) (λ f. short_none (overflows (stanza_text l y) out) ((first_iff (decided true t b c (length (payload_of c l y))) (shortness (stanza_text l y) out)).0 (eqb-true k 0 f)).1) ∙ came-is c ec)
+      (parts c k (eqb k 0) (λ f. short_none (overflows (stanza_text l y) out) ((first_iff (decided true t b c (length (payload_of c l y))) (shortness (stanza_text l y) out)).0 (eqb-true k 0 f)).1) ∙ came_is c ec)
 
 -- a line that cannot be written
 pub sent_unwritable : (s : Session) (b : BuffersTwo) (l y out : List ℕ) → is_writable l y ≡ false → sending (refused 17) s b out ≡ sent_line s b l y out

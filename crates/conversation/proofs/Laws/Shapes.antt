@@ -77,8 +77,8 @@ alone t w =
     record { whole = h.0; line = h.1; body = h.2 }
 
 module _ (t : List ℕ) (w : BeginsWhole t) where
-  pub first-whole : Whole (first_of_text t)
-  first-whole = (alone t w).whole
+  pub first_whole : Whole (first_of_text t)
+  first_whole = (alone t w).whole
 
 -- its arguments' text and its body are those of the text
 module _ (t : List ℕ) where
@@ -120,12 +120,12 @@ module _ (s : Session) (b : Buffers) where
   abbrev one_out : receiving.Received → Outcome
   one_out r = received_outcome b.second r
 
-  one-as : (u : List ℕ) (w : BeginsWhole u) → receiving.received_as (read_first u) s u b.first ≡ receiving.received_stanza s b.first (line_in u) (body_in u) w.taken
-  one-as u w = subst (λ r. receiving.received_as r s u b.first ≡ receiving.received_stanza s b.first (line_read r u) (body_read r u) w.taken) (sym w.read) refl
+  one_as : (u : List ℕ) (w : BeginsWhole u) → receiving.received_as (read_first u) s u b.first ≡ receiving.received_stanza s b.first (line_in u) (body_in u) w.taken
+  one_as u w = subst (λ r. receiving.received_as r s u b.first ≡ receiving.received_stanza s b.first (line_read r u) (body_read r u) w.taken) (sym w.read) refl
 
-  one-alone : (t : List ℕ) (r : Reading) → read_first t ≡ r → outcome s b (receive (first_by r t)) ≡ outcome s b (receive t)
+  one_alone : (t : List ℕ) (r : Reading) → read_first t ≡ r → outcome s b (receive (first_by r t)) ≡ outcome s b (receive t)
   unfolding receiving.received
-  one-alone t (stanza e n k) q =
+  one_alone t (stanza e n k) q =
       let w : BeginsWhole t = record { line = e; body = n; taken = k; read = q } in
       let u = take k t in
       let a = alone t w in
@@ -134,21 +134,21 @@ module _ (s : Session) (b : Buffers) where
       let l : line_in u ≡ line_in t = ap line_in (sym f) ∙ a.line in
       let y : body_in u ≡ body_in t = ap body_in (sym f) ∙ a.body in
       other_branch one_out (eqb (turn_one s.phase) 0) _ _ _
-      (ap one_out (one-as u (record { line = v.line; body = v.body; taken = length u; read = v.read }) ∙ ap₂ (λ l y. receiving.received_stanza s b.first l y (length u)) l y)
-      ∙ ap (λ j. one_out (receiving.received_stanza s b.first (line_in t) (body_in t) j)) (taken_length t e n k q) ∙ ap one_out (sym (one-as t w)))
-  one-alone t (refused n) q = refl
+      (ap one_out (one_as u (record { line = v.line; body = v.body; taken = length u; read = v.read }) ∙ ap₂ (λ l y. receiving.received_stanza s b.first l y (length u)) l y)
+      ∙ ap (λ j. one_out (receiving.received_stanza s b.first (line_in t) (body_in t) j)) (taken_length t e n k q) ∙ ap one_out (sym (one_as t w)))
+  one_alone t (refused n) q = refl
 
   -- in phase two
   module _ (out : List ℕ) where
     abbrev two_out : receiving_two.Received → Outcome
     two_out r = received_two_outcome b.first r
 
-    two-as : (u : List ℕ) (w : BeginsWhole u) → receiving_two.received_as (read_first u) s u b.second out ≡ receiving_two.received_stanza s b.second out (line_in u) (body_in u) w.taken
-    two-as u w = subst (λ r. receiving_two.received_as r s u b.second out ≡ receiving_two.received_stanza s b.second out (line_read r u) (body_read r u) w.taken) (sym w.read) refl
+    two_as : (u : List ℕ) (w : BeginsWhole u) → receiving_two.received_as (read_first u) s u b.second out ≡ receiving_two.received_stanza s b.second out (line_in u) (body_in u) w.taken
+    two_as u w = subst (λ r. receiving_two.received_as r s u b.second out ≡ receiving_two.received_stanza s b.second out (line_read r u) (body_read r u) w.taken) (sym w.read) refl
 
-    two-alone : (t : List ℕ) (r : Reading) → read_first t ≡ r → outcome s b (receive_two (first_by r t) out) ≡ outcome s b (receive_two t out)
+    two_alone : (t : List ℕ) (r : Reading) → read_first t ≡ r → outcome s b (receive_two (first_by r t) out) ≡ outcome s b (receive_two t out)
     unfolding receiving_two.received
-    two-alone t (stanza e n k) q =
+    two_alone t (stanza e n k) q =
         let w : BeginsWhole t = record { line = e; body = n; taken = k; read = q } in
         let u = take k t in
         let a = alone t w in
@@ -157,15 +157,15 @@ module _ (s : Session) (b : Buffers) where
         let l : line_in u ≡ line_in t = ap line_in (sym f) ∙ a.line in
         let y : body_in u ≡ body_in t = ap body_in (sym f) ∙ a.body in
         other_branch two_out (eqb (turn_two s.phase) 0) _ _ _
-        (ap two_out (two-as u (record { line = v.line; body = v.body; taken = length u; read = v.read }) ∙ ap₂ (λ l y. receiving_two.received_stanza s b.second out l y (length u)) l y)
-        ∙ ap (λ j. two_out (receiving_two.received_stanza s b.second out (line_in t) (body_in t) j)) (taken_length t e n k q) ∙ ap two_out (sym (two-as t w)))
-    two-alone t (refused n) q = refl
+        (ap two_out (two_as u (record { line = v.line; body = v.body; taken = length u; read = v.read }) ∙ ap₂ (λ l y. receiving_two.received_stanza s b.second out l y (length u)) l y)
+        ∙ ap (λ j. two_out (receiving_two.received_stanza s b.second out (line_in t) (body_in t) j)) (taken_length t e n k q) ∙ ap two_out (sym (two_as t w)))
+    two_alone t (refused n) q = refl
 
 -- it does the same
 pub same_outcome : (s : Session) (b : Buffers) (c : Call) → outcome s b (alone_call c) ≡ outcome s b c
-same_outcome s b (receive text) = one-alone s b text (read_first text) refl
+same_outcome s b (receive text) = one_alone s b text (read_first text) refl
 same_outcome s b (send word arguments body out) = refl
-same_outcome s b (receive_two text out) = two-alone s b out text (read_first text) refl
+same_outcome s b (receive_two text out) = two_alone s b out text (read_first text) refl
 same_outcome s b (reply r body out) = refl
 same_outcome s b (send_two word arguments body out) = refl
 same_outcome s b (respond text out) = refl
@@ -242,9 +242,9 @@ module _ (out : List ℕ) (outs : Supply) where
   unfolding lent_first
   lent_one = fun_ext (λ i. ap (lent_first out outs) (add-one i))
 
-  pub lent-more : (n : ℕ) → skip (suc n) (lent_first out outs) ≡ skip n outs
+  pub lent_more : (n : ℕ) → skip (suc n) (lent_first out outs) ≡ skip n outs
   unfolding lent_first
-  lent-more n = fun_ext (λ i. ap (lent_first out outs) (add-suc i n))
+  lent_more n = fun_ext (λ i. ap (lent_first out outs) (add-suc i n))
 
 pub skip_none : (outs : Supply) → skip 0 outs ≡ outs
 skip_none outs = fun_ext (λ i. ap outs (add-zero i))

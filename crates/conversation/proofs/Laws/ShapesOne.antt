@@ -3,7 +3,7 @@ use Prim.Native.Nat.{ℕ, ◌≤◌}
 use mathlib.Core.Path.{◌≡◌, refl, sym, ap, ap₂, ◌∙◌, subst}
 use mathlib.Core.Bool.{Bool, true, false, true≢false}
 use mathlib.Core.Logic.{◌⊎◌, inl, inr, ⊎_elim, ◌↔◌}
-use mathlib.Core.List.{List, [], ◌∷◌, ◌++◌, map, map_append}
+use mathlib.Core.List.{List, [], ◌∷◌, ◌++◌, map, map-append}
 use lib.ListN.{length}
 use native.Mathlib.Omega.{arith}
 use Rattle.refusal.specs.Pick.{pick}
@@ -28,9 +28,9 @@ use Rattle.conversation.specs.Phases.{All, Whole, line_in, body_in, is_done, com
 use Rattle.conversation.specs.Allowed.{is_right, rows_in, bytes_of, Rising, Distinct, slots_of, Allowed}
 use Rattle.conversation.specs.Shapes.{AcceptedTo, BeginsWhole, FrontOne, ShapedOne}
 use Rattle.conversation.proofs.Laws.Accepted.{accepted}
-use Rattle.conversation.proofs.Laws.AllowedOne.{texts-iff}
+use Rattle.conversation.proofs.Laws.AllowedOne.{texts_iff}
 use Rattle.conversation.proofs.Laws.Lists.{all_append, all_map, all_weaker}
-use Rattle.conversation.proofs.Laws.Shapes.{begins_whole, first_of_text, first-whole, first_line_same, first_body, alone_call, same_numbers}
+use Rattle.conversation.proofs.Laws.Shapes.{begins_whole, first_of_text, first_whole, first_line_same, first_body, alone_call, same_numbers}
 use Rattle.conversation.proofs.Laws.Steps.{Proper, proper, proper_phase}
 
 -- ---- done and its phase
@@ -53,11 +53,11 @@ module _ (s : Session) (b : Buffers) (t : List ℕ) (z : (outcome s b (receive t
   behind = ap (λ x. x.phase) (accepted s b (receive t) z).applied.session
 
   -- an accepted done leads to phase two, and any other command leaves phase one
-  pub behind-done : is_done t ≡ true → (outcome s b (receive t)).session.phase ≡ Two
-  behind-done d = behind ∙ done_phase s.tables b.first _ (is_bare (line_in t) (length (body_in t)) 0) c (one_done s.machine s.name (line_in t) (body_in t) d) (accepted s b (receive t) z).applied.faultless
+  pub behind_done : is_done t ≡ true → (outcome s b (receive t)).session.phase ≡ Two
+  behind_done d = behind ∙ done_phase s.tables b.first _ (is_bare (line_in t) (length (body_in t)) 0) c (one_done s.machine s.name (line_in t) (body_in t) d) (accepted s b (receive t) z).applied.faultless
 
-  pub behind-other : is_done t ≡ false → (outcome s b (receive t)).session.phase ≡ One
-  behind-other d = behind ∙ proper_phase c (subst (λ f. Proper f c) d (proper s.machine s.name t))
+  pub behind_other : is_done t ≡ false → (outcome s b (receive t)).session.phase ≡ One
+  behind_other d = behind ∙ proper_phase c (subst (λ f. Proper f c) d (proper s.machine s.name t))
 
   begun : BeginsWhole t
   begun = begins_whole t (accepted s b (receive t) z).writable
@@ -93,10 +93,10 @@ shape_of s b (t ∷ ts) p a =
     let w = begun s b t a.0 in
     cases (is_done t)
     (λ d.
-    let e = behind-done s b t a.0 d in
+    let e = behind_done s b t a.0 d in
     let n = none_behind s' b' ts e a.1 in
     subst (λ ts. Shape (after s' b' (map receive ts)).session.phase (t ∷ ts)) (sym n) (inl (e, one_text t w d)))
-    (λ d. shape_more _ t ts w d (shape_of s' b' ts (behind-other s b t a.0 d) a.1))
+    (λ d. shape_more _ t ts w d (shape_of s' b' ts (behind_other s b t a.0 d) a.1))
 
 -- one shape excludes the other
 shape_front : (ts : List (List ℕ)) → ShapedOne ts → FrontOne ts → ⊥
@@ -113,7 +113,7 @@ first_calls [] = refl
 first_calls (t ∷ ts) = ap (λ cs. receive (first_of_text t) ∷ cs) (first_calls ts)
 
 first_wholes : (ts : List (List ℕ)) → All BeginsWhole ts → All Whole (firsts ts)
-first_wholes ts h = (all_map first_of_text Whole ts).1 (all_weaker first-whole ts h)
+first_wholes ts h = (all_map first_of_text Whole ts).1 (all_weaker first_whole ts h)
 
 first_done : (t : List ℕ) → is_done (first_of_text t) ≡ is_done t
 first_done t = ap (λ l. same (argument_of l 0) done_word) (first_line_same t)
@@ -131,8 +131,8 @@ all_same f r g e xs = (
 )
 
 module _ (machine : Machine) (name : List ℕ) where
-  first-command : (t : List ℕ) → command_of machine name (first_of_text t) ≡ command_of machine name t
-  first-command t = ap₂ (one.command_in machine name) (first_line_same t) (first_body t)
+  first_command : (t : List ℕ) → command_of machine name (first_of_text t) ≡ command_of machine name t
+  first_command t = ap₂ (one.command_in machine name) (first_line_same t) (first_body t)
 
   first_rows : (k : KindOne) (ts : List (List ℕ)) → rows_in machine name k (firsts ts) ≡ rows_in machine name k ts
   unfolding rows_in
@@ -140,22 +140,22 @@ module _ (machine : Machine) (name : List ℕ) where
   first_rows k (t ∷ ts) =
       ap₂ (λ a b. a ++ b) (ap₂ (λ l y. one_kind.rows_of (one.command_in machine name l y) k (one.payload_in machine name l y)) (first_line_same t) (first_body t)) (first_rows k ts)
 
-  first-right : (ts : List (List ℕ)) → All (λ t. is_right (command_of machine name t) ≡ true) (firsts ts) ↔ All (λ t. is_right (command_of machine name t) ≡ true) ts
-  first-right = all_same (command_of machine name) is_right first_of_text first-command
+  first_right : (ts : List (List ℕ)) → All (λ t. is_right (command_of machine name t) ≡ true) (firsts ts) ↔ All (λ t. is_right (command_of machine name t) ≡ true) ts
+  first_right = all_same (command_of machine name) is_right first_of_text first_command
 
   module _ (b : one.BuffersOne) (ts : List (List ℕ)) where
-    allowed-first : Allowed machine name b (firsts ts) → Allowed machine name b ts
-    allowed-first a = record {
-      right = (first-right ts).0 a.right;
+    allowed_first : Allowed machine name b (firsts ts) → Allowed machine name b ts
+    allowed_first a = record {
+      right = (first_right ts).0 a.right;
       slots = λ k. subst (λ r. length r ≤ slots_of k) (first_rows k ts) (a.slots k);
       bytes = λ k. subst (λ r. bytes_of r ≤ length (one_kind.buffer_of k b)) (first_rows k ts) (a.bytes k);
       rising = subst Rising (first_rows headers ts) a.rising;
       distinct = subst Distinct (first_rows recipients ts) a.distinct;
     }
 
-    first-allowed : Allowed machine name b ts → Allowed machine name b (firsts ts)
-    first-allowed a = record {
-      right = (first-right ts).1 a.right;
+    first_allowed : Allowed machine name b ts → Allowed machine name b (firsts ts)
+    first_allowed a = record {
+      right = (first_right ts).1 a.right;
       slots = λ k. subst (λ r. length r ≤ slots_of k) (sym (first_rows k ts)) (a.slots k);
       bytes = λ k. subst (λ r. bytes_of r ≤ length (one_kind.buffer_of k b)) (sym (first_rows k ts)) (a.bytes k);
       rising = subst Rising (sym (first_rows headers ts)) a.rising;
@@ -169,16 +169,16 @@ module _ (machine : Machine) (name : List ℕ) where
     start = opened_session machine name screen
 
     -- texts of which only the last may be done
-    last-iff : (xs : List (List ℕ)) (y : List ℕ) → All BeginsWhole (xs ++ (y ∷ [])) → All (λ t. is_done t ≡ false) xs →
+    last_iff : (xs : List (List ℕ)) (y : List ℕ) → All BeginsWhole (xs ++ (y ∷ [])) → All (λ t. is_done t ≡ false) xs →
         Accepted start b (map receive (xs ++ (y ∷ []))) ↔ Allowed machine name b.first (xs ++ (y ∷ []))
-    last-iff xs y w d =
+    last_iff xs y w d =
         let ts = xs ++ (y ∷ []) in
-        let e : firsts ts ≡ firsts xs ++ (first_of_text y ∷ []) = map_append first_of_text xs (y ∷ []) in
+        let e : firsts ts ≡ firsts xs ++ (first_of_text y ∷ []) = map-append first_of_text xs (y ∷ []) in
         let n : numbers start b (map receive (firsts xs ++ (first_of_text y ∷ []))) ≡ numbers start b (map receive ts) =
         ap (λ l. numbers start b (map receive l)) (sym e) ∙ ap (numbers start b) (first_calls ts) ∙ same_numbers start b (map receive ts) in
-        let i = texts-iff machine name screen b (firsts xs) (first_of_text y) (subst (All Whole) e (first_wholes ts w)) ((all_map first_of_text (λ t. is_done t ≡ false) xs).1 (all_weaker (λ t h. first_done t ∙ h) xs d)) in (
-          λ a. allowed-first b.first ts (subst (Allowed machine name b.first) (sym e) (i.0 (subst AllZero (sym n) a))),
-          λ h. subst AllZero n (i.1 (subst (Allowed machine name b.first) e (first-allowed b.first ts h))),
+        let i = texts_iff machine name screen b (firsts xs) (first_of_text y) (subst (All Whole) e (first_wholes ts w)) ((all_map first_of_text (λ t. is_done t ≡ false) xs).1 (all_weaker (λ t h. first_done t ∙ h) xs d)) in (
+          λ a. allowed_first b.first ts (subst (Allowed machine name b.first) (sym e) (i.0 (subst AllZero (sym n) a))),
+          λ h. subst AllZero n (i.1 (subst (Allowed machine name b.first) e (first_allowed b.first ts h))),
         )
 
     none_allowed : Allowed machine name b.first []
@@ -186,29 +186,29 @@ module _ (machine : Machine) (name : List ℕ) where
     none_allowed = record { right = tt; slots = λ k. omega arith; bytes = λ k. omega arith; rising = tt; distinct = tt }
 
     -- texts of which none is done
-    front-iff : (ts : List (List ℕ)) → FrontOne ts → Accepted start b (map receive ts) ↔ Allowed machine name b.first ts
-    front-iff [] f = (λ a. none_allowed, λ h. unfold AllZero in unfold numbers in tt)
-    front-iff (t ∷ ts) f =
+    front_iff : (ts : List (List ℕ)) → FrontOne ts → Accepted start b (map receive ts) ↔ Allowed machine name b.first ts
+    front_iff [] f = (λ a. none_allowed, λ h. unfold AllZero in unfold numbers in tt)
+    front_iff (t ∷ ts) f =
         let v = lasts t ts in
         let e = v.2 in
         subst (λ l. Accepted start b (map receive l) ↔ Allowed machine name b.first l) (sym e)
-        (last-iff v.0 v.1 (subst (All BeginsWhole) e f.whole) ((all_append (λ t. is_done t ≡ false) v.0 (v.1 ∷ [])).0 (subst (All (λ t. is_done t ≡ false)) e f.none_done)).0)
+        (last_iff v.0 v.1 (subst (All BeginsWhole) e f.whole) ((all_append (λ t. is_done t ≡ false) v.0 (v.1 ∷ [])).0 (subst (All (λ t. is_done t ≡ false)) e f.none_done)).0)
 
-    shaped-iff : (ts : List (List ℕ)) → ShapedOne ts → Accepted start b (map receive ts) ↔ Allowed machine name b.first ts
-    shaped-iff ts h =
-        subst (λ l. Accepted start b (map receive l) ↔ Allowed machine name b.first l) (sym h.texts) (last-iff h.ahead h.last (subst (All BeginsWhole) h.texts h.whole) h.done_once)
+    shaped_iff : (ts : List (List ℕ)) → ShapedOne ts → Accepted start b (map receive ts) ↔ Allowed machine name b.first ts
+    shaped_iff ts h =
+        subst (λ l. Accepted start b (map receive l) ↔ Allowed machine name b.first l) (sym h.texts) (last_iff h.ahead h.last (subst (All BeginsWhole) h.texts h.whole) h.done_once)
 
     module _ (ts : List (List ℕ)) where
       -- accepted to the end of the phase
-      pub shaped-one-iff : AcceptedTo Two start b (map receive ts) ↔ (ShapedOne ts × Allowed machine name b.first ts)
-      shaped-one-iff = (
-        λ a. ⊎_elim (λ h. (h.1, (shaped-iff ts h.1).0 a.0)) (λ h. let p = a.1 in let q = h.0 in let z : ◌≡◌ {A = ℕ} 0 1 = cc in absurd (omega arith)) (shape_of start b ts refl a.0),
-        λ h. let a = (shaped-iff ts h.0).1 h.1 in (a, ⊎_elim (λ q. q.0) (λ q. absurd (shape_front ts h.0 q.1)) (shape_of start b ts refl a)),
+      pub shaped_one_iff : AcceptedTo Two start b (map receive ts) ↔ (ShapedOne ts × Allowed machine name b.first ts)
+      shaped_one_iff = (
+        λ a. ⊎_elim (λ h. (h.1, (shaped_iff ts h.1).0 a.0)) (λ h. let p = a.1 in let q = h.0 in let z : ◌≡◌ {A = ℕ} 0 1 = cc in absurd (omega arith)) (shape_of start b ts refl a.0),
+        λ h. let a = (shaped_iff ts h.0).1 h.1 in (a, ⊎_elim (λ q. q.0) (λ q. absurd (shape_front ts h.0 q.1)) (shape_of start b ts refl a)),
       )
 
       -- accepted, and the phase has not ended: it is still phase one
-      pub front-one-iff : (q : SessionPhase) → (q ≡ Two → ⊥) → AcceptedTo q start b (map receive ts) ↔ ((q ≡ One) × FrontOne ts × Allowed machine name b.first ts)
-      front-one-iff q n = (
-        λ a. ⊎_elim (λ h. absurd (n (sym a.1 ∙ h.0))) (λ h. (sym a.1 ∙ h.0, h.1, (front-iff ts h.1).0 a.0)) (shape_of start b ts refl a.0),
-        λ h. let a = (front-iff ts h.1).1 h.2 in (a, ⊎_elim (λ q. absurd (shape_front ts q.1 h.1)) (λ q. q.0 ∙ sym h.0) (shape_of start b ts refl a)),
+      pub front_one_iff : (q : SessionPhase) → (q ≡ Two → ⊥) → AcceptedTo q start b (map receive ts) ↔ ((q ≡ One) × FrontOne ts × Allowed machine name b.first ts)
+      front_one_iff q n = (
+        λ a. ⊎_elim (λ h. absurd (n (sym a.1 ∙ h.0))) (λ h. (sym a.1 ∙ h.0, h.1, (front_iff ts h.1).0 a.0)) (shape_of start b ts refl a.0),
+        λ h. let a = (front_iff ts h.1).1 h.2 in (a, ⊎_elim (λ q. absurd (shape_front ts q.1 h.1)) (λ q. q.0 ∙ sym h.0) (shape_of start b ts refl a)),
       )

@@ -23,7 +23,7 @@ use Rattle.conversation.specs.SendingTwo.{phase_sent}
 use Rattle.conversation.specs.Allowed.{Left, is_right_two, Present, Said, Exchange, line_of, command_sent, said_in, AllowedSent, is_done_sent, response_calls, exchange_calls, sending_calls, left_of, capacity_of}
 use Rattle.conversation.specs.Shapes.{AcceptedTo, FrontSent, ShapedSent, AwaitingExchange, SentSoFar, none_more, one_more, last_awaits, AllowedSentSoFar}
 use Rattle.conversation.proofs.Laws.Accepted.{accepted}
-use Rattle.conversation.proofs.Laws.AllowedSent.{unheld-iff, Judged, tables_sent, buffers_sent, sent-to, sent-from, awaits, standing-behind, exchange-iff, exchange-to, exchange-from, accepted_sent_iff}
+use Rattle.conversation.proofs.Laws.AllowedSent.{unheld_iff, Judged, tables_sent, buffers_sent, sent_to, sent_from, awaits, standing_behind, exchange_iff, exchange_to, exchange_from, accepted_sent_iff}
 use Rattle.conversation.proofs.Laws.AllowedTwo.{Standing, decided_exact, Fitting, fitting_none, fitting_front, fitting_one, fitting_rest, done_command}
 use Rattle.conversation.proofs.Laws.CommandsTwo.{Proper, command_proper}
 use Rattle.conversation.proofs.Laws.DecidedTwo.{decided_iff}
@@ -31,7 +31,7 @@ use Rattle.conversation.proofs.Laws.Lists.{all_append}
 use Rattle.conversation.proofs.Laws.OrderTwo.{begins, two_session, fitting_all}
 use Rattle.conversation.proofs.Laws.Reached.{JustReached}
 use Rattle.conversation.proofs.Laws.Runs.{accepted_append, after_append, enough_append}
-use Rattle.conversation.proofs.Laws.Shapes.{ended_none, append_none, lent_first, lent_one, lent-more, skip_none}
+use Rattle.conversation.proofs.Laws.Shapes.{ended_none, append_none, lent_first, lent_one, lent_more, skip_none}
 use Rattle.conversation.proofs.Laws.ShapesTwo.{settled_or, done_is}
 use Rattle.conversation.proofs.Laws.StepsTwo.{at, Settled}
 use Rattle.conversation.proofs.Laws.SumsTwo.{With}
@@ -51,7 +51,7 @@ parsed_response t out cs p = record {
   responses = t ∷ p.responses;
   exchanges = p.exchanges;
   outs = lent_first out p.outs;
-  calls = ap (λ l. respond t out ∷ l) (p.calls ∙ sym (ap₂ (λ o o'. response_calls o p.responses ++ sending_calls o' p.exchanges) (lent_one out p.outs) (lent-more out p.outs (length p.responses))));
+  calls = ap (λ l. respond t out ∷ l) (p.calls ∙ sym (ap₂ (λ o o'. response_calls o p.responses ++ sending_calls o' p.exchanges) (lent_one out p.outs) (lent_more out p.outs (length p.responses))));
 }
 
 -- one sending more in front takes the responses
@@ -142,15 +142,15 @@ module _ (s : Session) (b : Buffers) (x : Exchange) (out : List ℕ) (z : (outco
   abbrev c : CommandTwo
   c = command_sent s.machine x
 
-  behind-sending : (outcome s b (call_of out x)).session.phase ≡ phase_sent c
-  behind-sending = ap (λ x. x.phase) (accepted s b (call_of out x) z).session
+  behind_sending : (outcome s b (call_of out x)).session.phase ≡ phase_sent c
+  behind_sending = ap (λ x. x.phase) (accepted s b (call_of out x) z).session
 
-  behind-done : is_done_sent x ≡ true → (outcome s b (call_of out x)).session.phase ≡ Ended
-  behind-done d =
-      behind-sending ∙ ap phase_sent (done_is true s.tables b.second _ (is_bare (line_of x) (length x.body) 0) c (done_command s.machine (line_of x) x.body d) (accepted s b (call_of out x) z).faultless)
+  behind_done : is_done_sent x ≡ true → (outcome s b (call_of out x)).session.phase ≡ Ended
+  behind_done d =
+      behind_sending ∙ ap phase_sent (done_is true s.tables b.second _ (is_bare (line_of x) (length x.body) 0) c (done_command s.machine (line_of x) x.body d) (accepted s b (call_of out x) z).faultless)
 
-  behind-other : is_done_sent x ≡ false → (outcome s b (call_of out x)).session.phase ≡ Ended → ⊥
-  behind-other d e = not_ended c (subst (λ f. Proper f c) d (command_proper s.machine (line_of x) x.body)) (sym behind-sending ∙ e)
+  behind_other : is_done_sent x ≡ false → (outcome s b (call_of out x)).session.phase ≡ Ended → ⊥
+  behind_other d e = not_ended c (subst (λ f. Proper f c) d (command_proper s.machine (line_of x) x.body)) (sym behind_sending ∙ e)
 
 -- responses do not end the phase
 responses_on : (s : Session) (b : Buffers) (outs : Supply) (us : List (List ℕ)) → (s.phase ≡ Ended → ⊥) → Accepted s b (response_calls outs us) → (after s b (response_calls outs us)).session.phase ≡ Ended → ⊥
@@ -186,14 +186,14 @@ shape_of s b outs (x ∷ xs) h a =
     let split = (accepted_append s₁ b₁ rs cs).0 a.1 in
     cases (is_done_sent x)
     (λ d.
-    let e = behind-done s b x (outs 0) a.0 d in
+    let e = behind_done s b x (outs 0) a.0 d in
     let n = ended_none s₁ b₁ (rs ++ cs) e a.1 in
     let m = no_exchanges (behind outs x) xs (append_none rs cs n).1 in
     inl (ap (λ l. (after s₁ b₁ l).session.phase) n ∙ e, record { ahead = []; last = x; exchanges = ap (λ l. x ∷ l) m; done_once = tt; done_last = d }))
     (λ d.
     let s₂ = (after s₁ b₁ rs).session in
     let b₂ = (after s₁ b₁ rs).buffers in
-    let i = shape_of s₂ b₂ (behind outs x) xs (responses_on s₁ b₁ (skip 1 outs) x.responses (behind-other s b x (outs 0) a.0 d) split.0) split.1 in
+    let i = shape_of s₂ b₂ (behind outs x) xs (responses_on s₁ b₁ (skip 1 outs) x.responses (behind_other s b x (outs 0) a.0 d) split.0) split.1 in
     subst (λ u. Shape u.session.phase (x ∷ xs)) (sym (after_append s₁ b₁ rs cs)) (shape_more _ x xs d i))
 
 -- ---- exchanges of which none is done
@@ -237,24 +237,24 @@ module _ (s : Session) (left : Left) where
     exact : (two.decided true t b.second c' (length p') ≡ 0) ↔ ((is_right_two c' ≡ true) × Present left c' × With t b.second c' p' × (two.is_held_back t c' ≡ false))
     exact = decided_exact true left t b.second false c' p' proper' g
 
-    awaits-to : (v : WordTwo) → Accepted (at s Two t) b (exchange_calls outs x) → (after (at s Two t) b (exchange_calls outs x)).session.phase ≡ Awaiting v →
+    awaits_to : (v : WordTwo) → Accepted (at s Two t) b (exchange_calls outs x) → (after (at s Two t) b (exchange_calls outs x)).session.phase ≡ Awaiting v →
         AwaitingExchange s.machine left x × With t b.second c' p' × (v ≡ word_of c')
     unfolding AllZero numbers after
-    awaits-to v a e =
+    awaits_to v a e =
         let o = outcome (at s Two t) b (call_of (outs 0) x) in
         let r = responses_waiting o.session o.buffers (skip 1 outs) x.responses v a.1 e in
-        let k = sent-to s t b x (outs 0) a.0 in
+        let k = sent_to s t b x (outs 0) a.0 in
         let y = exact.0 k.1 in
-        let q : Awaiting v ≡ Awaiting (word_of c') = sym r.1 ∙ behind-sending (at s Two t) b x (outs 0) a.0 ∙ (awaits c' proper' y.0).0 in
+        let q : Awaiting v ≡ Awaiting (word_of c') = sym r.1 ∙ behind_sending (at s Two t) b x (outs 0) a.0 ∙ (awaits c' proper' y.0).0 in
         let m : v ≡ word_of c' = cc in
-        (record { writable = k.0; right = y.0; present = y.1; unheld = (unheld-iff t left g.shows c' proper' y.1).0 y.3; unanswered = r.0 }, y.2, m)
+        (record { writable = k.0; right = y.0; present = y.1; unheld = (unheld_iff t left g.shows c' proper' y.1).0 y.3; unanswered = r.0 }, y.2, m)
 
-    awaits-from : LongEnough (at s Two t) b (exchange_calls outs x) → AwaitingExchange s.machine left x → With t b.second c' p' → AcceptedTo (Awaiting (word_of c')) (at s Two t) b (exchange_calls outs x)
+    awaits_from : LongEnough (at s Two t) b (exchange_calls outs x) → AwaitingExchange s.machine left x → With t b.second c' p' → AcceptedTo (Awaiting (word_of c')) (at s Two t) b (exchange_calls outs x)
     unfolding AllZero numbers after response_calls LongEnough
-    awaits-from l h f =
-        let k : Judged s t b x = (h.writable, exact.1 (h.right, h.present, f, (unheld-iff t left g.shows c' proper' h.present).1 h.unheld)) in
-        let n = sent-from s t b x (outs 0) l.0 k in
-        let e : (outcome (at s Two t) b (call_of (outs 0) x)).session.phase ≡ Awaiting (word_of c') = behind-sending (at s Two t) b x (outs 0) n ∙ (awaits c' proper' h.right).0 in
+    awaits_from l h f =
+        let k : Judged s t b x = (h.writable, exact.1 (h.right, h.present, f, (unheld_iff t left g.shows c' proper' h.present).1 h.unheld)) in
+        let n = sent_from s t b x (outs 0) l.0 k in
+        let e : (outcome (at s Two t) b (call_of (outs 0) x)).session.phase ≡ Awaiting (word_of c') = behind_sending (at s Two t) b x (outs 0) n ∙ (awaits c' proper' h.right).0 in
         subst (λ us. AcceptedTo (Awaiting (word_of c')) (at s Two t) b (call_of (outs 0) x ∷ response_calls (skip 1 outs) us)) (sym h.unanswered) ((n, tt), e)
 
   abbrev SoFar : SessionPhase → List Exchange → Type 0
@@ -263,11 +263,11 @@ module _ (s : Session) (left : Left) where
   abbrev blocks_said : List Exchange → List Said
   blocks_said xs = map (said_in s.machine) xs
 
-  so-far-to : (xs : List Exchange) (t : Tables) (b : Buffers) (outs : Supply) → Standing left t b.second → All (λ x. is_done_sent x ≡ false) xs →
+  so_far_to : (xs : List Exchange) (t : Tables) (b : Buffers) (outs : Supply) → Standing left t b.second → All (λ x. is_done_sent x ≡ false) xs →
       LongEnough (at s Two t) b (sending_calls outs xs) → (q : SessionPhase) → AcceptedTo q (at s Two t) b (sending_calls outs xs) → SoFar q xs × Fitting t b.second (blocks_said xs)
   unfolding All sending_calls after
-  so-far-to [] t b outs g d l q a = (subst (λ q. SoFar q []) a.1 none_more, fitting_none t b.second g.limits)
-  so-far-to (x ∷ xs) t b outs g d l q a =
+  so_far_to [] t b outs g d l q a = (subst (λ q. SoFar q []) a.1 none_more, fitting_none t b.second g.limits)
+  so_far_to (x ∷ xs) t b outs g d l q a =
       let here = exchange_calls outs x in
       let cs = sending_calls (behind outs x) xs in
       let u = after (at s Two t) b here in
@@ -278,46 +278,46 @@ module _ (s : Session) (left : Left) where
       let p = (said_in s.machine x).payload in
       ⊎_elim
       (λ settled.
-      let h = exchange-to s left t b x g d.0 outs split.0 settled in
-      let r = (exchange-iff s left t b x g d.0).0 h in
+      let h = exchange_to s left t b x g d.0 outs split.0 settled in
+      let r = (exchange_iff s left t b x g d.0).0 h in
       let t' = tables_sent s t b x in
       let b' = buffers_sent s t b x in
-      let state : u ≡ state_of (at s Two t') b' = (exchange-from s left t b x g d.0 outs le.0 h.0 h.1).1 in
-      let rest = so-far-to xs t' b' (behind outs x) (standing-behind s left t b x g h.0.1) d.1 (subst (λ u. LongEnough u.session u.buffers cs) state le.1) q
+      let state : u ≡ state_of (at s Two t') b' = (exchange_from s left t b x g d.0 outs le.0 h.0 h.1).1 in
+      let rest = so_far_to xs t' b' (behind outs x) (standing_behind s left t b x g h.0.1) d.1 (subst (λ u. LongEnough u.session u.buffers cs) state le.1) q
       (subst (λ u. AcceptedTo q u.session u.buffers cs) state (split.1, phase)) in
       let f = (decided_iff true t b.second c (length p)).0 h.0.1 in
       (one_more r.0 rest.0, (fitting_rest true left t b.second c p (blocks_said xs) g f).1 rest.1))
       (λ waits.
       let n = waiting_none u.session u.buffers (behind outs x) xs waits.0 waits.1 split.1 in
-      let h = awaits-to t b x g outs d.0 waits.0 split.0 waits.1 in
+      let h = awaits_to t b x g outs d.0 waits.0 split.0 waits.1 in
       let e : Awaiting (word_of c) ≡ q = ap Awaiting (sym h.2) ∙ sym waits.1 ∙ sym (ap (λ xs. (after u.session u.buffers (sending_calls (behind outs x) xs)).session.phase) n) ∙ phase in
       subst (λ xs. SoFar q (x ∷ xs) × Fitting t b.second (blocks_said (x ∷ xs))) (sym n) (subst (λ q. SoFar q (x ∷ [])) e (last_awaits h.0), fitting_one t b.second c p h.1))
       (settled_or u.session.phase)
 
-  so-far-from : (q : SessionPhase) (xs : List Exchange) (t : Tables) (b : Buffers) (outs : Supply) → Standing left t b.second → All (λ x. is_done_sent x ≡ false) xs →
+  so_far_from : (q : SessionPhase) (xs : List Exchange) (t : Tables) (b : Buffers) (outs : Supply) → Standing left t b.second → All (λ x. is_done_sent x ≡ false) xs →
       LongEnough (at s Two t) b (sending_calls outs xs) → SoFar q xs → Fitting t b.second (blocks_said xs) → AcceptedTo q (at s Two t) b (sending_calls outs xs)
   unfolding All sending_calls after
-  so-far-from _ _ t b outs g d l none_more f = (unfold AllZero in unfold numbers in tt, refl)
-  so-far-from q (x ∷ xs) t b outs g d l (one_more r m) f =
+  so_far_from _ _ t b outs g d l none_more f = (unfold AllZero in unfold numbers in tt, refl)
+  so_far_from q (x ∷ xs) t b outs g d l (one_more r m) f =
       let here = exchange_calls outs x in
       let cs = sending_calls (behind outs x) xs in
       let le = enough_append (at s Two t) b here cs l in
       let c = command_sent s.machine x in
       let p = (said_in s.machine x).payload in
-      let h = (exchange-iff s left t b x g d.0).1 (r, fitting_front t b.second c p (blocks_said xs) f) in
+      let h = (exchange_iff s left t b x g d.0).1 (r, fitting_front t b.second c p (blocks_said xs) f) in
       let t' = tables_sent s t b x in
       let b' = buffers_sent s t b x in
-      let k = exchange-from s left t b x g d.0 outs le.0 h.0 h.1 in
+      let k = exchange_from s left t b x g d.0 outs le.0 h.0 h.1 in
       let fault = (decided_iff true t b.second c (length p)).0 h.0.1 in
-      let rest = so-far-from q xs t' b' (behind outs x) (standing-behind s left t b x g h.0.1) d.1 (subst (λ u. LongEnough u.session u.buffers cs) k.1 le.1) m
+      let rest = so_far_from q xs t' b' (behind outs x) (standing_behind s left t b x g h.0.1) d.1 (subst (λ u. LongEnough u.session u.buffers cs) k.1 le.1) m
       ((fitting_rest true left t b.second c p (blocks_said xs) g fault).0 f) in
       let back = subst (λ u. AcceptedTo q u.session u.buffers cs) (sym k.1) rest in
       ((accepted_append (at s Two t) b here cs).1 (k.0, back.0), ap (λ u. u.session.phase) (after_append (at s Two t) b here cs) ∙ back.1)
-  so-far-from _ (x ∷ _) t b outs g d l (last_awaits h) f =
+  so_far_from _ (x ∷ _) t b outs g d l (last_awaits h) f =
       let here = exchange_calls outs x in
       let e : here ++ [] ≡ here = append-nil here in
       subst (λ cs. AcceptedTo (Awaiting (word_of (command_sent s.machine x))) (at s Two t) b cs) (sym e)
-      (awaits-from t b x g outs d.0 (enough_append (at s Two t) b here [] l).0 h (fitting_front t b.second (command_sent s.machine x) (said_in s.machine x).payload [] f))
+      (awaits_from t b x g outs d.0 (enough_append (at s Two t) b here [] l).0 h (fitting_front t b.second (command_sent s.machine x) (said_in s.machine x).payload [] f))
 
 -- ---- a session that has just come to phase two
 
@@ -329,16 +329,16 @@ module _ (s : Session) (b : Buffers) (j : JustReached s) where
   not_yet e = let q = j.turn in let z : ◌≡◌ {A = ℕ} 0 1 = cc in omega arith
 
   -- exchanges of which none is done
-  front-iff : (xs : List Exchange) (outs : Supply) → All (λ x. is_done_sent x ≡ false) xs → LongEnough s b (sending_calls outs xs) → (q : SessionPhase) →
+  front_iff : (xs : List Exchange) (outs : Supply) → All (λ x. is_done_sent x ≡ false) xs → LongEnough s b (sending_calls outs xs) → (q : SessionPhase) →
       AcceptedTo q s b (sending_calls outs xs) ↔ AllowedSentSoFar s.machine left (capacity_of b) q xs
-  front-iff xs outs d l q =
+  front_iff xs outs d l q =
       let cs = sending_calls outs xs in
       let here = two_session s j in
       let g = begins s b j in
       let le = subst (λ s. LongEnough s b cs) (sym here) l in
       let f = fitting_all s b j (map (said_in s.machine) xs) in (
-        λ a. let r = so-far-to s left xs s.tables b outs g d le q (subst (λ s. AcceptedTo q s b cs) (sym here) a) in record { right = r.0; limits = f.0 r.1 },
-        λ h. subst (λ s. AcceptedTo q s b cs) here (so-far-from s left q xs s.tables b outs g d le h.right (f.1 h.limits)),
+        λ a. let r = so_far_to s left xs s.tables b outs g d le q (subst (λ s. AcceptedTo q s b cs) (sym here) a) in record { right = r.0; limits = f.0 r.1 },
+        λ h. subst (λ s. AcceptedTo q s b cs) here (so_far_from s left q xs s.tables b outs g d le h.right (f.1 h.limits)),
       )
 
   -- any calls of the plugin end
@@ -373,21 +373,21 @@ module _ (s : Session) (b : Buffers) (j : JustReached s) where
         )
 
     -- accepted to the end of the phase
-    pub shaped-sent-iff : AcceptedTo Ended s b cs ↔ ((p : ShapedSent cs) × AllowedSent s.machine (left_of (state_of s b)) (capacity_of b) (p.ahead ++ (p.last ∷ [])))
-    shaped-sent-iff = (shaped_to, shaped_from)
+    pub shaped_sent_iff : AcceptedTo Ended s b cs ↔ ((p : ShapedSent cs) × AllowedSent s.machine (left_of (state_of s b)) (capacity_of b) (p.ahead ++ (p.last ∷ [])))
+    shaped_sent_iff = (shaped_to, shaped_from)
 
     -- accepted, and the phase has not ended
-    pub front-sent-iff : (q : SessionPhase) → (q ≡ Ended → ⊥) → AcceptedTo q s b cs ↔ ((p : FrontSent cs) × AllowedSentSoFar s.machine (left_of (state_of s b)) (capacity_of b) q p.exchanges)
-    front-sent-iff q n = (
+    pub front_sent_iff : (q : SessionPhase) → (q ≡ Ended → ⊥) → AcceptedTo q s b cs ↔ ((p : FrontSent cs) × AllowedSentSoFar s.machine (left_of (state_of s b)) (capacity_of b) q p.exchanges)
+    front_sent_iff q n = (
       λ a.
           let x = exchanged s b cs j.turn k a.0 in
           let e = x.2 in
           let m : (after s b (sending_calls x.1 x.0)).session.phase ≡ q = ap (λ l. (after s b l).session.phase) (sym e) ∙ a.1 in
           ⊎_elim
           (λ y. absurd (n (sym m ∙ y.0)))
-          (λ y. (record { exchanges = x.0; outs = x.1; calls = e; none_done = y.1 }, (front-iff x.0 x.1 y.1 (subst (LongEnough s b) e l) q).0 (subst (AcceptedTo q s b) e a)))
+          (λ y. (record { exchanges = x.0; outs = x.1; calls = e; none_done = y.1 }, (front_iff x.0 x.1 y.1 (subst (LongEnough s b) e l) q).0 (subst (AcceptedTo q s b) e a)))
           (shape_of s b x.1 x.0 not_yet (subst (Accepted s b) e a.0)),
       λ y.
           let p = y.0 in
-          subst (AcceptedTo q s b) (sym p.calls) ((front-iff p.exchanges p.outs p.none_done (subst (LongEnough s b) p.calls l) q).1 y.1),
+          subst (AcceptedTo q s b) (sym p.calls) ((front_iff p.exchanges p.outs p.none_done (subst (LongEnough s b) p.calls l) q).1 y.1),
     )

@@ -31,7 +31,7 @@ use Rattle.session.specs.Tables.{Tables}
 use Rattle.phase_one.specs.PhaseOne.{BuffersOne, falls, decided, applied, filled_by, payload_in}
 use Rattle.refusal.specs.Verdict.{first_of}
 use Rattle.phase_one.specs.Views.{KindOne, recipients, identities, keys, headers, table_of, buffer_of, view_of, rows_of}
-use Rattle.phase_one.proofs.Laws.Views.{Reached, applied_reached, applied-view, payload-stored, space, recipient_space, header_space}
+use Rattle.phase_one.proofs.Laws.Views.{Reached, applied_reached, applied_view, payload_stored, space, recipient_space, header_space}
 use Rattle.phase_one.specs.Turns.{phase_after}
 use Rattle.session.specs.Session.{Session, moved, opened_session}
 use Rattle.conversation.specs.Receiving.{Received, took, refused_receipt, received_stanza, received_as, received}
@@ -40,7 +40,7 @@ use Rattle.conversation.specs.Phases.{Whole, line_in, body_in, is_done, command_
 use Rattle.conversation.specs.Allowed.{is_right}
 use Rattle.conversation.specs.Kinds.{buffers_of}
 use Rattle.conversation.specs.PhaseTwo as two
-use Rattle.conversation.proofs.Laws.Limits.{Within, Held, Grown, same as unchanged, more, within-fits, grown-within, grown-length, grown-held}
+use Rattle.conversation.proofs.Laws.Limits.{Within, Held, Grown, same as unchanged, more, within_fits, grown_within, grown_length, grown_held}
 
 -- ---- a command that was read: only the word done makes done, and no fault has the number 0
 
@@ -57,19 +57,19 @@ four : ◌≡◌ {A = ℕ} 4 0 → ⊥
 four e = omega arith
 
 module _ (d : Bool) where
-  text-proper : (k : TextKind) (f : Bool) (m : ℕ) → Proper d (pick f (text_of_kind k m) (bad 4))
-  text-proper the_kind.Recipient true m = tt
-  text-proper the_kind.Identity true m = tt
-  text-proper k false m = four
+  text_proper : (k : TextKind) (f : Bool) (m : ℕ) → Proper d (pick f (text_of_kind k m) (bad 4))
+  text_proper the_kind.Recipient true m = tt
+  text_proper the_kind.Identity true m = tt
+  text_proper k false m = four
 
-  key-proper : (f : Bool) → Proper d (pick f key (bad 4))
-  key-proper true = tt
-  key-proper false = four
+  key_proper : (f : Bool) → Proper d (pick f key (bad 4))
+  key_proper true = tt
+  key_proper false = four
 
-  header-proper : (f : Bool) (t : List ℕ) (m : ℕ) → Proper d (pick f (indexed (read_index t) m) (bad 4))
-  header-proper true t m =
+  header_proper : (f : Bool) (t : List ℕ) (m : ℕ) → Proper d (pick f (indexed (read_index t) m) (bad 4))
+  header_proper true t m =
       ⊎_elim (λ j. subst (λ r. Proper d (indexed r m)) (sym j.1) tt) (λ e. subst (λ r. Proper d (indexed r m)) (sym e) (λ z. omega arith)) (read_index_lem t)
-  header-proper false t m = four
+  header_proper false t m = four
 
 done_proper : (f : Bool) → Proper true (pick f done (bad 4))
 done_proper true = refl
@@ -80,24 +80,24 @@ module _ (g l : List ℕ) (n : ℕ) where
   either d true v w p q = p
   either d false v w p q = q
 
-  last-proper : (d : Bool) → Proper d (row_command (pick d done_command other_word) g l n)
-  last-proper true = done_proper (is_bare l n 0)
-  last-proper false = tt
+  last_proper : (d : Bool) → Proper d (row_command (pick d done_command other_word) g l n)
+  last_proper true = done_proper (is_bare l n 0)
+  last_proper false = tt
 
-  text-row : (d : Bool) (k : TextKind) → Proper d (text_command k g l n)
-  text-row d k = text-proper d k (eqb (count_of l) 2 && eqb n 0) (mark_of (parse (form_of k) (argument_of l 1)) g)
+  text_row : (d : Bool) (k : TextKind) → Proper d (text_command k g l n)
+  text_row d k = text_proper d k (eqb (count_of l) 2 && eqb n 0) (mark_of (parse (form_of k) (argument_of l 1)) g)
 
-  word-proper : (m : Machine) (w : List ℕ) → Proper (same w done_word) (row_command (word_in m w) g l n)
-  word-proper RecipientV1 w =
+  word_proper : (m : Machine) (w : List ℕ) → Proper (same w done_word) (row_command (word_in m w) g l n)
+  word_proper RecipientV1 w =
       let d = same w done_word in
       let k = pick (same w wrap_file_key_text) wrap_file_key (pick d done_command other_word) in
-      either d (same w add_recipient_text) add_recipient (pick (same w add_identity_text) add_identity k) (text-row d the_kind.Recipient)
-      (either d (same w add_identity_text) add_identity k (text-row d the_kind.Identity)
-      (either d (same w wrap_file_key_text) wrap_file_key (pick d done_command other_word) (key-proper d (is_bare l n 16)) (last-proper d)))
-  word-proper IdentityV1 w =
+      either d (same w add_recipient_text) add_recipient (pick (same w add_identity_text) add_identity k) (text_row d the_kind.Recipient)
+      (either d (same w add_identity_text) add_identity k (text_row d the_kind.Identity)
+      (either d (same w wrap_file_key_text) wrap_file_key (pick d done_command other_word) (key_proper d (is_bare l n 16)) (last_proper d)))
+  word_proper IdentityV1 w =
       let d = same w done_word in
-      either d (same w add_identity_text) add_identity (pick (same w recipient_stanza_text) recipient_stanza (pick d done_command other_word)) (text-row d the_kind.Identity)
-      (either d (same w recipient_stanza_text) recipient_stanza (pick d done_command other_word) (header-proper d (leb 3 (count_of l)) (argument_of l 1) (header_mark g l n)) (last-proper d))
+      either d (same w add_identity_text) add_identity (pick (same w recipient_stanza_text) recipient_stanza (pick d done_command other_word)) (text_row d the_kind.Identity)
+      (either d (same w recipient_stanza_text) recipient_stanza (pick d done_command other_word) (header_proper d (leb 3 (count_of l)) (argument_of l 1) (header_mark g l n)) (last_proper d))
 
 pub proper_phase : (c : CommandOne) → Proper false c → phase_after c ≡ One
 proper_phase (recipient m) h = refl
@@ -134,14 +134,14 @@ module _ (t : Tables) (b : BuffersOne) where
   grown other p k = unchanged
   grown (bad n) p k = unchanged
 
-  decided-right : (d : Bool) (c : CommandOne) (p : List ℕ) → Proper d c → decided t b c p ≡ 0 → is_right c ≡ true
-  decided-right d (recipient m) p h z = refl
-  decided-right d (identity m) p h z = refl
-  decided-right d key p h z = refl
-  decided-right d (header i m) p h z = refl
-  decided-right d done p h z = refl
-  decided-right d other p h z = refl
-  decided-right d (bad k) p h z = absurd (h z)
+  decided_right : (d : Bool) (c : CommandOne) (p : List ℕ) → Proper d c → decided t b c p ≡ 0 → is_right c ≡ true
+  decided_right d (recipient m) p h z = refl
+  decided_right d (identity m) p h z = refl
+  decided_right d key p h z = refl
+  decided_right d (header i m) p h z = refl
+  decided_right d done p h z = refl
+  decided_right d other p h z = refl
+  decided_right d (bad k) p h z = absurd (h z)
 
   -- every kind's table and buffer
   abbrev pub Going : Type 0
@@ -151,18 +151,18 @@ module _ (t : Tables) (b : BuffersOne) where
   abbrev pub Fitting : (KindOne → List Row) → Type 0
   Fitting rows = (k : KindOne) → Within k (length (buffer_of k b)) (view_of k t b ++ rows k)
 
-  decided-zero : (c : CommandOne) (p : List ℕ) → Going → is_right c ≡ true → Fitting (λ k. rows_of c k p) → decided t b c p ≡ 0
-  decided-zero (recipient m) p g h w =
-      let f = within-fits t.recipients b.recipients (record { payload = p; index = 0; mark = m }) recipients (g recipients) (w recipients) in
+  decided_zero : (c : CommandOne) (p : List ℕ) → Going → is_right c ≡ true → Fitting (λ k. rows_of c k p) → decided t b c p ≡ 0
+  decided_zero (recipient m) p g h w =
+      let f = within_fits t.recipients b.recipients (record { payload = p; index = 0; mark = m }) recipients (g recipients) (w recipients) in
       rw (f.1, f.0)
-  decided-zero (identity m) p g h w = rw (within-fits t.identities b.identities (record { payload = p; index = 0; mark = m }) identities (g identities) (w identities)).0
-  decided-zero key p g h w = rw (within-fits t.keys b.keys (record { payload = p; index = 0; mark = 0 }) keys (g keys) (w keys)).0
-  decided-zero (header i m) p g h w =
-      let f = within-fits t.headers b.headers (record { payload = p; index = i; mark = m }) headers (g headers) (w headers) in
+  decided_zero (identity m) p g h w = rw (within_fits t.identities b.identities (record { payload = p; index = 0; mark = m }) identities (g identities) (w identities)).0
+  decided_zero key p g h w = rw (within_fits t.keys b.keys (record { payload = p; index = 0; mark = 0 }) keys (g keys) (w keys)).0
+  decided_zero (header i m) p g h w =
+      let f = within_fits t.headers b.headers (record { payload = p; index = i; mark = m }) headers (g headers) (w headers) in
       rw (f.1, f.0)
-  decided-zero done p g h w = refl
-  decided-zero other p g h w = refl
-  decided-zero (bad n) p g h w = absurd (false≢true h)
+  decided_zero done p g h w = refl
+  decided_zero other p g h w = refl
+  decided_zero (bad n) p g h w = absurd (false≢true h)
 
 -- ---- one whole stanza
 
@@ -182,7 +182,7 @@ module _ (machine : Machine) (name : List ℕ) where
   payload x = payload_in machine name (line_in x) (body_in x)
 
   pub proper : (x : List ℕ) → Proper (is_done x) (command_of machine name x)
-  proper x = word-proper name (line_in x) (length (body_in x)) machine (argument_of (line_in x) 0)
+  proper x = word_proper name (line_in x) (length (body_in x)) machine (argument_of (line_in x) 0)
 
   module _ (t : Tables) (b : BuffersOne) where
     -- the decision of a text; the tables and the buffers behind it where it is accepted
@@ -196,10 +196,10 @@ module _ (machine : Machine) (name : List ℕ) where
     buffers_with x = filled_by t b (command_of machine name x) (payload x)
 
     -- it is accepted exactly if it is right and its rows are within the limits
-    pub judged-iff : (x : List ℕ) → Going t b → (judged x ≡ 0) ↔ ((is_right (command_of machine name x) ≡ true) × Fitting t b (λ k. rows_from machine name k x))
-    judged-iff x g =
+    pub judged_iff : (x : List ℕ) → Going t b → (judged x ≡ 0) ↔ ((is_right (command_of machine name x) ≡ true) × Fitting t b (λ k. rows_from machine name k x))
+    judged_iff x g =
         let c = command_of machine name x in
-        (λ z. (decided-right t b (is_done x) c (payload x) (proper x) z, λ k. grown-within (grown t b c (payload x) k) z (g k)), λ h. decided-zero t b c (payload x) g h.0 h.1)
+        (λ z. (decided_right t b (is_done x) c (payload x) (proper x) z, λ k. grown_within (grown t b c (payload x) k) z (g k)), λ h. decided_zero t b c (payload x) g h.0 h.1)
 
     module _ (x : List ℕ) (w : Whole x) (g : Going t b) (z : judged x ≡ 0) where
       reached : Reached t
@@ -207,17 +207,17 @@ module _ (machine : Machine) (name : List ℕ) where
       reached k = (g k).reached
 
       -- then its rows stand behind those of before, and buffers keep their lengths
-      pub view-with : (k : KindOne) → view_of k (tables_with x) (buffers_with x) ≡ view_of k t b ++ rows_from machine name k x
-      view-with k = applied-view t b (payload x) reached (command_of machine name x) z k
+      pub view_with : (k : KindOne) → view_of k (tables_with x) (buffers_with x) ≡ view_of k t b ++ rows_from machine name k x
+      view_with k = applied_view t b (payload x) reached (command_of machine name x) z k
 
-      pub length-with : (k : KindOne) → length (buffer_of k (buffers_with x)) ≡ length (buffer_of k b)
-      length-with k = grown-length (grown t b (command_of machine name x) (payload x) k) z
+      pub length_with : (k : KindOne) → length (buffer_of k (buffers_with x)) ≡ length (buffer_of k b)
+      length_with k = grown_length (grown t b (command_of machine name x) (payload x) k) z
 
-      pub going-with : Going (tables_with x) (buffers_with x)
+      pub going_with : Going (tables_with x) (buffers_with x)
       unfolding Reached
-      going-with k =
+      going_with k =
           let c = command_of machine name x in
-          grown-held (grown t b c (payload x) k) z (g k) (applied_reached t b c (payload x) (payload-stored name (line_in x) (body_in x) (whole_line x w) machine) reached k) (view-with k)
+          grown_held (grown t b c (payload x) k) z (g k) (applied_reached t b c (payload x) (payload_stored name (line_in x) (body_in x) (whole_line x w) machine) reached k) (view_with k)
 
   -- a session in phase one with these tables
   abbrev pub going : Bool → Tables → Session
@@ -245,9 +245,9 @@ module _ (machine : Machine) (name : List ℕ) where
       read_as = subst (λ r. received_as r now x b ≡ received_stanza now b (line_read r x) (body_read r x) (length x)) (sym w.read) refl
 
       -- the number of the call is the decision
-      pub number-received : (outcome now (buffers_of b later) (receive x)).number ≡ judged t b x
+      pub number_received : (outcome now (buffers_of b later) (receive x)).number ≡ judged t b x
       unfolding received_stanza
-      number-received =
+      number_received =
           let n = first_of (judged t b x) 0 in
           ap (λ r. taking_number r.answer) read_as ∙ picked n (left x (eqb n 0)) refl ∙ first_same (judged t b x)
 
@@ -258,14 +258,14 @@ module _ (machine : Machine) (name : List ℕ) where
             let n = first_of (judged t b x) 0 in
             read_as ∙ ap (λ f. pick f (left x f) (refused_receipt n now b)) (eq-eqb n 0 (first_same (judged t b x) ∙ z))
 
-        pub tables-received : (outcome now (buffers_of b later) (receive x)).session.tables ≡ tables_with t b x
-        tables-received = ap (λ r. r.session.tables) leaves
+        pub tables_received : (outcome now (buffers_of b later) (receive x)).session.tables ≡ tables_with t b x
+        tables_received = ap (λ r. r.session.tables) leaves
 
-        pub buffers-received : (outcome now (buffers_of b later) (receive x)).buffers ≡ buffers_of (buffers_with t b x) later
-        buffers-received = ap (λ r. buffers_of r.buffers later) leaves
+        pub buffers_received : (outcome now (buffers_of b later) (receive x)).buffers ≡ buffers_of (buffers_with t b x) later
+        buffers_received = ap (λ r. buffers_of r.buffers later) leaves
 
         -- it stays in phase one if it is not done
-        pub session-received : is_done x ≡ false → (outcome now (buffers_of b later) (receive x)).session ≡ moved now One (tables_with t b x)
-        session-received d =
+        pub session_received : is_done x ≡ false → (outcome now (buffers_of b later) (receive x)).session ≡ moved now One (tables_with t b x)
+        session_received d =
             let p : Proper false (command_of machine name x) = subst (λ f. Proper f (command_of machine name x)) d (proper x) in
             ap (λ r. r.session) leaves ∙ ap (λ q. moved now q (tables_with t b x)) (proper_phase (command_of machine name x) p)

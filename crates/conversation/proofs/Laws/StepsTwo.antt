@@ -88,35 +88,35 @@ module _ (s : Session) where
       picked true e = sym (eqb-true n 0 e)
       picked false e = refl
 
-      number-text : (outcome (at Two t) b (receive_two x out)).number ≡ n
-      number-text = ap (λ r. taking_two_number r.answer) read_as ∙ picked (eqb n 0) refl
+      number_text : (outcome (at Two t) b (receive_two x out)).number ≡ n
+      number_text = ap (λ r. taking_two_number r.answer) read_as ∙ picked (eqb n 0) refl
 
       leaves : n ≡ 0 → outcome (at Two t) b (receive_two x out) ≡ received_two_outcome b.first got
       leaves z = ap (received_two_outcome b.first) (read_as ∙ ap (λ f. pick f got (refused_receipt n (at Two t) b.second out)) (eq-eqb n 0 z))
 
     module _ (out : List ℕ) (e : (big : List ℕ) → length (written_by (at Two t) b (receive_two x big)) ≤ length out) where
       -- where it is accepted otherwise, the buffer is no shorter than what it writes
-      enough-text : judged ≡ 0 → length text ≤ length out
-      enough-text z =
+      enough_text : judged ≡ 0 → length text ≤ length out
+      enough_text z =
           let h : length text ≤ length text = omega arith in
           let l = leaves text ((first_late judged (shortness text text) (long_enough text text h)).1 z) in
           subst (λ k. k ≤ length out) (ap length (ap (λ o. take o.size o.output) l ∙ all_written text text h)) (e text)
 
-      pub text-iff : ((outcome (at Two t) b (receive_two x out)).number ≡ 0) ↔ (judged ≡ 0)
-      text-iff = (λ z. ((first_iff judged (shortness text out)).0 (sym (number-text out) ∙ z)).0, λ z. number-text out ∙ (first_late judged (shortness text out) (long_enough text out (enough-text z))).1 z)
+      pub text_iff : ((outcome (at Two t) b (receive_two x out)).number ≡ 0) ↔ (judged ≡ 0)
+      text_iff = (λ z. ((first_iff judged (shortness text out)).0 (sym (number_text out) ∙ z)).0, λ z. number_text out ∙ (first_late judged (shortness text out) (long_enough text out (enough_text z))).1 z)
 
       module _ (z : judged ≡ 0) where
         left : outcome (at Two t) b (receive_two x out) ≡ received_two_outcome b.first (got out)
-        left = leaves out ((first_late judged (shortness text out) (long_enough text out (enough-text z))).1 z)
+        left = leaves out ((first_late judged (shortness text out) (long_enough text out (enough_text z))).1 z)
 
-        pub text-session : (outcome (at Two t) b (receive_two x out)).session ≡ at (phase_received s.screen c) tables_with
-        text-session = ap (λ o. o.session) left
+        pub text_session : (outcome (at Two t) b (receive_two x out)).session ≡ at (phase_received s.screen c) tables_with
+        text_session = ap (λ o. o.session) left
 
-        pub text-buffers : (outcome (at Two t) b (receive_two x out)).buffers ≡ buffers_with
-        text-buffers = ap (λ o. o.buffers) left
+        pub text_buffers : (outcome (at Two t) b (receive_two x out)).buffers ≡ buffers_with
+        text_buffers = ap (λ o. o.buffers) left
 
         pub text_written : written_by (at Two t) b (receive_two x out) ≡ text
-        text_written = ap (λ o. take o.size o.output) left ∙ all_written text out (enough-text z)
+        text_written = ap (λ o. take o.size o.output) left ∙ all_written text out (enough_text z)
 
 -- ---- its replies
 
@@ -159,33 +159,33 @@ module _ (s : Session) (t : Tables) (b : Buffers) where
     abbrev m : List ℕ → ℕ
     m out = first_of (number_replied w r.response r.body) (shortness (reply_text r) out)
 
-    number-reply : (out : List ℕ) → (outcome (at s (Awaiting w) t) b (reply r.response r.body out)).number ≡ m out
+    number_reply : (out : List ℕ) → (outcome (at s (Awaiting w) t) b (reply r.response r.body out)).number ≡ m out
     unfolding replied_to
-    number-reply out = go (eqb (m out) 0) refl
+    number_reply out = go (eqb (m out) 0) refl
       where
         go : (f : Bool) → eqb (m out) 0 ≡ f → sent_number (pick f (spoken out) (refused_reply (m out) (at s (Awaiting w) t) out)).answer ≡ m out
         go true e = sym (eqb-true (m out) 0 e)
         go false e = refl
 
-    leaves-reply : (out : List ℕ) → m out ≡ 0 → outcome (at s (Awaiting w) t) b (reply r.response r.body out) ≡ replied_outcome b (spoken out)
+    leaves_reply : (out : List ℕ) → m out ≡ 0 → outcome (at s (Awaiting w) t) b (reply r.response r.body out) ≡ replied_outcome b (spoken out)
     unfolding replied_to
-    leaves-reply out z = ap (λ f. replied_outcome b (pick f (spoken out) (refused_reply (m out) (at s (Awaiting w) t) out))) (eq-eqb (m out) 0 z)
+    leaves_reply out z = ap (λ f. replied_outcome b (pick f (spoken out) (refused_reply (m out) (at s (Awaiting w) t) out))) (eq-eqb (m out) 0 z)
 
     module _ (out : List ℕ) (e : (big : List ℕ) → length (written_by (at s (Awaiting w) t) b (reply r.response r.body big)) ≤ length out) where
-      enough-reply : number_replied w r.response r.body ≡ 0 → length (reply_text r) ≤ length out
-      enough-reply z =
+      enough_reply : number_replied w r.response r.body ≡ 0 → length (reply_text r) ≤ length out
+      enough_reply z =
           let y = reply_text r in
           let h : length y ≤ length y = omega arith in
-          let l = leaves-reply y ((first_late (number_replied w r.response r.body) (shortness y y) (long_enough y y h)).1 z) in
+          let l = leaves_reply y ((first_late (number_replied w r.response r.body) (shortness y y) (long_enough y y h)).1 z) in
           subst (λ k. k ≤ length out) (ap length (ap (λ o. take o.size o.output) l ∙ all_written y y h)) (e y)
 
-      reply-zero : number_replied w r.response r.body ≡ 0 → m out ≡ 0
-      reply-zero z = (first_late (number_replied w r.response r.body) (shortness (reply_text r) out) (long_enough (reply_text r) out (enough-reply z))).1 z
+      reply_zero : number_replied w r.response r.body ≡ 0 → m out ≡ 0
+      reply_zero z = (first_late (number_replied w r.response r.body) (shortness (reply_text r) out) (long_enough (reply_text r) out (enough_reply z))).1 z
 
-      reply-iff : ((outcome (at s (Awaiting w) t) b (reply r.response r.body out)).number ≡ 0) ↔ ((fits_whole w r.response r.body ≡ true) × (is_writable (response_line r.response) r.body ≡ true))
-      reply-iff =
+      reply_iff : ((outcome (at s (Awaiting w) t) b (reply r.response r.body out)).number ≡ 0) ↔ ((fits_whole w r.response r.body ≡ true) × (is_writable (response_line r.response) r.body ≡ true))
+      reply_iff =
           let i = replied_iff w r.response r.body in
-          (λ z. i.0 ((first_iff (number_replied w r.response r.body) (shortness (reply_text r) out)).0 (sym (number-reply out) ∙ z)).0, λ h. number-reply out ∙ reply-zero (i.1 h))
+          (λ z. i.0 ((first_iff (number_replied w r.response r.body) (shortness (reply_text r) out)).0 (sym (number_reply out) ∙ z)).0, λ h. number_reply out ∙ reply_zero (i.1 h))
 
   -- what replies leave and write, from a phase on
   pub record Replies (c : CommandTwo) (from : Phase) (outs : Supply) (rs : List Reply) : Type 0 where
@@ -202,63 +202,63 @@ module _ (s : Session) (t : Tables) (b : Buffers) where
       eqbit [] = 0
       eqbit (r ∷ rs) = 1
 
-  ask-from : (w : WordTwo) (f : Bool) (outs : Supply) (rs : List Reply) → AnsweredAsk f w rs → LongEnough (at s (pick f (Awaiting w) Two) t) b (reply_calls outs rs) → Replies (ask w) (pick f (Awaiting w) Two) outs rs
+  ask_from : (w : WordTwo) (f : Bool) (outs : Supply) (rs : List Reply) → AnsweredAsk f w rs → LongEnough (at s (pick f (Awaiting w) Two) t) b (reply_calls outs rs) → Replies (ask w) (pick f (Awaiting w) Two) outs rs
   unfolding AllZero numbers after written reply_calls LongEnough
-  ask-from w false outs rs a l = none_from (ask w) outs rs a
-  ask-from w true outs [] a l = absurd a
-  ask-from w true outs (r ∷ []) a l =
+  ask_from w false outs rs a l = none_from (ask w) outs rs a
+  ask_from w true outs [] a l = absurd a
+  ask_from w true outs (r ∷ []) a l =
       let z = (replied_iff w r.response r.body).1 a in
-      let o = leaves-reply w r (outs 0) (reply-zero w r (outs 0) l.0 z) in
+      let o = leaves_reply w r (outs 0) (reply_zero w r (outs 0) l.0 z) in
       record {
-        zeros = ((reply-iff w r (outs 0) l.0).1 a, tt);
+        zeros = ((reply_iff w r (outs 0) l.0).1 a, tt);
         state = ap (λ o. state_of o.session o.buffers) o;
-        texts = ap (λ y. y ∷ []) (ap (λ o. take o.size o.output) o ∙ all_written (reply_text r) (outs 0) (enough-reply w r (outs 0) l.0 z));
+        texts = ap (λ y. y ∷ []) (ap (λ o. take o.size o.output) o ∙ all_written (reply_text r) (outs 0) (enough_reply w r (outs 0) l.0 z));
       }
-  ask-from w true outs (r ∷ q ∷ rs) a l = absurd a
+  ask_from w true outs (r ∷ q ∷ rs) a l = absurd a
 
   -- replies that are as they must be are accepted
-  replies-from : (c : CommandTwo) (f : Bool) (outs : Supply) (rs : List Reply) → Answered f c rs → LongEnough (at s (phase_received f c) t) b (reply_calls outs rs) → Replies c (phase_received f c) outs rs
-  replies-from (ask w) f outs rs a l = ask-from w f outs rs a l
-  replies-from (stanza x) f outs rs a l = none_from (stanza x) outs rs a
-  replies-from (key x) f outs rs a l = none_from (key x) outs rs a
-  replies-from (error n) f outs rs a l = none_from (error n) outs rs a
-  replies-from done f outs rs a l = none_from done outs rs a
-  replies-from other f outs rs a l = none_from other outs rs a
-  replies-from (bad n) f outs rs a l = none_from (bad n) outs rs a
+  replies_from : (c : CommandTwo) (f : Bool) (outs : Supply) (rs : List Reply) → Answered f c rs → LongEnough (at s (phase_received f c) t) b (reply_calls outs rs) → Replies c (phase_received f c) outs rs
+  replies_from (ask w) f outs rs a l = ask_from w f outs rs a l
+  replies_from (stanza x) f outs rs a l = none_from (stanza x) outs rs a
+  replies_from (key x) f outs rs a l = none_from (key x) outs rs a
+  replies_from (error n) f outs rs a l = none_from (error n) outs rs a
+  replies_from done f outs rs a l = none_from done outs rs a
+  replies_from other f outs rs a l = none_from other outs rs a
+  replies_from (bad n) f outs rs a l = none_from (bad n) outs rs a
 
   -- no reply is accepted in phase two or behind it where nothing is awaited
-  none-to : (outs : Supply) (rs : List Reply) → Accepted (at s Two t) b (reply_calls outs rs) → rs ≡ []
+  none_to : (outs : Supply) (rs : List Reply) → Accepted (at s Two t) b (reply_calls outs rs) → rs ≡ []
   unfolding AllZero numbers reply_calls
-  none-to outs [] a = refl
-  none-to outs (r ∷ rs) a = absurd (omega (arith, a.0))
+  none_to outs [] a = refl
+  none_to outs (r ∷ rs) a = absurd (omega (arith, a.0))
 
   ended_to : (outs : Supply) (rs : List Reply) → Accepted (at s Ended t) b (reply_calls outs rs) → rs ≡ []
   unfolding AllZero numbers reply_calls
   ended_to outs [] a = refl
   ended_to outs (r ∷ rs) a = absurd (omega (arith, a.0))
 
-  ask-to : (w : WordTwo) (f : Bool) (outs : Supply) (rs : List Reply) → Accepted (at s (pick f (Awaiting w) Two) t) b (reply_calls outs rs) → LongEnough (at s (pick f (Awaiting w) Two) t) b (reply_calls outs rs) →
+  ask_to : (w : WordTwo) (f : Bool) (outs : Supply) (rs : List Reply) → Accepted (at s (pick f (Awaiting w) Two) t) b (reply_calls outs rs) → LongEnough (at s (pick f (Awaiting w) Two) t) b (reply_calls outs rs) →
       Settled (after (at s (pick f (Awaiting w) Two) t) b (reply_calls outs rs)).session.phase → AnsweredAsk f w rs
   unfolding AllZero numbers after reply_calls LongEnough
-  ask-to w false outs rs a l h = none-to outs rs a
-  ask-to w true outs [] a l h = h
-  ask-to w true outs (r ∷ []) a l h = (reply-iff w r (outs 0) l.0).0 a.0
-  ask-to w true outs (r ∷ q ∷ rs) a l h =
-      let z = (reply-iff w r (outs 0) l.0).0 a.0 in
-      let o = leaves-reply w r (outs 0) (reply-zero w r (outs 0) l.0 ((replied_iff w r.response r.body).1 z)) in
+  ask_to w false outs rs a l h = none_to outs rs a
+  ask_to w true outs [] a l h = h
+  ask_to w true outs (r ∷ []) a l h = (reply_iff w r (outs 0) l.0).0 a.0
+  ask_to w true outs (r ∷ q ∷ rs) a l h =
+      let z = (reply_iff w r (outs 0) l.0).0 a.0 in
+      let o = leaves_reply w r (outs 0) (reply_zero w r (outs 0) l.0 ((replied_iff w r.response r.body).1 z)) in
       let n : ◌≡◌ {A = ℕ} 14 0 = ap (λ o. (outcome o.session o.buffers (reply q.response q.body (skip 1 outs 0))).number) (sym o) ∙ a.1.0 in
       absurd (omega arith)
 
   -- and only those are
-  replies-to : (c : CommandTwo) (f : Bool) (outs : Supply) (rs : List Reply) → Accepted (at s (phase_received f c) t) b (reply_calls outs rs) → LongEnough (at s (phase_received f c) t) b (reply_calls outs rs) →
+  replies_to : (c : CommandTwo) (f : Bool) (outs : Supply) (rs : List Reply) → Accepted (at s (phase_received f c) t) b (reply_calls outs rs) → LongEnough (at s (phase_received f c) t) b (reply_calls outs rs) →
       ((w : WordTwo) → c ≡ ask w → Settled (after (at s (phase_received f c) t) b (reply_calls outs rs)).session.phase) → Answered f c rs
-  replies-to (ask w) f outs rs a l h = ask-to w f outs rs a l (h w refl)
-  replies-to (stanza x) f outs rs a l h = none-to outs rs a
-  replies-to (key x) f outs rs a l h = none-to outs rs a
-  replies-to (error n) f outs rs a l h = none-to outs rs a
-  replies-to done f outs rs a l h = ended_to outs rs a
-  replies-to other f outs rs a l h = none-to outs rs a
-  replies-to (bad n) f outs rs a l h = none-to outs rs a
+  replies_to (ask w) f outs rs a l h = ask_to w f outs rs a l (h w refl)
+  replies_to (stanza x) f outs rs a l h = none_to outs rs a
+  replies_to (key x) f outs rs a l h = none_to outs rs a
+  replies_to (error n) f outs rs a l h = none_to outs rs a
+  replies_to done f outs rs a l h = ended_to outs rs a
+  replies_to other f outs rs a l h = none_to outs rs a
+  replies_to (bad n) f outs rs a l h = none_to outs rs a
 
 -- ---- a block
 
@@ -280,19 +280,19 @@ module _ (s : Session) (t : Tables) (b : Buffers) (x : Block) (w : Whole x.text)
     unfolding LongEnough
     enough = l.0
 
-    rest-enough : judged s t b x.text w ≡ 0 → Rest LongEnough
+    rest_enough : judged s t b x.text w ≡ 0 → Rest LongEnough
     unfolding LongEnough
-    rest-enough z = subst₂ (λ s b. LongEnough s b (reply_calls (skip 1 outs) x.replies)) (text-session s t b x.text w (outs 0) enough z) (text-buffers s t b x.text w (outs 0) enough z) l.1
+    rest_enough z = subst₂ (λ s b. LongEnough s b (reply_calls (skip 1 outs) x.replies)) (text_session s t b x.text w (outs 0) enough z) (text_buffers s t b x.text w (outs 0) enough z) l.1
 
     -- it is accepted where the decision finds no fault and its replies are as they must be
-    pub block-from : judged s t b x.text w ≡ 0 → Answered s.screen c' x.replies → BlockDone outs
+    pub block_from : judged s t b x.text w ≡ 0 → Answered s.screen c' x.replies → BlockDone outs
     unfolding AllZero numbers after written
-    block-from z a =
-        let r = replies-from s (tables_with s t b x.text w) (buffers_with s t b x.text w) c' s.screen (skip 1 outs) x.replies a (rest-enough z) in
-        let es = text-session s t b x.text w (outs 0) enough z in
-        let eb = text-buffers s t b x.text w (outs 0) enough z in
+    block_from z a =
+        let r = replies_from s (tables_with s t b x.text w) (buffers_with s t b x.text w) c' s.screen (skip 1 outs) x.replies a (rest_enough z) in
+        let es = text_session s t b x.text w (outs 0) enough z in
+        let eb = text_buffers s t b x.text w (outs 0) enough z in
         record {
-          zeros = ((text-iff s t b x.text w (outs 0) enough).1 z, subst (λ n. AllZero n) (sym (ap₂ (λ s b. numbers s b (reply_calls (skip 1 outs) x.replies)) es eb)) r.zeros);
+          zeros = ((text_iff s t b x.text w (outs 0) enough).1 z, subst (λ n. AllZero n) (sym (ap₂ (λ s b. numbers s b (reply_calls (skip 1 outs) x.replies)) es eb)) r.zeros);
           state = ap₂ (λ s b. after s b (reply_calls (skip 1 outs) x.replies)) es eb ∙ r.state;
           texts = ap₂ (λ y ys. y ∷ ys) (text_written s t b x.text w (outs 0) enough z) (ap₂ (λ s b. written s b (reply_calls (skip 1 outs) x.replies)) es eb ∙ r.texts);
         }
@@ -301,11 +301,11 @@ module _ (s : Session) (t : Tables) (b : Buffers) (x : Block) (w : Whole x.text)
     pub block_to : Accepted (at s Two t) b (block_calls two_part outs x) → ((v : WordTwo) → c' ≡ ask v → Settled (after (at s Two t) b (block_calls two_part outs x)).session.phase) → (judged s t b x.text w ≡ 0) × Answered s.screen c' x.replies
     unfolding AllZero numbers after
     block_to a h =
-        let z = (text-iff s t b x.text w (outs 0) enough).0 a.0 in
-        let es = text-session s t b x.text w (outs 0) enough z in
-        let eb = text-buffers s t b x.text w (outs 0) enough z in (
+        let z = (text_iff s t b x.text w (outs 0) enough).0 a.0 in
+        let es = text_session s t b x.text w (outs 0) enough z in
+        let eb = text_buffers s t b x.text w (outs 0) enough z in (
           z,
-          replies-to s (tables_with s t b x.text w) (buffers_with s t b x.text w) c' s.screen (skip 1 outs) x.replies
-              (subst (λ n. AllZero n) (ap₂ (λ s b. numbers s b (reply_calls (skip 1 outs) x.replies)) es eb) a.1) (rest-enough z)
+          replies_to s (tables_with s t b x.text w) (buffers_with s t b x.text w) c' s.screen (skip 1 outs) x.replies
+              (subst (λ n. AllZero n) (ap₂ (λ s b. numbers s b (reply_calls (skip 1 outs) x.replies)) es eb) a.1) (rest_enough z)
               (λ v e. subst (λ y. Settled y.session.phase) (ap₂ (λ s b. after s b (reply_calls (skip 1 outs) x.replies)) es eb) (h v e)),
         )

@@ -105,23 +105,23 @@ module _ (t : Tables) (b : BuffersTwo) (g : Going t) (l : Kept_limits t b) (p : 
   spared : (n m : ℕ) → n ≤ m → n + 0 ≤ m
   spared n m h = omega arith
 
-  once-with : (c : CommandTwo) → is_second_key t c ≡ false → (f : ℕ) → sums_in t (keys_for f) + weight (keys_for f) (said c p) ≤ 1
-  once-with (ask w) e f = spared _ _ (l.once f)
-  once-with (stanza x) e f = spared _ _ (l.once f)
-  once-with (key x) e f = filed x f (λ f. sums_in t (keys_for f)) 1 (omega (arith, not_any (is_file x) (labels t.returned) e)) (l.once f)
-  once-with (error n) e f = spared _ _ (l.once f)
-  once-with done e f = spared _ _ (l.once f)
-  once-with other e f = spared _ _ (l.once f)
-  once-with (bad n) e f = spared _ _ (l.once f)
+  once_with : (c : CommandTwo) → is_second_key t c ≡ false → (f : ℕ) → sums_in t (keys_for f) + weight (keys_for f) (said c p) ≤ 1
+  once_with (ask w) e f = spared _ _ (l.once f)
+  once_with (stanza x) e f = spared _ _ (l.once f)
+  once_with (key x) e f = filed x f (λ f. sums_in t (keys_for f)) 1 (omega (arith, not_any (is_file x) (labels t.returned) e)) (l.once f)
+  once_with (error n) e f = spared _ _ (l.once f)
+  once_with done e f = spared _ _ (l.once f)
+  once_with other e f = spared _ _ (l.once f)
+  once_with (bad n) e f = spared _ _ (l.once f)
 
-  few-with : (c : CommandTwo) → is_too_many t c ≡ false → (f : ℕ) → sums_in t (stanzas_for_file f) + weight (stanzas_for_file f) (said c p) ≤ most_stanzas t
-  few-with (ask w) e f = spared _ _ (l.few f)
-  few-with (stanza x) e f = filed x f (λ f. sums_in t (stanzas_for_file f)) (most_stanzas t) (omega (arith, leb-false (most_stanzas t) (sums_in t (stanzas_for_file x)) e)) (l.few f)
-  few-with (key x) e f = spared _ _ (l.few f)
-  few-with (error n) e f = spared _ _ (l.few f)
-  few-with done e f = spared _ _ (l.few f)
-  few-with other e f = spared _ _ (l.few f)
-  few-with (bad n) e f = spared _ _ (l.few f)
+  few_with : (c : CommandTwo) → is_too_many t c ≡ false → (f : ℕ) → sums_in t (stanzas_for_file f) + weight (stanzas_for_file f) (said c p) ≤ most_stanzas t
+  few_with (ask w) e f = spared _ _ (l.few f)
+  few_with (stanza x) e f = filed x f (λ f. sums_in t (stanzas_for_file f)) (most_stanzas t) (omega (arith, leb-false (most_stanzas t) (sums_in t (stanzas_for_file x)) e)) (l.few f)
+  few_with (key x) e f = spared _ _ (l.few f)
+  few_with (error n) e f = spared _ _ (l.few f)
+  few_with done e f = spared _ _ (l.few f)
+  few_with other e f = spared _ _ (l.few f)
+  few_with (bad n) e f = spared _ _ (l.few f)
 
   abbrev Apart : CommandTwo → Type 0
   Apart c = (sums_in t (entries errors) + weight (entries errors) (said c p) ≡ 0) ⊎ (sums_in t (entries stanzas) + weight (entries stanzas) (said c p) ≡ 0)
@@ -129,107 +129,107 @@ module _ (t : Tables) (b : BuffersTwo) (g : Going t) (l : Kept_limits t b) (p : 
   old_apart : (x y : ℕ) → x ≡ 0 → y ≡ 0 → (sums_in t (entries errors) + x ≡ 0) ⊎ (sums_in t (entries stanzas) + y ≡ 0)
   old_apart x y e h = ⊎_elim (λ z. inl (omega arith)) (λ z. inr (omega arith)) l.apart
 
-  apart-with : (c : CommandTwo) → is_clashing t c ≡ false → Apart c
-  apart-with (ask w) e = old_apart 0 0 refl refl
-  apart-with (stanza x) e = inl (omega (arith, ltb-false 0 t.errors.count e))
-  apart-with (key x) e = old_apart 0 0 refl refl
-  apart-with (error n) e = inr (omega (arith, ltb-false 0 t.stanzas.count (or_false (ltb 0 t.stanzas.count) (is_against_key t n) e).0))
-  apart-with done e = old_apart 0 0 refl refl
-  apart-with other e = old_apart 0 0 refl refl
-  apart-with (bad n) e = old_apart 0 0 refl refl
+  apart_with : (c : CommandTwo) → is_clashing t c ≡ false → Apart c
+  apart_with (ask w) e = old_apart 0 0 refl refl
+  apart_with (stanza x) e = inl (omega (arith, ltb-false 0 t.errors.count e))
+  apart_with (key x) e = old_apart 0 0 refl refl
+  apart_with (error n) e = inr (omega (arith, ltb-false 0 t.stanzas.count (or_false (ltb 0 t.stanzas.count) (is_against_key t n) e).0))
+  apart_with done e = old_apart 0 0 refl refl
+  apart_with other e = old_apart 0 0 refl refl
+  apart_with (bad n) e = old_apart 0 0 refl refl
 
   abbrev ApartFile : CommandTwo → ℕ → Type 0
   ApartFile c f = (sums_in t (errors_for f) + weight (errors_for f) (said c p) ≡ 0) ⊎ (sums_in t (keys_for f) + weight (keys_for f) (said c p) ≡ 0)
 
   -- nothing is added for the file
-  old-file : (f x y : ℕ) → x ≡ 0 → y ≡ 0 → (sums_in t (errors_for f) + x ≡ 0) ⊎ (sums_in t (keys_for f) + y ≡ 0)
-  old-file f x y e h = ⊎_elim (λ z. inl (omega arith)) (λ z. inr (omega arith)) (l.apart_file f)
+  old_file : (f x y : ℕ) → x ≡ 0 → y ≡ 0 → (sums_in t (errors_for f) + x ≡ 0) ⊎ (sums_in t (keys_for f) + y ≡ 0)
+  old_file f x y e h = ⊎_elim (λ z. inl (omega arith)) (λ z. inr (omega arith)) (l.apart_file f)
 
-  apart-file-with : (c : CommandTwo) → is_clashing t c ≡ false → (f : ℕ) → ApartFile c f
-  apart-file-with (ask w) e f = old-file f 0 0 refl refl
-  apart-file-with (stanza x) e f = old-file f 0 0 refl refl
-  apart-file-with (key x) e f =
+  apart_file_with : (c : CommandTwo) → is_clashing t c ≡ false → (f : ℕ) → ApartFile c f
+  apart_file_with (ask w) e f = old_file f 0 0 refl refl
+  apart_file_with (stanza x) e f = old_file f 0 0 refl refl
+  apart_file_with (key x) e f =
       cases (eqb x f)
       (λ q. inl (rw (← eqb-true x f q) (omega (arith, not_any (is_about x) (labels t.errors) e))))
-      (λ q. old-file f 0 (pick (eqb x f) 1 0) refl (rw q))
-  apart-file-with (error internal) e f = old-file f 0 0 refl refl
-  apart-file-with (error (identity i)) e f = old-file f 0 0 refl refl
-  apart-file-with (error (recipient i)) e f = old-file f 0 0 refl refl
-  apart-file-with (error (header x i)) e f =
+      (λ q. old_file f 0 (pick (eqb x f) 1 0) refl (rw q))
+  apart_file_with (error internal) e f = old_file f 0 0 refl refl
+  apart_file_with (error (identity i)) e f = old_file f 0 0 refl refl
+  apart_file_with (error (recipient i)) e f = old_file f 0 0 refl refl
+  apart_file_with (error (header x i)) e f =
       cases (eqb x f)
       (λ q. inr (rw (← eqb-true x f q) (omega (arith, not_any (is_file x) (labels t.returned) (or_false (ltb 0 t.stanzas.count) (has_key t x) e).1))))
-      (λ q. old-file f (pick (eqb x f) 1 0) 0 (rw q) refl)
-  apart-file-with done e f = old-file f 0 0 refl refl
-  apart-file-with other e f = old-file f 0 0 refl refl
-  apart-file-with (bad n) e f = old-file f 0 0 refl refl
+      (λ q. old_file f (pick (eqb x f) 1 0) 0 (rw q) refl)
+  apart_file_with done e f = old_file f 0 0 refl refl
+  apart_file_with other e f = old_file f 0 0 refl refl
+  apart_file_with (bad n) e f = old_file f 0 0 refl refl
 
   -- a kind's slots and bytes: of its own command by what fits, of another's as they were
   abbrev Space : CommandTwo → KindTwo → Type 0
   Space c k = (sums_in t (entries k) + weight (entries k) (said c p) ≤ slots_two k) × (sums_in t (bytes k) + weight (bytes k) (said c p) ≤ length (buffer_of k b))
 
-  old-space : (k : KindTwo) → ((table_of k t).count + 0 ≤ slots_two k) × ((table_of k t).used + 0 ≤ length (buffer_of k b))
-  old-space k = (spared _ _ (l.slots k), spared _ _ (l.bytes_fit k))
+  old_space : (k : KindTwo) → ((table_of k t).count + 0 ≤ slots_two k) × ((table_of k t).used + 0 ≤ length (buffer_of k b))
+  old_space k = (spared _ _ (l.slots k), spared _ _ (l.bytes_fit k))
 
-  new-space : (k : KindTwo) → not (fits (table_of k t) (length p) (length (buffer_of k b))) ≡ false → ((table_of k t).count + 1 ≤ slots_two k) × ((table_of k t).used + length p ≤ length (buffer_of k b))
-  new-space k e = let h = (fits_iff (table_of k t) (length p) (length (buffer_of k b))).0 (not-false _ e) in (omega (arith, h.0, g.wide k), h.1)
+  new_space : (k : KindTwo) → not (fits (table_of k t) (length p) (length (buffer_of k b))) ≡ false → ((table_of k t).count + 1 ≤ slots_two k) × ((table_of k t).used + length p ≤ length (buffer_of k b))
+  new_space k e = let h = (fits_iff (table_of k t) (length p) (length (buffer_of k b))).0 (not-false _ e) in (omega (arith, h.0, g.wide k), h.1)
 
-  space-with : (c : CommandTwo) → is_spaceless t b c (length p) ≡ false → (k : KindTwo) → Space c k
-  space-with (ask w) e k = old-space k
-  space-with (stanza f) e errors = old-space errors
-  space-with (stanza f) e stanzas = new-space stanzas e
-  space-with (stanza f) e returned = old-space returned
-  space-with (key f) e errors = old-space errors
-  space-with (key f) e stanzas = old-space stanzas
-  space-with (key f) e returned = new-space returned e
-  space-with (error n) e errors = new-space errors e
-  space-with (error n) e stanzas = old-space stanzas
-  space-with (error n) e returned = old-space returned
-  space-with done e k = old-space k
-  space-with other e k = old-space k
-  space-with (bad n) e k = old-space k
+  space_with : (c : CommandTwo) → is_spaceless t b c (length p) ≡ false → (k : KindTwo) → Space c k
+  space_with (ask w) e k = old_space k
+  space_with (stanza f) e errors = old_space errors
+  space_with (stanza f) e stanzas = new_space stanzas e
+  space_with (stanza f) e returned = old_space returned
+  space_with (key f) e errors = old_space errors
+  space_with (key f) e stanzas = old_space stanzas
+  space_with (key f) e returned = new_space returned e
+  space_with (error n) e errors = new_space errors e
+  space_with (error n) e stanzas = old_space stanzas
+  space_with (error n) e returned = old_space returned
+  space_with done e k = old_space k
+  space_with other e k = old_space k
+  space_with (bad n) e k = old_space k
 
-  pub limits-with : (own : Bool) (c : CommandTwo) → Faultless own t b c (length p) → With t b c p
-  limits-with own c f = record {
-    once = once-with c f.first_key;
-    few = few-with c f.few;
-    apart = apart-with c f.apart;
-    apart_file = apart-file-with c f.apart;
-    slots = λ k. (space-with c f.space k).0;
-    bytes_fit = λ k. (space-with c f.space k).1;
+  pub limits_with : (own : Bool) (c : CommandTwo) → Faultless own t b c (length p) → With t b c p
+  limits_with own c f = record {
+    once = once_with c f.first_key;
+    few = few_with c f.few;
+    apart = apart_with c f.apart;
+    apart_file = apart_file_with c f.apart;
+    slots = λ k. (space_with c f.space k).0;
+    bytes_fit = λ k. (space_with c f.space k).1;
   }
 
 -- ---- and back
 
 module _ (t : Tables) (b : BuffersTwo) (g : Going t) (p : List ℕ) where
-  first-key-by : (c : CommandTwo) → With t b c p → is_second_key t c ≡ false
-  first-key-by (ask w) l = refl
-  first-key-by (stanza x) l = refl
-  first-key-by (key x) l = none_any (is_file x) (labels t.returned) (omega (arith, l.once x, own_file x))
-  first-key-by (error n) l = refl
-  first-key-by done l = refl
-  first-key-by other l = refl
-  first-key-by (bad n) l = refl
+  first_key_by : (c : CommandTwo) → With t b c p → is_second_key t c ≡ false
+  first_key_by (ask w) l = refl
+  first_key_by (stanza x) l = refl
+  first_key_by (key x) l = none_any (is_file x) (labels t.returned) (omega (arith, l.once x, own_file x))
+  first_key_by (error n) l = refl
+  first_key_by done l = refl
+  first_key_by other l = refl
+  first_key_by (bad n) l = refl
 
-  few-by : (c : CommandTwo) → With t b c p → is_too_many t c ≡ false
-  few-by (ask w) l = refl
-  few-by (stanza x) l = lt-leb (most_stanzas t) (sums_in t (stanzas_for_file x)) (omega (arith, l.few x, own_file x))
-  few-by (key x) l = refl
-  few-by (error n) l = refl
-  few-by done l = refl
-  few-by other l = refl
-  few-by (bad n) l = refl
+  few_by : (c : CommandTwo) → With t b c p → is_too_many t c ≡ false
+  few_by (ask w) l = refl
+  few_by (stanza x) l = lt-leb (most_stanzas t) (sums_in t (stanzas_for_file x)) (omega (arith, l.few x, own_file x))
+  few_by (key x) l = refl
+  few_by (error n) l = refl
+  few_by done l = refl
+  few_by other l = refl
+  few_by (bad n) l = refl
 
-  against-by : (n : Named) → With t b (error n) p → is_against_key t n ≡ false
-  against-by internal l = refl
-  against-by (identity i) l = refl
-  against-by (recipient i) l = refl
-  against-by (header x i) l = none_any (is_file x) (labels t.returned) (⊎_elim (λ z. absurd (omega (arith, own_file x))) (λ z. omega arith) (l.apart_file x))
+  against_by : (n : Named) → With t b (error n) p → is_against_key t n ≡ false
+  against_by internal l = refl
+  against_by (identity i) l = refl
+  against_by (recipient i) l = refl
+  against_by (header x i) l = none_any (is_file x) (labels t.returned) (⊎_elim (λ z. absurd (omega (arith, own_file x))) (λ z. omega arith) (l.apart_file x))
 
   apart_by : (c : CommandTwo) → With t b c p → is_clashing t c ≡ false
   apart_by (ask w) l = refl
   apart_by (stanza x) l = le-ltb 0 t.errors.count (⊎_elim (λ z. omega arith) (λ z. absurd (omega arith)) l.apart)
   apart_by (key x) l = none_any (is_about x) (labels t.errors) (⊎_elim (λ z. omega arith) (λ z. absurd (omega (arith, own_file x))) (l.apart_file x))
-  apart_by (error n) l = false_or (ltb 0 t.stanzas.count) (is_against_key t n) (le-ltb 0 t.stanzas.count (⊎_elim (λ z. absurd (omega arith)) (λ z. omega arith) l.apart)) (against-by n l)
+  apart_by (error n) l = false_or (ltb 0 t.stanzas.count) (is_against_key t n) (le-ltb 0 t.stanzas.count (⊎_elim (λ z. absurd (omega arith)) (λ z. omega arith) l.apart)) (against_by n l)
   apart_by done l = refl
   apart_by other l = refl
   apart_by (bad n) l = refl
@@ -237,18 +237,18 @@ module _ (t : Tables) (b : BuffersTwo) (g : Going t) (p : List ℕ) where
   fits_by : (k : KindTwo) → (table_of k t).count + 1 ≤ slots_two k → (table_of k t).used + length p ≤ length (buffer_of k b) → not (fits (table_of k t) (length p) (length (buffer_of k b))) ≡ false
   fits_by k h j = not_is _ ((fits_iff (table_of k t) (length p) (length (buffer_of k b))).1 (omega (arith, g.wide k), j))
 
-  space-by : (c : CommandTwo) → With t b c p → is_spaceless t b c (length p) ≡ false
-  space-by (ask w) l = refl
-  space-by (stanza x) l = fits_by stanzas (l.slots stanzas) (l.bytes_fit stanzas)
-  space-by (key x) l = fits_by returned (l.slots returned) (l.bytes_fit returned)
-  space-by (error n) l = fits_by errors (l.slots errors) (l.bytes_fit errors)
-  space-by done l = refl
-  space-by other l = refl
-  space-by (bad n) l = refl
+  space_by : (c : CommandTwo) → With t b c p → is_spaceless t b c (length p) ≡ false
+  space_by (ask w) l = refl
+  space_by (stanza x) l = fits_by stanzas (l.slots stanzas) (l.bytes_fit stanzas)
+  space_by (key x) l = fits_by returned (l.slots returned) (l.bytes_fit returned)
+  space_by (error n) l = fits_by errors (l.slots errors) (l.bytes_fit errors)
+  space_by done l = refl
+  space_by other l = refl
+  space_by (bad n) l = refl
 
   -- where the limits hold with what a command adds, no test of the sums finds a fault
   pub tests_by : (c : CommandTwo) → With t b c p → (is_second_key t c ≡ false) × (is_too_many t c ≡ false) × (is_clashing t c ≡ false) × (is_spaceless t b c (length p) ≡ false)
-  tests_by c l = (first-key-by c l, few-by c l, apart_by c l, space-by c l)
+  tests_by c l = (first_key_by c l, few_by c l, apart_by c l, space_by c l)
 
 -- ---- an accepted command adds its weight
 
@@ -256,8 +256,8 @@ module _ (t : Tables) (b : BuffersTwo) (g : Going t) (p : List ℕ) where
   abbrev Adds : CommandTwo → Type 0
   Adds c = (m : Sum) → sums_in (applied t b c p) m ≡ sums_in t m + weight m (said c p)
 
-  nothing-added : (n : ℕ) → n ≡ n + 0
-  nothing-added n = omega arith
+  nothing_added : (n : ℕ) → n ≡ n + 0
+  nothing_added n = omega arith
 
   -- an entry more of a kind
   module _ (k : KindTwo) (i m : ℕ) (e : not (fits (table_of k t) (length p) (length (buffer_of k b))) ≡ false) where
@@ -267,59 +267,59 @@ module _ (t : Tables) (b : BuffersTwo) (g : Going t) (p : List ℕ) where
     fitting : fits (table_of k t) (length p) (length (buffer_of k b)) ≡ true
     fitting = not-false _ e
 
-    count-grown : grown.count ≡ (table_of k t).count + 1
-    count-grown = rw fitting
+    count_grown : grown.count ≡ (table_of k t).count + 1
+    count_grown = rw fitting
 
-    used-grown : grown.used ≡ (table_of k t).used + length p
-    used-grown = rw fitting
+    used_grown : grown.used ≡ (table_of k t).used + length p
+    used_grown = rw fitting
 
-    many-grown : (q : Label → Bool) → how_many q (labels grown) ≡ how_many q (labels (table_of k t)) + pick (q (record { index = i; mark = m })) 1 0
-    many-grown q =
+    many_grown : (q : Label → Bool) → how_many q (labels grown) ≡ how_many q (labels (table_of k t)) + pick (q (record { index = i; mark = m })) 1 0
+    many_grown q =
         ap (how_many q) (labels_more (table_of k t) p (buffer_of k b) i m (g.held k) fitting)
         ∙ many_append q (labels (table_of k t)) _ ∙ ap (λ n. how_many q (labels (table_of k t)) + n) (many_one q (record { index = i; mark = m }))
 
-  stanza-adds : (x : ℕ) → not (fits t.stanzas (length p) (length b.stanzas)) ≡ false → Adds (stanza x)
-  stanza-adds x e (keys_for f) = nothing-added _
-  stanza-adds x e (stanzas_for_file f) = many-grown stanzas x 0 e (is_file f)
-  stanza-adds x e (errors_for f) = nothing-added _
-  stanza-adds x e (entries errors) = nothing-added _
-  stanza-adds x e (entries stanzas) = count-grown stanzas x 0 e
-  stanza-adds x e (entries returned) = nothing-added _
-  stanza-adds x e (bytes errors) = nothing-added _
-  stanza-adds x e (bytes stanzas) = used-grown stanzas x 0 e
-  stanza-adds x e (bytes returned) = nothing-added _
+  stanza_adds : (x : ℕ) → not (fits t.stanzas (length p) (length b.stanzas)) ≡ false → Adds (stanza x)
+  stanza_adds x e (keys_for f) = nothing_added _
+  stanza_adds x e (stanzas_for_file f) = many_grown stanzas x 0 e (is_file f)
+  stanza_adds x e (errors_for f) = nothing_added _
+  stanza_adds x e (entries errors) = nothing_added _
+  stanza_adds x e (entries stanzas) = count_grown stanzas x 0 e
+  stanza_adds x e (entries returned) = nothing_added _
+  stanza_adds x e (bytes errors) = nothing_added _
+  stanza_adds x e (bytes stanzas) = used_grown stanzas x 0 e
+  stanza_adds x e (bytes returned) = nothing_added _
 
-  key-adds : (x : ℕ) → not (fits t.returned (length p) (length b.returned)) ≡ false → Adds (key x)
-  key-adds x e (keys_for f) = many-grown returned x 0 e (is_file f)
-  key-adds x e (stanzas_for_file f) = nothing-added _
-  key-adds x e (errors_for f) = nothing-added _
-  key-adds x e (entries errors) = nothing-added _
-  key-adds x e (entries stanzas) = nothing-added _
-  key-adds x e (entries returned) = count-grown returned x 0 e
-  key-adds x e (bytes errors) = nothing-added _
-  key-adds x e (bytes stanzas) = nothing-added _
-  key-adds x e (bytes returned) = used-grown returned x 0 e
+  key_adds : (x : ℕ) → not (fits t.returned (length p) (length b.returned)) ≡ false → Adds (key x)
+  key_adds x e (keys_for f) = many_grown returned x 0 e (is_file f)
+  key_adds x e (stanzas_for_file f) = nothing_added _
+  key_adds x e (errors_for f) = nothing_added _
+  key_adds x e (entries errors) = nothing_added _
+  key_adds x e (entries stanzas) = nothing_added _
+  key_adds x e (entries returned) = count_grown returned x 0 e
+  key_adds x e (bytes errors) = nothing_added _
+  key_adds x e (bytes stanzas) = nothing_added _
+  key_adds x e (bytes returned) = used_grown returned x 0 e
 
   -- an error names a header stanza of the file exactly if it says so
-  about-is : (n : Named) (f : ℕ) → is_about f (record { index = index_of n; mark = mark_of n }) ≡ is_error_for f (error n)
-  about-is internal f = ne_eqb 0 (3 + f) (λ e. omega arith)
-  about-is (identity i) f = ne_eqb 1 (3 + f) (λ e. omega arith)
-  about-is (recipient i) f = ne_eqb 2 (3 + f) (λ e. omega arith)
-  about-is (header x i) f = cases (eqb x f) (λ e. eq-eqb (3 + x) (3 + f) (ap (λ n. 3 + n) (eqb-true x f e)) ∙ sym e) (λ e. ne_eqb (3 + x) (3 + f) (λ z. eqb-false x f e (omega arith)) ∙ sym e)
+  about_is : (n : Named) (f : ℕ) → is_about f (record { index = index_of n; mark = mark_of n }) ≡ is_error_for f (error n)
+  about_is internal f = ne_eqb 0 (3 + f) (λ e. omega arith)
+  about_is (identity i) f = ne_eqb 1 (3 + f) (λ e. omega arith)
+  about_is (recipient i) f = ne_eqb 2 (3 + f) (λ e. omega arith)
+  about_is (header x i) f = cases (eqb x f) (λ e. eq-eqb (3 + x) (3 + f) (ap (λ n. 3 + n) (eqb-true x f e)) ∙ sym e) (λ e. ne_eqb (3 + x) (3 + f) (λ z. eqb-false x f e (omega arith)) ∙ sym e)
 
-  error-adds : (n : Named) → not (fits t.errors (length p) (length b.errors)) ≡ false → Adds (error n)
-  error-adds n e (keys_for f) = nothing-added _
-  error-adds n e (stanzas_for_file f) = nothing-added _
-  error-adds n e (errors_for f) = many-grown errors (index_of n) (mark_of n) e (is_about f) ∙ ap (λ x. how_many (is_about f) (labels t.errors) + pick x 1 0) (about-is n f)
-  error-adds n e (entries errors) = count-grown errors (index_of n) (mark_of n) e
-  error-adds n e (entries stanzas) = nothing-added _
-  error-adds n e (entries returned) = nothing-added _
-  error-adds n e (bytes errors) = used-grown errors (index_of n) (mark_of n) e
-  error-adds n e (bytes stanzas) = nothing-added _
-  error-adds n e (bytes returned) = nothing-added _
+  error_adds : (n : Named) → not (fits t.errors (length p) (length b.errors)) ≡ false → Adds (error n)
+  error_adds n e (keys_for f) = nothing_added _
+  error_adds n e (stanzas_for_file f) = nothing_added _
+  error_adds n e (errors_for f) = many_grown errors (index_of n) (mark_of n) e (is_about f) ∙ ap (λ x. how_many (is_about f) (labels t.errors) + pick x 1 0) (about_is n f)
+  error_adds n e (entries errors) = count_grown errors (index_of n) (mark_of n) e
+  error_adds n e (entries stanzas) = nothing_added _
+  error_adds n e (entries returned) = nothing_added _
+  error_adds n e (bytes errors) = used_grown errors (index_of n) (mark_of n) e
+  error_adds n e (bytes stanzas) = nothing_added _
+  error_adds n e (bytes returned) = nothing_added _
 
-  idle-adds : (c : CommandTwo) → ((m : Sum) → weight m (said c p) ≡ 0) → applied t b c p ≡ t → Adds c
-  idle-adds c w e m = ap (λ t. sums_in t m) e ∙ nothing-added (sums_in t m) ∙ ap (λ n. sums_in t m + n) (sym (w m))
+  idle_adds : (c : CommandTwo) → ((m : Sum) → weight m (said c p) ≡ 0) → applied t b c p ≡ t → Adds c
+  idle_adds c w e m = ap (λ t. sums_in t m) e ∙ nothing_added (sums_in t m) ∙ ap (λ n. sums_in t m + n) (sym (w m))
 
   weightless : (m : Sum) (c : CommandTwo) → ((f : ℕ) → is_key_for f c ≡ false) → ((f : ℕ) → is_stanza_for f c ≡ false) → ((f : ℕ) → is_error_for f c ≡ false) → ((k : KindTwo) → is_kind k c ≡ false) → weight m (said c p) ≡ 0
   weightless (keys_for f) c a s e k = rw (a f)
@@ -329,10 +329,10 @@ module _ (t : Tables) (b : BuffersTwo) (g : Going t) (p : List ℕ) where
   weightless (bytes j) c a s e k = rw (k j)
 
   pub adds : (own : Bool) (c : CommandTwo) → Faultless own t b c (length p) → Adds c
-  adds own (ask w) f = idle-adds (ask w) (λ m. weightless m (ask w) (λ f. refl) (λ f. refl) (λ f. refl) (λ k. refl)) refl
-  adds own (stanza x) f = stanza-adds x f.space
-  adds own (key x) f = key-adds x f.space
-  adds own (error n) f = error-adds n f.space
-  adds own done f = idle-adds done (λ m. weightless m done (λ f. refl) (λ f. refl) (λ f. refl) (λ k. refl)) refl
-  adds own other f = idle-adds other (λ m. weightless m other (λ f. refl) (λ f. refl) (λ f. refl) (λ k. refl)) refl
-  adds own (bad n) f = idle-adds (bad n) (λ m. weightless m (bad n) (λ f. refl) (λ f. refl) (λ f. refl) (λ k. refl)) refl
+  adds own (ask w) f = idle_adds (ask w) (λ m. weightless m (ask w) (λ f. refl) (λ f. refl) (λ f. refl) (λ k. refl)) refl
+  adds own (stanza x) f = stanza_adds x f.space
+  adds own (key x) f = key_adds x f.space
+  adds own (error n) f = error_adds n f.space
+  adds own done f = idle_adds done (λ m. weightless m done (λ f. refl) (λ f. refl) (λ f. refl) (λ k. refl)) refl
+  adds own other f = idle_adds other (λ m. weightless m other (λ f. refl) (λ f. refl) (λ f. refl) (λ k. refl)) refl
+  adds own (bad n) f = idle_adds (bad n) (λ m. weightless m (bad n) (λ f. refl) (λ f. refl) (λ f. refl) (λ k. refl)) refl

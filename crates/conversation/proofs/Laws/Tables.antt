@@ -36,7 +36,7 @@ use Rattle.conversation.proofs.Laws.DecidedTwo.{of_file_append}
 use Rattle.conversation.proofs.Laws.Accepted.{AppliedOne, AppliedTwo, command_at, payload_at, applied_rows, AcceptedBy, accepted}
 use Rattle.conversation.proofs.Laws.Reached.{ReachedSession, empty_reached, opening_tables, opening_reached, call_reached, after_reached}
 use Rattle.conversation.proofs.Laws.Refusals.{refusal}
-use Rattle.conversation.proofs.Laws.ViewsTwo.{kept_two, applied-view-two, one-leaves, two-leaves}
+use Rattle.conversation.proofs.Laws.ViewsTwo.{kept_two, applied_view_two, one_leaves, two_leaves}
 
 -- ---- one call
 
@@ -46,39 +46,39 @@ module _ (s : Session) (b : Buffers) where
 
 module _ (s : Session) (b : Buffers) (r : ReachedSession s) where
   -- the rows that an accepted command of phase one adds to a kind's table
-  one-rows : (line body text out : List ℕ) (o : Outcome) → AppliedOne s b line body text out o → (k : AnyKind) → view_of k o.session.tables o.buffers ≡ view_of k s.tables b ++ rows_one s line body k
-  one-rows line body text out o a (first k) = applied_rows s b.first line body o.session o.buffers.first a.applied r.tables k
-  one-rows line body text out o a (second k) =
+  one_rows : (line body text out : List ℕ) (o : Outcome) → AppliedOne s b line body text out o → (k : AnyKind) → view_of k o.session.tables o.buffers ≡ view_of k s.tables b ++ rows_one s line body k
+  one_rows line body text out o a (first k) = applied_rows s b.first line body o.session o.buffers.first a.applied r.tables k
+  one_rows line body text out o a (second k) =
       ap₂ (λ t x. view t (two.buffer_of k x))
-      (ap (λ x. two.table_of k x.tables) a.applied.session ∙ one-leaves s.tables (payload_in s.machine s.name line body) b.first (command_in s.machine s.name line body) k) a.second
+      (ap (λ x. two.table_of k x.tables) a.applied.session ∙ one_leaves s.tables (payload_in s.machine s.name line body) b.first (command_in s.machine s.name line body) k) a.second
       ∙ sym (append-nil (view_of (second k) s.tables b))
 
   -- .. one of phase two
-  two-rows : (own : Bool) (line body : List ℕ) (phase : Phase) (text out : List ℕ) (o : Outcome) → AppliedTwo own s b line body phase text out o →
+  two_rows : (own : Bool) (line body : List ℕ) (phase : Phase) (text out : List ℕ) (o : Outcome) → AppliedTwo own s b line body phase text out o →
       (k : AnyKind) → view_of k o.session.tables o.buffers ≡ view_of k s.tables b ++ rows_two s line body k
-  two-rows own line body phase text out o a (first k) =
+  two_rows own line body phase text out o a (first k) =
       ap₂ (λ t x. view t (one_kind.buffer_of k x))
-      (ap (λ x. one_kind.table_of k x.tables) a.session ∙ two-leaves s.tables (payload_at s line body) b.second (command_at s line body) k) (ap (λ x. x.first) a.buffers)
+      (ap (λ x. one_kind.table_of k x.tables) a.session ∙ two_leaves s.tables (payload_at s line body) b.second (command_at s line body) k) (ap (λ x. x.first) a.buffers)
       ∙ sym (append-nil (view_of (first k) s.tables b))
-  two-rows own line body phase text out o a (second k) =
+  two_rows own line body phase text out o a (second k) =
       ap₂ (two.view_of k) (ap (λ x. x.tables) a.session) (ap (λ x. x.second) a.buffers)
-      ∙ applied-view-two own s.tables b.second (payload_at s line body) (kept_two s.tables r.later_tables) (command_at s line body) a.faultless k
+      ∙ applied_view_two own s.tables b.second (payload_at s line body) (kept_two s.tables r.later_tables) (command_at s line body) a.faultless k
 
   -- .. an accepted call
-  pub accepted-view : (c : Call) → AcceptedBy s b c → (k : AnyKind) → view_of k (outcome s b c).session.tables (outcome s b c).buffers ≡ view_of k s.tables b ++ rows_brought s (brought_by c) k
-  accepted-view (receive text) a k = one-rows _ _ _ _ (outcome s b (receive text)) a k
-  accepted-view (send word arguments body out) a k = one-rows _ _ _ _ (outcome s b (send word arguments body out)) a k
-  accepted-view (receive_two text out) a k = two-rows false _ _ _ _ _ (outcome s b (receive_two text out)) a k
-  accepted-view (reply x body out) a k = same_rows s b (outcome s b (reply x body out)) k (ap (λ x. x.tables) a.session) a.buffers
-  accepted-view (send_two word arguments body out) a k = two-rows true _ _ _ _ _ (outcome s b (send_two word arguments body out)) a k
-  accepted-view (respond text out) a k = same_rows s b (outcome s b (respond text out)) k (ap (λ x. x.tables) a.1.session) a.1.buffers
+  pub accepted_view : (c : Call) → AcceptedBy s b c → (k : AnyKind) → view_of k (outcome s b c).session.tables (outcome s b c).buffers ≡ view_of k s.tables b ++ rows_brought s (brought_by c) k
+  accepted_view (receive text) a k = one_rows _ _ _ _ (outcome s b (receive text)) a k
+  accepted_view (send word arguments body out) a k = one_rows _ _ _ _ (outcome s b (send word arguments body out)) a k
+  accepted_view (receive_two text out) a k = two_rows false _ _ _ _ _ (outcome s b (receive_two text out)) a k
+  accepted_view (reply x body out) a k = same_rows s b (outcome s b (reply x body out)) k (ap (λ x. x.tables) a.session) a.buffers
+  accepted_view (send_two word arguments body out) a k = two_rows true _ _ _ _ _ (outcome s b (send_two word arguments body out)) a k
+  accepted_view (respond text out) a k = same_rows s b (outcome s b (respond text out)) k (ap (λ x. x.tables) a.1.session) a.1.buffers
 
 -- the rows that a call adds to a kind's table: those of its command if it is accepted, else none
 pub call_view : (s : Session) (b : Buffers) (c : Call) → ReachedSession s → (k : AnyKind) →
     view_of k (outcome s b c).session.tables (outcome s b c).buffers ≡ view_of k s.tables b ++ pick (eqb (outcome s b c).number 0) (rows_brought s (brought_by c) k) []
 call_view s b c r k =
     cases (eqb (outcome s b c).number 0)
-    (λ f. accepted-view s b r c (accepted s b c (eqb-true (outcome s b c).number 0 f)) k ∙ ap (λ x. view_of k s.tables b ++ pick x (rows_brought s (brought_by c) k) []) (sym f))
+    (λ f. accepted_view s b r c (accepted s b c (eqb-true (outcome s b c).number 0 f)) k ∙ ap (λ x. view_of k s.tables b ++ pick x (rows_brought s (brought_by c) k) []) (sym f))
     (λ f. let w = refusal s b c (eqb-false (outcome s b c).number 0 f) in
     same_rows s b (outcome s b c) k w.tables w.buffers ∙ ap (λ x. view_of k s.tables b ++ pick x (rows_brought s (brought_by c) k) []) (sym f))
 
@@ -136,7 +136,7 @@ count_opened k machine name screen b cs =
 -- an accepted command's number and row
 pub numbered : (s : Session) (b : Buffers) (c : Call) (k : AnyKind) (row : Row) → ReachedSession s → (outcome s b c).number ≡ 0 → rows_brought s (brought_by c) k ≡ row ∷ [] → Numbered s b c k row
 numbered s b c k row r z q =
-    let v : view_of k (outcome s b c).session.tables (outcome s b c).buffers ≡ view_of k s.tables b ++ (row ∷ []) = accepted-view s b r c (accepted s b c z) k ∙ ap (λ l. view_of k s.tables b ++ l) q in
+    let v : view_of k (outcome s b c).session.tables (outcome s b c).buffers ≡ view_of k s.tables b ++ (row ∷ []) = accepted_view s b r c (accepted s b c z) k ∙ ap (λ l. view_of k s.tables b ++ l) q in
     record {
       count =
           count_rows k (outcome s b c).session (outcome s b c).buffers (call_reached s b c r) ∙ ap length v ∙ length-append (view_of k s.tables b) (row ∷ [])
@@ -212,21 +212,21 @@ module _ (s : Session) (b : Buffers) where
   abbrev Stays : Outcome → AnyKind → Type 0
   Stays o k = (table_of k o.session.tables ≡ table_of k s.tables) × (buffer_for k o.buffers ≡ buffer_for k b)
 
-  one-stays : (line body text out : List ℕ) (o : Outcome) → AppliedOne s b line body text out o → (k : AnyKind) → rows_one s line body k ≡ [] → Stays o k
-  one-stays line body text out o a (first k) q =
+  one_stays : (line body text out : List ℕ) (o : Outcome) → AppliedOne s b line body text out o → (k : AnyKind) → rows_one s line body k ≡ [] → Stays o k
+  one_stays line body text out o a (first k) q =
       let w = applied_elsewhere s.tables b.first (command_in s.machine s.name line body) k (payload_in s.machine s.name line body) q in
       (ap (λ x. one_kind.table_of k x.tables) a.applied.session ∙ w.0, ap (one_kind.buffer_of k) a.applied.buffers ∙ w.1)
-  one-stays line body text out o a (second k) q = (
-    ap (λ x. two.table_of k x.tables) a.applied.session ∙ one-leaves s.tables (payload_in s.machine s.name line body) b.first (command_in s.machine s.name line body) k,
+  one_stays line body text out o a (second k) q = (
+    ap (λ x. two.table_of k x.tables) a.applied.session ∙ one_leaves s.tables (payload_in s.machine s.name line body) b.first (command_in s.machine s.name line body) k,
     ap (two.buffer_of k) a.second,
   )
 
-  two-stays : (own : Bool) (line body : List ℕ) (phase : Phase) (text out : List ℕ) (o : Outcome) → AppliedTwo own s b line body phase text out o → (k : AnyKind) → rows_two s line body k ≡ [] → Stays o k
-  two-stays own line body phase text out o a (first k) q = (
-    ap (λ x. one_kind.table_of k x.tables) a.session ∙ two-leaves s.tables (payload_at s line body) b.second (command_at s line body) k,
+  two_stays : (own : Bool) (line body : List ℕ) (phase : Phase) (text out : List ℕ) (o : Outcome) → AppliedTwo own s b line body phase text out o → (k : AnyKind) → rows_two s line body k ≡ [] → Stays o k
+  two_stays own line body phase text out o a (first k) q = (
+    ap (λ x. one_kind.table_of k x.tables) a.session ∙ two_leaves s.tables (payload_at s line body) b.second (command_at s line body) k,
     ap (λ x. one_kind.buffer_of k x.first) a.buffers,
   )
-  two-stays own line body phase text out o a (second k) q =
+  two_stays own line body phase text out o a (second k) q =
       let w = two_elsewhere s.tables b.second (command_at s line body) k (payload_at s line body) q in
       (ap (λ x. two.table_of k x.tables) a.session ∙ w.0, ap (λ x. two.buffer_of k x.second) a.buffers ∙ w.1)
 
@@ -236,11 +236,11 @@ module _ (s : Session) (b : Buffers) where
   elsewhere c k z = by c (accepted s b c z)
     where
       by : (c : Call) → AcceptedBy s b c → rows_brought s (brought_by c) k ≡ [] → Stays (outcome s b c) k
-      by (receive text) a q = one-stays _ _ _ _ (outcome s b (receive text)) a k q
-      by (send word arguments body out) a q = one-stays _ _ _ _ (outcome s b (send word arguments body out)) a k q
-      by (receive_two text out) a q = two-stays false _ _ _ _ _ (outcome s b (receive_two text out)) a k q
+      by (receive text) a q = one_stays _ _ _ _ (outcome s b (receive text)) a k q
+      by (send word arguments body out) a q = one_stays _ _ _ _ (outcome s b (send word arguments body out)) a k q
+      by (receive_two text out) a q = two_stays false _ _ _ _ _ (outcome s b (receive_two text out)) a k q
       by (reply x body out) a q = (ap (λ x. table_of k x.tables) a.session, ap (buffer_for k) a.buffers)
-      by (send_two word arguments body out) a q = two-stays true _ _ _ _ _ (outcome s b (send_two word arguments body out)) a k q
+      by (send_two word arguments body out) a q = two_stays true _ _ _ _ _ (outcome s b (send_two word arguments body out)) a k q
       by (respond text out) a q = (ap (λ x. table_of k x.tables) a.1.session, ap (buffer_for k) a.1.buffers)
 
 -- ---- an ignored command
@@ -249,16 +249,16 @@ module _ (s : Session) (b : Buffers) where
   abbrev Unchanged : Phase → Outcome → Type 0
   Unchanged p o = (o.session ≡ moved s p s.tables) × (o.buffers ≡ b)
 
-  one-ignored : (line body text out : List ℕ) (o : Outcome) → AppliedOne s b line body text out o → command_in s.machine s.name line body ≡ other → Unchanged s.phase o
-  one-ignored line body text out o a q =
+  one_ignored : (line body text out : List ℕ) (o : Outcome) → AppliedOne s b line body text out o → command_in s.machine s.name line body ≡ other → Unchanged s.phase o
+  one_ignored line body text out o a q =
       let p = payload_in s.machine s.name line body in (
         a.applied.session ∙ ap (λ x. moved s (phase_after x) (one.applied s.tables b.first x p)) q ∙ ap (λ h. moved s h s.tables) (sym a.applied.turn),
         ap₂ buffers_of (a.applied.buffers ∙ ap (λ x. one.filled_by s.tables b.first x p) q) a.second,
       )
 
-  two-ignored : (own : Bool) (line body : List ℕ) (phase : CommandTwo → Phase) (text out : List ℕ) (o : Outcome) → AppliedTwo own s b line body (phase (command_at s line body)) text out o →
+  two_ignored : (own : Bool) (line body : List ℕ) (phase : CommandTwo → Phase) (text out : List ℕ) (o : Outcome) → AppliedTwo own s b line body (phase (command_at s line body)) text out o →
       command_at s line body ≡ two_command.other → Unchanged (phase two_command.other) o
-  two-ignored own line body phase text out o a q =
+  two_ignored own line body phase text out o a q =
       let p = payload_at s line body in (
         a.session ∙ ap (λ x. moved s (phase x) (two.applied s.tables b.second x p)) q,
         a.buffers ∙ ap (λ x. buffers_of b.first (two.filled_by s.tables b.second x p)) q,
@@ -269,11 +269,11 @@ module _ (s : Session) (b : Buffers) where
   ignored c z = by c (accepted s b c z)
     where
       by : (c : Call) → AcceptedBy s b c → Ignored s (brought_by c) → Unchanged (phase_ignored s c) (outcome s b c)
-      by (receive text) a q = one-ignored _ _ _ _ (outcome s b (receive text)) a q
-      by (send word arguments body out) a q = one-ignored _ _ _ _ (outcome s b (send word arguments body out)) a q
+      by (receive text) a q = one_ignored _ _ _ _ (outcome s b (receive text)) a q
+      by (send word arguments body out) a q = one_ignored _ _ _ _ (outcome s b (send word arguments body out)) a q
       by (receive_two text out) a q =
-          let w = two-ignored false (line_read (read_first text) text) (body_read (read_first text) text) (phase_received s.screen) _ out (outcome s b (receive_two text out)) a q in
+          let w = two_ignored false (line_read (read_first text) text) (body_read (read_first text) text) (phase_received s.screen) _ out (outcome s b (receive_two text out)) a q in
           (w.0 ∙ ap (λ h. moved s h s.tables) (sym a.turn), w.1)
       by (reply x body out) a q = absurd q
-      by (send_two word arguments body out) a q = two-ignored true (two_command.line_sent word arguments) body phase_sent _ out (outcome s b (send_two word arguments body out)) a q
+      by (send_two word arguments body out) a q = two_ignored true (two_command.line_sent word arguments) body phase_sent _ out (outcome s b (send_two word arguments body out)) a q
       by (respond text out) a q = absurd q

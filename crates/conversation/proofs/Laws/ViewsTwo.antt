@@ -90,20 +90,20 @@ module _ (own : Bool) (t : Tables) (b : BuffersTwo) (p : List ℕ) (r : (k : Kin
   none : (k : KindTwo) → view_of k t b ≡ view_of k t b ++ []
   none k = sym (append-nil (view_of k t b))
 
-  pub applied-view-two : (c : CommandTwo) → decided own t b c (length p) ≡ 0 → (k : KindTwo) → view_of k (applied t b c p) (filled_by t b c p) ≡ view_of k t b ++ rows_of c k p
-  applied-view-two (ask w) h k = none k
-  applied-view-two (stanza f) h errors = none errors
-  applied-view-two (stanza f) h stanzas = own_row t.stanzas p b.stanzas f 0 (r stanzas) (fits t.stanzas (length p) (length b.stanzas)) refl ((decided_iff own t b (stanza f) (length p)).0 h).space
-  applied-view-two (stanza f) h returned = none returned
-  applied-view-two (key f) h errors = none errors
-  applied-view-two (key f) h stanzas = none stanzas
-  applied-view-two (key f) h returned = own_row t.returned p b.returned f 0 (r returned) (fits t.returned (length p) (length b.returned)) refl ((decided_iff own t b (key f) (length p)).0 h).space
-  applied-view-two (error n) h errors = own_row t.errors p b.errors _ _ (r errors) (fits t.errors (length p) (length b.errors)) refl ((decided_iff own t b (error n) (length p)).0 h).space
-  applied-view-two (error n) h stanzas = none stanzas
-  applied-view-two (error n) h returned = none returned
-  applied-view-two done h k = none k
-  applied-view-two other h k = none k
-  applied-view-two (bad n) h k = none k
+  pub applied_view_two : (c : CommandTwo) → decided own t b c (length p) ≡ 0 → (k : KindTwo) → view_of k (applied t b c p) (filled_by t b c p) ≡ view_of k t b ++ rows_of c k p
+  applied_view_two (ask w) h k = none k
+  applied_view_two (stanza f) h errors = none errors
+  applied_view_two (stanza f) h stanzas = own_row t.stanzas p b.stanzas f 0 (r stanzas) (fits t.stanzas (length p) (length b.stanzas)) refl ((decided_iff own t b (stanza f) (length p)).0 h).space
+  applied_view_two (stanza f) h returned = none returned
+  applied_view_two (key f) h errors = none errors
+  applied_view_two (key f) h stanzas = none stanzas
+  applied_view_two (key f) h returned = own_row t.returned p b.returned f 0 (r returned) (fits t.returned (length p) (length b.returned)) refl ((decided_iff own t b (key f) (length p)).0 h).space
+  applied_view_two (error n) h errors = own_row t.errors p b.errors _ _ (r errors) (fits t.errors (length p) (length b.errors)) refl ((decided_iff own t b (error n) (length p)).0 h).space
+  applied_view_two (error n) h stanzas = none stanzas
+  applied_view_two (error n) h returned = none returned
+  applied_view_two done h k = none k
+  applied_view_two other h k = none k
+  applied_view_two (bad n) h k = none k
 
 -- ---- a command of one phase leaves the other phase's tables
 
@@ -121,23 +121,23 @@ each_first t u e one_kind.keys = e.2
 each_first t u e one_kind.headers = e.3
 
 module _ (t : Tables) (p : List ℕ) where
-  pub one-leaves : (b : one.BuffersOne) (c : one_command.CommandOne) (k : KindTwo) → table_of k (one.applied t b c p) ≡ table_of k t
-  one-leaves b (one_command.recipient m) k = each_second t (one.applied t b (one_command.recipient m) p) (refl, refl, refl) k
-  one-leaves b (one_command.identity m) k = each_second t (one.applied t b (one_command.identity m) p) (refl, refl, refl) k
-  one-leaves b one_command.key k = each_second t (one.applied t b one_command.key p) (refl, refl, refl) k
-  one-leaves b (one_command.header i m) k = each_second t (one.applied t b (one_command.header i m) p) (refl, refl, refl) k
-  one-leaves b one_command.done k = refl
-  one-leaves b one_command.other k = refl
-  one-leaves b (one_command.bad n) k = refl
+  pub one_leaves : (b : one.BuffersOne) (c : one_command.CommandOne) (k : KindTwo) → table_of k (one.applied t b c p) ≡ table_of k t
+  one_leaves b (one_command.recipient m) k = each_second t (one.applied t b (one_command.recipient m) p) (refl, refl, refl) k
+  one_leaves b (one_command.identity m) k = each_second t (one.applied t b (one_command.identity m) p) (refl, refl, refl) k
+  one_leaves b one_command.key k = each_second t (one.applied t b one_command.key p) (refl, refl, refl) k
+  one_leaves b (one_command.header i m) k = each_second t (one.applied t b (one_command.header i m) p) (refl, refl, refl) k
+  one_leaves b one_command.done k = refl
+  one_leaves b one_command.other k = refl
+  one_leaves b (one_command.bad n) k = refl
 
-  pub two-leaves : (b : BuffersTwo) (c : CommandTwo) (k : one_kind.KindOne) → one_kind.table_of k (applied t b c p) ≡ one_kind.table_of k t
-  two-leaves b (ask w) k = refl
-  two-leaves b (stanza f) k = each_first t (applied t b (stanza f) p) (refl, refl, refl, refl) k
-  two-leaves b (key f) k = each_first t (applied t b (key f) p) (refl, refl, refl, refl) k
-  two-leaves b (error n) k = each_first t (applied t b (error n) p) (refl, refl, refl, refl) k
-  two-leaves b done k = refl
-  two-leaves b other k = refl
-  two-leaves b (bad n) k = refl
+  pub two_leaves : (b : BuffersTwo) (c : CommandTwo) (k : one_kind.KindOne) → one_kind.table_of k (applied t b c p) ≡ one_kind.table_of k t
+  two_leaves b (ask w) k = refl
+  two_leaves b (stanza f) k = each_first t (applied t b (stanza f) p) (refl, refl, refl, refl) k
+  two_leaves b (key f) k = each_first t (applied t b (key f) p) (refl, refl, refl, refl) k
+  two_leaves b (error n) k = each_first t (applied t b (error n) p) (refl, refl, refl, refl) k
+  two_leaves b done k = refl
+  two_leaves b other k = refl
+  two_leaves b (bad n) k = refl
 
 -- ---- no payload of a stanza or a key that was read is empty: a stanza's has its LF, and a key 16 bytes
 
@@ -145,46 +145,46 @@ module _ (line body : List ℕ) where
   abbrev Right : CommandTwo → Type 0
   Right c = StoredTwo c (payload_of c line body)
 
-  at-either : (f : Bool) (x y : CommandTwo) → (f ≡ true → Right x) → Right y → Right (pick f x y)
-  at-either true x y h g = h refl
-  at-either false x y h g = g
+  at_either : (f : Bool) (x y : CommandTwo) → (f ≡ true → Right x) → Right y → Right (pick f x y)
+  at_either true x y h g = h refl
+  at_either false x y h g = g
 
-  stanza-stored : (i : ReadIndex) → Right (stanza_at i)
-  stanza-stored (number f) = simp length-append (omega arith)
-  stanza-stored (refused n) = tt
+  stanza_stored : (i : ReadIndex) → Right (stanza_at i)
+  stanza_stored (number f) = simp length-append (omega arith)
+  stanza_stored (refused n) = tt
 
-  key-stored : (i : ReadIndex) → length body ≡ 16 → Right (key_at i)
-  key-stored (number f) h = omega arith
-  key-stored (refused n) h = tt
+  key_stored : (i : ReadIndex) → length body ≡ 16 → Right (key_at i)
+  key_stored (number f) h = omega arith
+  key_stored (refused n) h = tt
 
-  named-stored : (name : ℕ → Named) (i : ReadIndex) → Right (error_at name i)
-  named-stored name (number f) = tt
-  named-stored name (refused n) = tt
+  named_stored : (name : ℕ → Named) (i : ReadIndex) → Right (error_at name i)
+  named_stored name (number f) = tt
+  named_stored name (refused n) = tt
 
-  header-stored : (f i : ReadIndex) → Right (header_at f i)
-  header-stored (number f) (number i) = tt
-  header-stored (number f) (refused n) = tt
-  header-stored (refused n) i = tt
+  header_stored : (f i : ReadIndex) → Right (header_at f i)
+  header_stored (number f) (number i) = tt
+  header_stored (number f) (refused n) = tt
+  header_stored (refused n) i = tt
 
-  error-stored : (m : Machine) → Right (error_of m line)
-  error-stored RecipientV1 = at-either (same (argument_of line 1) recipient_word && eqb (count_of line) 3) _ (bad 4) (λ e. named-stored recipient (read_index (argument_of line 2))) tt
-  error-stored IdentityV1 = at-either (same (argument_of line 1) stanza_word && eqb (count_of line) 4) _ (bad 4) (λ e. header-stored (read_index (argument_of line 2)) (read_index (argument_of line 3))) tt
+  error_stored : (m : Machine) → Right (error_of m line)
+  error_stored RecipientV1 = at_either (same (argument_of line 1) recipient_word && eqb (count_of line) 3) _ (bad 4) (λ e. named_stored recipient (read_index (argument_of line 2))) tt
+  error_stored IdentityV1 = at_either (same (argument_of line 1) stanza_word && eqb (count_of line) 4) _ (bad 4) (λ e. header_stored (read_index (argument_of line 2)) (read_index (argument_of line 3))) tt
 
-  row-stored : (w : WordTwo) (m : Machine) → Right (row_two w m line (length body))
-  row-stored Msg m = at-either (eqb (count_of line) 1) (ask Msg) (bad 4) (λ e. tt) tt
-  row-stored Confirm m = at-either (are_labels line) (ask Confirm) (bad 4) (λ e. tt) tt
-  row-stored RequestPublic m = at-either (eqb (count_of line) 1) (ask RequestPublic) (bad 4) (λ e. tt) tt
-  row-stored RequestSecret m = at-either (eqb (count_of line) 1) (ask RequestSecret) (bad 4) (λ e. tt) tt
-  row-stored RecipientStanza m = at-either (leb 3 (count_of line)) (stanza_at (read_index (argument_of line 1))) (bad 4) (λ e. stanza-stored (read_index (argument_of line 1))) tt
-  row-stored FileKey m =
-      at-either (eqb (count_of line) 2 && eqb (length body) 16) (key_at (read_index (argument_of line 1))) (bad 4)
-      (λ e. key-stored (read_index (argument_of line 1)) (eqb-true (length body) 16 (and_true (eqb (count_of line) 2) (eqb (length body) 16) e).1)) tt
-  row-stored Error m =
-      at-either (same (argument_of line 1) internal_word && eqb (count_of line) 2) _ _ (λ e. tt)
-      (at-either (same (argument_of line 1) identity_word && eqb (count_of line) 3) _ _ (λ e. named-stored identity (read_index (argument_of line 2))) (error-stored m))
-  row-stored Other m = tt
-  row-stored Done m = at-either (is_bare line (length body) 0) done (bad 4) (λ e. tt) tt
+  row_stored : (w : WordTwo) (m : Machine) → Right (row_two w m line (length body))
+  row_stored Msg m = at_either (eqb (count_of line) 1) (ask Msg) (bad 4) (λ e. tt) tt
+  row_stored Confirm m = at_either (are_labels line) (ask Confirm) (bad 4) (λ e. tt) tt
+  row_stored RequestPublic m = at_either (eqb (count_of line) 1) (ask RequestPublic) (bad 4) (λ e. tt) tt
+  row_stored RequestSecret m = at_either (eqb (count_of line) 1) (ask RequestSecret) (bad 4) (λ e. tt) tt
+  row_stored RecipientStanza m = at_either (leb 3 (count_of line)) (stanza_at (read_index (argument_of line 1))) (bad 4) (λ e. stanza_stored (read_index (argument_of line 1))) tt
+  row_stored FileKey m =
+      at_either (eqb (count_of line) 2 && eqb (length body) 16) (key_at (read_index (argument_of line 1))) (bad 4)
+      (λ e. key_stored (read_index (argument_of line 1)) (eqb-true (length body) 16 (and_true (eqb (count_of line) 2) (eqb (length body) 16) e).1)) tt
+  row_stored Error m =
+      at_either (same (argument_of line 1) internal_word && eqb (count_of line) 2) _ _ (λ e. tt)
+      (at_either (same (argument_of line 1) identity_word && eqb (count_of line) 3) _ _ (λ e. named_stored identity (read_index (argument_of line 2))) (error_stored m))
+  row_stored Other m = tt
+  row_stored Done m = at_either (is_bare line (length body) 0) done (bad 4) (λ e. tt) tt
 
-  pub payload-stored-two : (m : Machine) → StoredTwo (command_two m line body) (payload_of (command_two m line body) line body)
+  pub payload_stored_two : (m : Machine) → StoredTwo (command_two m line body) (payload_of (command_two m line body) line body)
   unfolding command_two
-  payload-stored-two m = row-stored (word_two m (argument_of line 0)) m
+  payload_stored_two m = row_stored (word_two m (argument_of line 0)) m

@@ -78,29 +78,29 @@ bodiless Unsupported = refl
 
 module _ (s : Session) (b : Buffers) where
   -- a command that the client end sends in phase one is parsed by the plugin end as that command
-  pub phase-one-written : (word : WordOne) (arguments body out : List ℕ) → are_bytes body ≡ true → (outcome s b (send word arguments body out)).number ≡ 0 →
+  pub phase_one_written : (word : WordOne) (arguments body out : List ℕ) → are_bytes body ≡ true → (outcome s b (send word arguments body out)).number ≡ 0 →
       OneReadsBack (one_command.line_sent word arguments) body (written_by s b (send word arguments body out))
-  phase-one-written word arguments body out a h =
+  phase_one_written word arguments body out a h =
       let w = accepted s b (send word arguments body out) h in one_back _ _ _ (reads_back _ body _ a w.writable (front _ out _ w.written))
 
   -- a command that the plugin end sends in phase two is parsed by the client end as that command
-  pub command-written : (word : WordTwo) (arguments body out : List ℕ) → are_bytes body ≡ true → (outcome s b (send_two word arguments body out)).number ≡ 0 →
+  pub command_written : (word : WordTwo) (arguments body out : List ℕ) → are_bytes body ≡ true → (outcome s b (send_two word arguments body out)).number ≡ 0 →
       TwoReadsBack (line_sent word arguments) body (written_by s b (send_two word arguments body out))
-  command-written word arguments body out a h =
+  command_written word arguments body out a h =
       let w = accepted s b (send_two word arguments body out) h in two_back _ _ _ (reads_back _ body _ a w.writable (front _ out _ w.written))
 
   -- what the client end writes at once for an accepted command
-  pub at-once-text : (text out : List ℕ) → (outcome s b (receive_two text out)).number ≡ 0 → written_by s b (receive_two text out) ≡ text_of (at_once s.screen (command_in s.machine text))
-  at-once-text text out h = front _ out _ (accepted s b (receive_two text out) h).written
+  pub at_once_text_lem : (text out : List ℕ) → (outcome s b (receive_two text out)).number ≡ 0 → written_by s b (receive_two text out) ≡ text_of (at_once s.screen (command_in s.machine text))
+  at_once_text_lem text out h = front _ out _ (accepted s b (receive_two text out) h).written
 
   -- a response that the client end writes at once is parsed by the plugin end as that response, without a body
-  pub at-once-written : (text out : List ℕ) (r : Response) → (outcome s b (receive_two text out)).number ≡ 0 → at_once s.screen (command_in s.machine text) ≡ writes r →
+  pub at_once_written : (text out : List ℕ) (r : Response) → (outcome s b (receive_two text out)).number ≡ 0 → at_once s.screen (command_in s.machine text) ≡ writes r →
       ResponseReadsBack r [] (written_by s b (receive_two text out))
-  at-once-written text out r h e = response_back r [] _ (reads_back _ [] _ refl (bodiless r) (at-once-text text out h ∙ ap text_of e))
+  at_once_written text out r h e = response_back r [] _ (reads_back _ [] _ refl (bodiless r) (at_once_text_lem text out h ∙ ap text_of e))
 
   -- a response that the client's host gives is parsed by the plugin end as that response with that body
-  pub response-written : (r : Response) (body out : List ℕ) → are_bytes body ≡ true → (outcome s b (reply r body out)).number ≡ 0 → ResponseReadsBack r body (written_by s b (reply r body out))
-  response-written r body out a h = let w = accepted s b (reply r body out) h in response_back r body _ (reads_back _ body _ a w.writable (front _ out _ w.written))
+  pub response_written : (r : Response) (body out : List ℕ) → are_bytes body ≡ true → (outcome s b (reply r body out)).number ≡ 0 → ResponseReadsBack r body (written_by s b (reply r body out))
+  response_written r body out a h = let w = accepted s b (reply r body out) h in response_back r body _ (reads_back _ body _ a w.writable (front _ out _ w.written))
 
 -- ---- what is received would be written so again
 

@@ -6,7 +6,7 @@ use Rattle.refusal.specs.Output.{said, bytes, refused}
 use Rattle.bech32.specs.Text.{parse}
 use Rattle.bech32.specs.Calls.{form_of, padded, read_answer}
 use Rattle.exports.specs.Results.{number_in, length_or}
-use Rattle.exports.proofs.Laws.Results.{name-made, name-kept}
+use Rattle.exports.proofs.Laws.Results.{name_made, name_kept}
 use Rattle.exports.proofs.read_text.Goals as goal
 
 pub returns-in-Bytes : goal.returns-in-Bytes
@@ -16,8 +16,8 @@ returns-in-Bytes c = let read = c.read-reading.ensures in
     let told : bytes c.in-Bytes.size ≡ read_answer p b = sym (ap said c.in-Bytes.is) ∙ read.answer in
     record {
       number = ap number_in told;
-      name = read.bytes ∙ name-made padded _ p b _ told;
-      named = read.length ∙ name-made length _ p b _ told;
+      name = read.bytes ∙ name_made padded _ p b _ told;
+      named = read.length ∙ name_made length _ p b _ told;
       buffer = read.buffer;
       length = ap (length_or _) told;
       place = read.place;
@@ -30,8 +30,8 @@ returns-in-Refused c = let read = c.read-reading.ensures in
     let told : refused (number_of c.in-Refused.r) ≡ read_answer p b = sym (ap said c.in-Refused.is) ∙ read.answer in
     record {
       number = c.number.ensures ∙ ap number_in told;
-      name = name-kept padded _ p b _ told;
-      named = name-kept length _ p b _ told;
+      name = name_kept padded _ p b _ told;
+      named = name_kept length _ p b _ told;
       buffer = read.buffer;
       length = ap (length_or _) told;
       place = read.place;

@@ -11,7 +11,7 @@ use borrow.Author.Tests.{eqb-true, ltb-true, ltb-false, lt-ltb, le-ltb}
 use Rattle.refusal.specs.Pick.{pick}
 use Rattle.refusal.specs.Run.{all, run}
 use Rattle.refusal.proofs.Laws.Booleans.{cases}
-use Rattle.refusal.proofs.Laws.Run.{run-le}
+use Rattle.refusal.proofs.Laws.Run.{run_le}
 use Rattle.stanza.specs.Arguments.{before}
 use Rattle.identity_file.specs.Lines.{lines, is_line_byte, is_ended, ended, text_of_lines, are_lines, Partition}
 use Rattle.identity_file.specs.Steps.{line_end, next_line}
@@ -62,7 +62,7 @@ first_line_same (b ∷ c ∷ t) h = cases (eqb b 10) (λ e. rw e) (λ e. rw (e, 
 
 -- where the line that begins at a ends, and the next begins
 pub end_le : (t : List ℕ) (a : ℕ) → a ≤ length t → line_end t a ≤ length t
-end_le t a h = omega (arith, run-le is_line_byte (drop a t), length-drop a t)
+end_le t a h = omega (arith, run_le is_line_byte (drop a t), length-drop a t)
 
 pub next_is : (t : List ℕ) (e : ℕ) → e < length t → next_line t e ≡ e + 1
 next_is t e h = rw (lt-ltb e (length t) h)

@@ -6,7 +6,7 @@ use lib.ListN.{length, take, drop, get_or, length-append, length-take, length-dr
 use native.Mathlib.Omega.{arith}
 use borrow.Author.Tests.{le-ltb}
 use Rattle.refusal.specs.Output.{filled}
-use Rattle.refusal.proofs.Laws.Lists.{take-one, put_rest, part-rest, overwrite-part}
+use Rattle.refusal.proofs.Laws.Lists.{take_one, put_rest, part_rest, overwrite_part}
 use Rattle.strict_base64.specs.Code.{encoded}
 use Rattle.strict_base64.specs.Lines.{wrapped}
 use Rattle.stanza.specs.Grammar.{stanza_text}
@@ -44,7 +44,7 @@ map_snoc f (y ∷ xs) x = ap (λ z. f y ∷ z) (map_snoc f xs x)
 pub commands_more : (t : List ℕ) (ps : List (List ℕ)) (i : ℕ) → i < length ps →
     commands_of (texts_at t (take (i + 1) ps)) ≡ commands_of (texts_at t (take i ps)) ++ command_of (text_at t (get_or ps i []))
 commands_more t ps i h =
-    ap (λ x. commands_of (texts_at t x)) (take-one ps i [] h)
+    ap (λ x. commands_of (texts_at t x)) (take_one ps i [] h)
     ∙ ap commands_of (map_snoc (text_at t) (take i ps) (get_or ps i []))
     ∙ commands_snoc (texts_at t (take i ps)) (text_at t (get_or ps i []))
 
@@ -78,8 +78,8 @@ pub placed_behind : (w content o o₀ part : List ℕ) (k : ℕ) → o ≡ w ++ 
     take k o ++ (part ++ drop (length o - k) (drop k o)) ≡ (w ++ content) ++ drop (k + length content) o₀
 placed_behind w content o o₀ part k e h p =
     put_rest k o part
-    ∙ ap (λ x. take k o ++ x) (p ∙ ap (λ x. content ++ drop (length content) x) (part-rest k o))
-    ∙ overwrite-part o o₀ w content k e h
+    ∙ ap (λ x. take k o ++ x) (p ∙ ap (λ x. content ++ drop (length content) x) (part_rest k o))
+    ∙ overwrite_part o o₀ w content k e h
     ∙ ap (λ n. (w ++ content) ++ drop n o₀) (length-append w content ∙ ap (λ x. x + length content) h)
 
 -- the same of a copy, which fits

@@ -22,8 +22,8 @@ use Rattle.conversation.specs.Kinds.{AnyKind, first, second, Buffers, view_of}
 use Rattle.conversation.specs.PhaseTwo as two
 use Rattle.conversation.specs.PhaseTwo.{errors, stanzas, returned}
 use Rattle.conversation.specs.Phases.{All, one_part, blocks_of, texts_of, calls_of}
-use Rattle.conversation.proofs.Laws.AllowedOne.{Holds, quiet_calls, accepted-tables}
-use Rattle.conversation.proofs.Laws.ShapesOne.{shaped-one-iff}
+use Rattle.conversation.proofs.Laws.AllowedOne.{Holds, quiet_calls, accepted_tables}
+use Rattle.conversation.proofs.Laws.ShapesOne.{shaped_one_iff}
 use Rattle.chunks.specs.Cutting.{cut}
 use Rattle.chunks.specs.Taking.{plugin, emptied, joined}
 use Rattle.chunks.specs.Uncut.{Piece, text_in, is_reply}
@@ -63,24 +63,24 @@ module _ (machine : Machine) (name : List ℕ) (b : Buffers) (ls : List (List �
   calls_are = quiet_calls amples (blocks_of (phase_for ls)) (is_phase ls a).quiet ∙ ap (map receive) (phase_texts ls)
 
   called : Accepted (opened_session machine name false) b calls × ((one_call.after (opened_session machine name false) b calls).session.phase ≡ Two)
-  called = (shaped-one-iff machine name false b (texts_for ls)).1 (texts_shaped ls a, texts_allowed machine name b.first ls a few room)
+  called = (shaped_one_iff machine name false b (texts_for ls)).1 (texts_shaped ls a, texts_allowed machine name b.first ls a few room)
 
-  calls-hold : Holds machine name (texts_for ls) (one_call.after (opened_session machine name false) b calls)
-  calls-hold =
+  calls_hold : Holds machine name (texts_for ls) (one_call.after (opened_session machine name false) b calls)
+  calls_hold =
       let s = opened_session machine name false in
       subst (λ ts. Holds machine name ts (one_call.after s b calls)) (phase_texts ls)
       (subst (λ cs. Holds machine name (texts_of (phase_for ls)) (one_call.after s b cs)) calls_are
-      (accepted-tables machine name false b amples (phase_for ls) (is_phase ls a) (subst (Accepted s b) (sym calls_are) called.0)))
+      (accepted_tables machine name false b amples (phase_for ls) (is_phase ls a) (subst (Accepted s b) (sym calls_are) called.0)))
 
   left : Left machine name b ls (one_call.after (opened_session machine name false) b calls)
   left =
       let z = one_call.after (opened_session machine name false) b calls in
-      record { phase = called.1; entries = calls-hold.views identities ∙ texts_rows machine name ls a identities; others = holds_others machine name ls a z calls-hold }
+      record { phase = called.1; entries = calls_hold.views identities ∙ texts_rows machine name ls a identities; others = holds_others machine name ls a z calls_hold }
 
   -- ---- in any cut
 
-  pub cut-back : (cs : List Piece) → All (λ c. is_reply c ≡ false) cs → text_in cs ≡ transcript ls → ReadsBack machine name b cs ls
-  cut-back cs h t =
+  pub cut_back : (cs : List Piece) → All (λ c. is_reply c ≡ false) cs → text_in cs ≡ transcript ls → ReadsBack machine name b cs ls
+  cut_back cs h t =
       let s = opened_session machine name false in
       let c = came cs (emptied s []) b (texts_for ls) h (record {
         texts = ap (cut start []) (t ∙ written_joined ls) ∙ cut_wholes (texts_for ls) (texts_whole ls a);
@@ -133,4 +133,4 @@ pub file_back : (t out : List ℕ) (n : ℕ) → file_answer t out ≡ bytes n �
     (cs : List Piece) → All (λ c. is_reply c ≡ false) cs → text_in cs ≡ take n (file_buffer t out) → ReadsBack machine name b cs (valid_in (lines t))
 file_back t out n e machine name b room cs h c =
     let w = wrote t out n e in
-    cut-back machine name b (valid_in (lines t)) (valid_arguments (lines t)) w.few room cs h (c ∙ w.text)
+    cut_back machine name b (valid_in (lines t)) (valid_arguments (lines t)) w.few room cs h (c ∙ w.text)

@@ -3,7 +3,7 @@ use Prim.Native.Nat.{ℕ, ◌≤◌}
 use mathlib.Core.Path.{◌≡◌, refl, sym, ap, subst, ◌∙◌}
 use mathlib.Core.Bool.{true, false, false≢true}
 use mathlib.Core.Logic.{◌⊎◌, inl, inr}
-use mathlib.Core.List.{List, [], ◌∷◌, ◌++◌, map, map_append}
+use mathlib.Core.List.{List, [], ◌∷◌, ◌++◌, map, map-append}
 use lib.Dec.{T}
 use lib.ListN.{length}
 use native.Mathlib.Omega.{arith}
@@ -145,20 +145,20 @@ module _ (i : Intake) (b : Buffers) (x y : List ℕ) (early : Early i.session.ph
         let l = nothing_left f y j in
         (n, l.0, l.1)
 
-    came-taken : Took (taken plugin i b x) z q f
-    came-taken =
+    came_taken : Took (taken plugin i b x) z q f
+    came_taken =
         subst (λ c. Took (taken_all plugin i.session b i.awaited c.texts c.rest) z q f) (sym e) (took ts i.session b i.awaited q f early a (λ p. (ended p).1))
 
-    ahead-taken : (r : place.State) (k : List ℕ) → ((z.session.phase ≡ One) × (r ≡ q) × (k ≡ f)) ⊎ ((z.session.phase ≡ Two) × (r ≡ start) × (k ≡ [])) → Early z.session.phase × (cut r k y ≡ record { texts = us; rest = unfinished start [] })
+    ahead_taken : (r : place.State) (k : List ℕ) → ((z.session.phase ≡ One) × (r ≡ q) × (k ≡ f)) ⊎ ((z.session.phase ≡ Two) × (r ≡ start) × (k ≡ [])) → Early z.session.phase × (cut r k y ≡ record { texts = us; rest = unfinished start [] })
     unfolding cut
-    ahead-taken r k (inl h) = (inl h.0, rw (h.1, h.2) g)
-    ahead-taken r k (inr h) = let w = ended h.0 in (inr h.0, rw (h.1, h.2, w.0, w.2))
+    ahead_taken r k (inl h) = (inl h.0, rw (h.1, h.2) g)
+    ahead_taken r k (inr h) = let w = ended h.0 in (inr h.0, rw (h.1, h.2, w.0, w.2))
 
     -- the chunk is accepted, and the rest is ahead
-    chunk-ahead : (out : List ℕ) → let o = chunked plugin i b x out in (o.number ≡ 0) × (o.intake.session ≡ z.session) × (o.buffers ≡ z.buffers) × Ahead o.intake o.buffers y us
-    chunk-ahead out =
-        let t = came-taken in
-        let w = ahead-taken (taken plugin i b x).intake.reading (taken plugin i b x).intake.kept t.front in
+    chunk_ahead : (out : List ℕ) → let o = chunked plugin i b x out in (o.number ≡ 0) × (o.intake.session ≡ z.session) × (o.buffers ≡ z.buffers) × Ahead o.intake o.buffers y us
+    chunk_ahead out =
+        let t = came_taken in
+        let w = ahead_taken (taken plugin i b x).intake.reading (taken plugin i b x).intake.kept t.front in
         chunk_took i b x out early short (λ n j d. (n ≡ 0) × (j.session ≡ z.session) × (d ≡ z.buffers) × Ahead j d y us) (
           t.number,
           t.session,
@@ -188,10 +188,10 @@ came (chunk x out ∷ cs) i b ts h d =
         let m : ◌≡◌ {A = Cut} (record { texts = us ++ (cut q f y).texts; rest = (cut q f y).rest }) (record { texts = ts; rest = unfinished start [] }) = sym (cut_append x y i.reading i.kept ∙ ap (λ c. cut_on c y) e) ∙ d.texts in
         let vs = (cut q f y).texts in
         let t : us ++ vs ≡ ts = ap (λ c. c.texts) m in
-        let l : map receive us ++ map receive vs ≡ map receive ts = sym (map_append receive us vs) ∙ ap (map receive) t in
+        let l : map receive us ++ map receive vs ≡ map receive ts = sym (map-append receive us vs) ∙ ap (map receive) t in
         let g : cut q f y ≡ record { texts = vs; rest = unfinished start [] } = ap (λ r. record { texts = vs; rest = r }) (ap (λ c. c.rest) m) in
         let a = (accepted_append i.session b (map receive us) (map receive vs)).0 (subst (Accepted i.session b) (sym l) d.accepted) in
-        let w = chunk-ahead i b x y d.early d.short q f us vs e g a.0 a.1 out in
+        let w = chunk_ahead i b x y d.early d.short q f us vs e g a.0 a.1 out in
         let o = chunked plugin i b x out in
         let n = more vs w.3 in
         let z = one_call.after i.session b (map receive us) in

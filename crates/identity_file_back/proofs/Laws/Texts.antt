@@ -11,7 +11,7 @@ use borrow.Author.Tests.{le-leb, leb-false, lt-leb, ltb-true, ne_eqb}
 use Rattle.refusal.specs.Run.{all, is_graphic}
 use Rattle.refusal.proofs.Laws.Below.{below}
 use Rattle.refusal.proofs.Laws.Booleans.{T_true, and_true, true_and, cases}
-use Rattle.refusal.proofs.Laws.Run.{all_append, all-wider}
+use Rattle.refusal.proofs.Laws.Run.{all_append, all_wider}
 use Rattle.strict_base64.specs.Code.{encoded}
 use Rattle.strict_base64.specs.Lines.{wrapped}
 use Rattle.stanza.specs.Arguments.{words, before, is_argument, are_arguments, is_line}
@@ -78,7 +78,7 @@ name_byte_graphic b h =
 human_graphic : (name : List ℕ) → is_name name ≡ true → all is_graphic (human_part bech32.identity name) ≡ true
 unfolding is_name all is_graphic
 human_graphic name h =
-    let n = all-wider is_name_byte is_graphic name_byte_graphic name (and_true (leb 1 (length name) && leb (length name) 32) (all is_name_byte name) h).1 in
+    let n = all_wider is_name_byte is_graphic name_byte_graphic name (and_true (leb 1 (length name) && leb (length name) 32) (all is_name_byte name) h).1 in
     all_append is_graphic name (45 ∷ []) ∙ true_and (all is_graphic name) (all is_graphic (45 ∷ [])) n refl
 
 text_graphic : (t name payload : List ℕ) → Read bech32.identity t name payload → all is_graphic t ≡ true

@@ -27,8 +27,8 @@ use Rattle.chunks.specs.Taking.{End, Turn, reads, drops, keeps_back, turn_at, st
 use Rattle.chunks.specs.Chunks.{Outcome, judged, taken, turn_of, chunked}
 use Rattle.chunks.specs.Uncut.{is_waiting}
 use Rattle.chunks.proofs.Laws.Runs.{judged_held}
-use Rattle.chunks.proofs.Laws.Taking.{chunked-read}
-use Rattle.chunks.proofs.Laws.Texts.{stanza_taken, taken_cut, front-left, front-fault, front-stanza}
+use Rattle.chunks.proofs.Laws.Taking.{chunked_read}
+use Rattle.chunks.proofs.Laws.Texts.{stanza_taken, taken_cut, front_left, front_fault, front_stanza}
 use Rattle.intake.specs.Intake.{awaited_size, kept_size, intake_of, taken_said, received_said}
 use Rattle.intake.specs.Fronts.{is_between, is_reading, front_of, front_in, input_behind}
 use Rattle.intake.specs.Settling.{Says}
@@ -55,11 +55,11 @@ module _ (p : Place) (n : ℕ) (x : List ℕ) where
       cases (is_between p n) (λ f. absurd (z (sym (ap (λ f. pick f (whole 0) (continued (place_said p) n x)) f) ∙ h)))
       (λ f. sym (ap (λ f. pick f (whole 0) (continued (place_said p) n x)) f) ∙ h)
 
-  pub not-unfinished : (q : State) → whole 0 ≡ resuming.unfinished q → ⊥
-  not-unfinished q e = let z : ◌≡◌ {A = ℕ} 0 1 = cc in omega arith
+  pub not_unfinished : (q : State) → whole 0 ≡ resuming.unfinished q → ⊥
+  not_unfinished q e = let z : ◌≡◌ {A = ℕ} 0 1 = cc in omega arith
 
-  pub not-refused : (m : ℕ) → whole 0 ≡ resuming.refused m → ⊥
-  not-refused m e = let z : ◌≡◌ {A = ℕ} 0 1 = cc in omega arith
+  pub not_refused : (m : ℕ) → whole 0 ≡ resuming.refused m → ⊥
+  not_refused m e = let z : ◌≡◌ {A = ℕ} 0 1 = cc in omega arith
 
   not_some : (k : ℕ) → (k ≡ 0 → ⊥) → whole 0 ≡ whole k → ⊥
   not_some k z e = z (cc)
@@ -80,8 +80,8 @@ module _ (p : Place) (n : ℕ) (x : List ℕ) where
 
 module _ (e : End) (s : CodeSession) (xs hs : List (List ℕ)) (input : List ℕ) (turn : turn_at e s.phase ≡ reads) where
   -- no stanza waits, and what is kept stands at the input's front
-  pub intake-reads : intake_of e s xs hs input ≡ keeping (session_of s xs hs) (place_said s.reading) (take (min s.kept 8191) input) []
-  intake-reads = rw (reads_waits e s.phase turn)
+  pub intake_reads : intake_of e s xs hs input ≡ keeping (session_of s xs hs) (place_said s.reading) (take (min s.kept 8191) input) []
+  intake_reads = rw (reads_waits e s.phase turn)
 
   module _ (long : 8192 ≤ length input) (chunk : List ℕ) (b : Buffers) where
     abbrev v : Session
@@ -90,46 +90,46 @@ module _ (e : End) (s : CodeSession) (xs hs : List (List ℕ)) (input : List ℕ
     abbrev front : List ℕ
     front = take (min s.kept 8191) input
 
-    front-size : length front ≡ min s.kept 8191
-    front-size = length-take-le (min s.kept 8191) input (omega arith)
+    front_size : length front ≡ min s.kept 8191
+    front_size = length-take-le (min s.kept 8191) input (omega arith)
 
     abbrev here : Taken
     here = taken e (intake_of e s xs hs input) b chunk
 
-    here-is : here ≡ taken_cut e v b [] (cut (place_said s.reading) front chunk)
-    here-is = ap (λ i. taken e i b chunk) intake-reads
+    here_is : here ≡ taken_cut e v b [] (cut (place_said s.reading) front chunk)
+    here_is = ap (λ i. taken e i b chunk) intake_reads
 
     at_front : (r : Continued) → continued (place_said s.reading) (min s.kept 8191) chunk ≡ r → continued (place_said s.reading) (length front) chunk ≡ r
-    at_front r h = ap (λ n. continued (place_said s.reading) n chunk) front-size ∙ h
+    at_front r h = ap (λ n. continued (place_said s.reading) n chunk) front_size ∙ h
 
     -- it begins a stanza
-    pub chunk-begins : front_of s.reading (min s.kept 8191) chunk ≡ whole 0 → here ≡ taken_text e v b [] chunk
-    chunk-begins h =
+    pub chunk_begins : front_of s.reading (min s.kept 8191) chunk ≡ whole 0 → here ≡ taken_text e v b [] chunk
+    chunk_begins h =
         let z = between s.reading (min s.kept 8191) chunk h in
-        here-is ∙ ap₂ (λ q n. taken_cut e v b [] (cut q (take n input) chunk)) z.0 z.1
+        here_is ∙ ap₂ (λ q n. taken_cut e v b [] (cut q (take n input) chunk)) z.0 z.1
 
     -- the unfinished stanza goes on
-    pub chunk-goes-on : (q : State) → front_of s.reading (min s.kept 8191) chunk ≡ resuming.unfinished q →
+    pub chunk_goes_on : (q : State) → front_of s.reading (min s.kept 8191) chunk ≡ resuming.unfinished q →
         (here ≡ no_more 0 (keeping v q (front ++ chunk) []) b) × (min s.kept 8191 + length chunk ≤ 8191)
-    chunk-goes-on q h =
-        let k = going_on s.reading (min s.kept 8191) chunk (resuming.unfinished q) h (not-unfinished s.reading (min s.kept 8191) chunk q) in
+    chunk_goes_on q h =
+        let k = going_on s.reading (min s.kept 8191) chunk (resuming.unfinished q) h (not_unfinished s.reading (min s.kept 8191) chunk q) in
         let u = (unfinished_is chunk (place_said s.reading) q (min s.kept 8191) k).1 in
-        (here-is ∙ front-left e v b [] turn (place_said s.reading) q front chunk (at_front (resuming.unfinished q) k), omega arith)
+        (here_is ∙ front_left e v b [] turn (place_said s.reading) q front chunk (at_front (resuming.unfinished q) k), omega arith)
 
     -- it cannot go on so
-    pub chunk-fault : (m : ℕ) → front_of s.reading (min s.kept 8191) chunk ≡ resuming.refused m → here ≡ no_more m (emptied (closed v) []) b
-    chunk-fault m h =
-        here-is
-        ∙ front-fault e v b [] turn (place_said s.reading) front chunk m (omega (arith, front-size))
-        (at_front (resuming.refused m) (going_on s.reading (min s.kept 8191) chunk (resuming.refused m) h (not-refused s.reading (min s.kept 8191) chunk m)))
+    pub chunk_fault : (m : ℕ) → front_of s.reading (min s.kept 8191) chunk ≡ resuming.refused m → here ≡ no_more m (emptied (closed v) []) b
+    chunk_fault m h =
+        here_is
+        ∙ front_fault e v b [] turn (place_said s.reading) front chunk m (omega (arith, front_size))
+        (at_front (resuming.refused m) (going_on s.reading (min s.kept 8191) chunk (resuming.refused m) h (not_refused s.reading (min s.kept 8191) chunk m)))
 
     -- it ends
     module _ (k : ℕ) (h : front_of s.reading (min s.kept 8191) chunk ≡ whole k) (some : k ≡ 0 → ⊥) where
       goes : continued (place_said s.reading) (min s.kept 8191) chunk ≡ whole k
       goes = going_on s.reading (min s.kept 8191) chunk (whole k) h (not_some s.reading (min s.kept 8191) chunk k some)
 
-      pub chunk-ends : here ≡ stanza_taken e b (outcome v b (stanza_call e s.phase (front ++ take k chunk))) (front ++ take k chunk) (drop k chunk)
-      chunk-ends = here-is ∙ front-stanza e v b [] turn (place_said s.reading) front chunk k (at_front (whole k) goes)
+      pub chunk_ends : here ≡ stanza_taken e b (outcome v b (stanza_call e s.phase (front ++ take k chunk))) (front ++ take k chunk) (drop k chunk)
+      chunk_ends = here_is ∙ front_stanza e v b [] turn (place_said s.reading) front chunk k (at_front (whole k) goes)
 
 -- so many bytes of the chunk are there, and no more than a stanza has
 pub front_within : (p : Place) (n : ℕ) (x : List ℕ) (k : ℕ) → front_of p n x ≡ whole k → n ≤ 8191 → (k ≤ length x) × (n + k ≤ 8192)
@@ -166,17 +166,17 @@ pub byte_goes_on : (t : Turn) (p q : Place) (kept : ℕ) (x o : List ℕ) → is
     (set o kept (get_or x 0 0) ≡ input_behind (resuming.unfinished (place_said q)) (min kept 8191) x o)
 byte_goes_on t p q kept x o read one l i h =
     let m : min kept 8191 ≡ kept = omega arith in (
-      is-reads t read,
+      is_reads t read,
       ap (λ n. front_of p n x) m ∙ ap (front_of p kept) (one_of x one) ∙ h kept l,
       byte_behind o kept (get_or x 0 0) i
           ∙ ap (λ y. take kept o ++ filled y (drop kept o)) (sym (one_of x one))
           ∙ ap (λ n. take n o ++ filled x (drop n o)) (sym m),
     )
   where
-    is-reads : (t : Turn) → is_reading t ≡ true → t ≡ reads
-    is-reads reads h = refl
-    is-reads (drops m) h = absurd (false≢true h)
-    is-reads keeps_back h = absurd (false≢true h)
+    is_reads : (t : Turn) → is_reading t ≡ true → t ≡ reads
+    is_reads reads h = refl
+    is_reads (drops m) h = absurd (false≢true h)
+    is_reads keeps_back h = absurd (false≢true h)
 
 -- ---- an answer that writes nothing
 
@@ -206,4 +206,4 @@ pub silent_answer : (e : End) (r : CodeReceived) (xs hs : List (List ℕ)) (befo
     turn_of e i.session.phase ≡ 0 → r.written ≡ 0 → Says e r xs hs before after [] b' (taken e i b bytes) →
     received_said e r xs hs after b' out ≡ chunked e i b bytes out
 silent_answer e r xs hs before after b b' i bytes out turn w h =
-    says_judged e r xs hs before after out b' i b (taken e i b bytes) h w ∙ sym (chunked-read e i b bytes out turn)
+    says_judged e r xs hs before after out b' i b (taken e i b bytes) h w ∙ sym (chunked_read e i b bytes out turn)

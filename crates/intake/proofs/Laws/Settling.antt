@@ -58,9 +58,9 @@ module _ (e : End) (s : Session) (b : Buffers) (rest : List ℕ) (turn : turn_at
   rest_over l = rest_kept start (ap (continued start 0) (no_bytes rest l)) ∙ ap (λ x. no_more 0 (keeping s start x []) b) (no_bytes rest l)
 
   -- bytes that no stanza begins with
-  pub rest-closes : (m : ℕ) → continued start 0 rest ≡ resuming.refused m → taken_text e s b [] rest ≡ no_more m (emptied (closed s) []) b
+  pub rest_closes : (m : ℕ) → continued start 0 rest ≡ resuming.refused m → taken_text e s b [] rest ≡ no_more m (emptied (closed s) []) b
   unfolding taken_all
-  rest-closes m h = ap (taken_cut e s b []) (front_refused start [] rest m (omega arith) h) ∙ rw turn
+  rest_closes m h = ap (taken_cut e s b []) (front_refused start [] rest m (omega arith) h) ∙ rw turn
 
 module _ (e : End) (s : Session) (b : Buffers) (rest : List ℕ) (n : ℕ) (turn : turn_at e s.phase ≡ drops n) where
   -- no bytes to drop

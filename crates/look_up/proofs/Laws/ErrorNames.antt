@@ -19,7 +19,7 @@ use Rattle.stanza.specs.Index.{ReadIndex, number, refused, read_index}
 use Rattle.tables.specs.declared.slots.Entry.{Entry}
 use Rattle.tables.specs.Tables.{Table, empty, fits, appended, entry, nothing, found}
 use Rattle.tables.proofs.Laws.Tables.{Kept}
-use Rattle.tables.proofs.Laws.LookUp.{find_none, find-there}
+use Rattle.tables.proofs.Laws.LookUp.{find_none, find_there}
 use Rattle.session.specs.Session.{Session, opened}
 use Rattle.session.specs.Tables.{Tables, opened_tables}
 use Rattle.session.specs.declared.phases.Phase.{Phase}
@@ -38,7 +38,7 @@ use Rattle.conversation.proofs.Laws.Accepted.{Applied, AppliedTwo, command_at, p
 use Rattle.conversation.proofs.Laws.DecidedTwo.{decided_iff}
 use Rattle.conversation.proofs.Laws.Reached.{ReachedSession, opening_reached, call_reached}
 use Rattle.conversation.proofs.Laws.Refusals.{refusal}
-use Rattle.conversation.proofs.Laws.ViewsTwo.{kept_two, one-leaves}
+use Rattle.conversation.proofs.Laws.ViewsTwo.{kept_two, one_leaves}
 use Rattle.look_up.specs.ErrorNames.{name_read, header_read, error_read, names_brought, names_in, name_at}
 use Rattle.look_up.specs.LookUp.{named_by, named_in, error_named}
 
@@ -95,9 +95,9 @@ module _ (line : List ℕ) where
   is w = same kind w
 
   -- behind "internal" and "identity"
-  last-faulty : (m : Machine) → is recipient_word ≡ false → is stanza_word ≡ false → Faulty (error_of m line)
-  last-faulty RecipientV1 r s = skip (is recipient_word) (eqb (count_of line) 3) _ (bad 4) r four
-  last-faulty IdentityV1 r s = skip (is stanza_word) (eqb (count_of line) 4) _ (bad 4) s four
+  last_faulty : (m : Machine) → is recipient_word ≡ false → is stanza_word ≡ false → Faulty (error_of m line)
+  last_faulty RecipientV1 r s = skip (is recipient_word) (eqb (count_of line) 3) _ (bad 4) r four
+  last_faulty IdentityV1 r s = skip (is stanza_word) (eqb (count_of line) 4) _ (bad 4) s four
 
   last_says : (m : Machine) →
       Says (pick (is recipient_word) (name_read recipient (read_index (argument_of line 2))) (pick (is stanza_word) (header_read (read_index (argument_of line 2)) (read_index (argument_of line 3))) [])) (error_of m line)
@@ -105,43 +105,43 @@ module _ (line : List ℕ) where
   last_says RecipientV1 =
       says_either (is recipient_word) (eqb (count_of line) 3) _ (bad 4) _ _ (name_says recipient (read_index (argument_of line 2))) (λ e. four) (λ e z. absurd (four z))
   last_says IdentityV1 =
-      cases (is recipient_word) (λ e z. absurd (last-faulty-stanza e z))
+      cases (is recipient_word) (λ e z. absurd (last_faulty_stanza e z))
       (λ e. rw e (says_either (is stanza_word) (eqb (count_of line) 4) _ (bad 4) _ _ (header_says (read_index (argument_of line 2)) (read_index (argument_of line 3))) (λ e. four) (λ e z. absurd (four z))))
     where
-      last-faulty-stanza : is recipient_word ≡ true → Faulty (error_of IdentityV1 line)
-      last-faulty-stanza e = skip (is stanza_word) (eqb (count_of line) 4) _ (bad 4) (differs kind recipient_word stanza_word refl e) four
+      last_faulty_stanza : is recipient_word ≡ true → Faulty (error_of IdentityV1 line)
+      last_faulty_stanza e = skip (is stanza_word) (eqb (count_of line) 4) _ (bad 4) (differs kind recipient_word stanza_word refl e) four
 
-  error-says : (m : Machine) → Says (error_read line) (error_command m line)
+  error_says : (m : Machine) → Says (error_read line) (error_command m line)
   unfolding same
-  error-says m =
+  error_says m =
       says_either (is internal_word) (eqb (count_of line) 2) (error internal) _ _ _ (λ e. refl)
-      (λ e. skip (is identity_word) (eqb (count_of line) 3) _ _ (differs kind internal_word identity_word refl e) (last-faulty m (differs kind internal_word recipient_word refl e) (differs kind internal_word stanza_word refl e)))
+      (λ e. skip (is identity_word) (eqb (count_of line) 3) _ _ (differs kind internal_word identity_word refl e) (last_faulty m (differs kind internal_word recipient_word refl e) (differs kind internal_word stanza_word refl e)))
       (λ e. says_either (is identity_word) (eqb (count_of line) 3) _ _ _ _ (name_says identity (read_index (argument_of line 2)))
-      (λ e. last-faulty m (differs kind identity_word recipient_word refl e) (differs kind identity_word stanza_word refl e)) (λ e. last_says m))
+      (λ e. last_faulty m (differs kind identity_word recipient_word refl e) (differs kind identity_word stanza_word refl e)) (λ e. last_says m))
 
   -- any other word's command names nothing
-  none-either : (f : Bool) (c d : CommandTwo) → names_of c ≡ [] → names_of d ≡ [] → names_of (pick f c d) ≡ []
-  none-either true c d p q = p
-  none-either false c d p q = q
+  none_either : (f : Bool) (c d : CommandTwo) → names_of c ≡ [] → names_of d ≡ [] → names_of (pick f c d) ≡ []
+  none_either true c d p q = p
+  none_either false c d p q = q
 
-  stanza-none : (i : ReadIndex) → names_of (stanza_at i) ≡ []
-  stanza-none (number f) = refl
-  stanza-none (refused n) = refl
+  stanza_none : (i : ReadIndex) → names_of (stanza_at i) ≡ []
+  stanza_none (number f) = refl
+  stanza_none (refused n) = refl
 
-  key-none : (i : ReadIndex) → names_of (key_at i) ≡ []
-  key-none (number f) = refl
-  key-none (refused n) = refl
+  key_none : (i : ReadIndex) → names_of (key_at i) ≡ []
+  key_none (number f) = refl
+  key_none (refused n) = refl
 
-  row-none : (w : WordTwo) (m : Machine) (n : ℕ) → (w ≡ Error → ⊥) → names_of (row_two w m line n) ≡ []
-  row-none Msg m n h = none-either (eqb (count_of line) 1) (ask Msg) (bad 4) refl refl
-  row-none Confirm m n h = none-either (are_labels line) (ask Confirm) (bad 4) refl refl
-  row-none RequestPublic m n h = none-either (eqb (count_of line) 1) (ask RequestPublic) (bad 4) refl refl
-  row-none RequestSecret m n h = none-either (eqb (count_of line) 1) (ask RequestSecret) (bad 4) refl refl
-  row-none RecipientStanza m n h = none-either (leb 3 (count_of line)) _ (bad 4) (stanza-none (read_index (argument_of line 1))) refl
-  row-none FileKey m n h = none-either (eqb (count_of line) 2 && eqb n 16) _ (bad 4) (key-none (read_index (argument_of line 1))) refl
-  row-none Error m n h = absurd (h refl)
-  row-none Other m n h = refl
-  row-none Done m n h = none-either (is_bare line n 0) done (bad 4) refl refl
+  row_none : (w : WordTwo) (m : Machine) (n : ℕ) → (w ≡ Error → ⊥) → names_of (row_two w m line n) ≡ []
+  row_none Msg m n h = none_either (eqb (count_of line) 1) (ask Msg) (bad 4) refl refl
+  row_none Confirm m n h = none_either (are_labels line) (ask Confirm) (bad 4) refl refl
+  row_none RequestPublic m n h = none_either (eqb (count_of line) 1) (ask RequestPublic) (bad 4) refl refl
+  row_none RequestSecret m n h = none_either (eqb (count_of line) 1) (ask RequestSecret) (bad 4) refl refl
+  row_none RecipientStanza m n h = none_either (leb 3 (count_of line)) _ (bad 4) (stanza_none (read_index (argument_of line 1))) refl
+  row_none FileKey m n h = none_either (eqb (count_of line) 2 && eqb n 16) _ (bad 4) (key_none (read_index (argument_of line 1))) refl
+  row_none Error m n h = absurd (h refl)
+  row_none Other m n h = refl
+  row_none Done m n h = none_either (is_bare line n 0) done (bad 4) refl refl
 
 -- the word error alone names an error
 pass : (f : Bool) (v w : WordTwo) {X : Type 0} → (v ≡ Error → X) → (w ≡ Error → X) → pick f v w ≡ Error → X
@@ -172,8 +172,8 @@ unfolding command_two
 command_says m line body =
     let word = argument_of line 0 in
     cases (same word error_word)
-    (λ e. by e (subst (λ w. Says (error_read line) (row_two w m line (length body))) (sym (ap (word_two m) (same_eq word error_word e) ∙ error_word_lem m)) (error-says line m)))
-    (λ e. by e (λ z. row-none line (word_two m word) m (length body) (named_error m word e)))
+    (λ e. by e (subst (λ w. Says (error_read line) (row_two w m line (length body))) (sym (ap (word_two m) (same_eq word error_word e) ∙ error_word_lem m)) (error_says line m)))
+    (λ e. by e (λ z. row_none line (word_two m word) m (length body) (named_error m word e)))
   where
     by : {f : Bool} → same (argument_of line 0) error_word ≡ f → Says (pick f (error_read line) []) (row_two (word_two m (argument_of line 0)) m line (length body)) →
         Says (pick (same (argument_of line 0) error_word) (error_read line) []) (row_two (word_two m (argument_of line 0)) m line (length body))
@@ -213,18 +213,18 @@ module _ (t : Table) (n index mark : ℕ) (h : t.count < t.width) (w : Kept t) w
   abbrev last : Entry
   last = record { start = t.used; length = n; index = index; mark = mark }
 
-  more-before : (k : ℕ) → k < t.count → found (appended t n index mark) k ≡ found t k
-  more-before k g =
-      sym (find-there (appended t n index mark) k (omega arith) (omega arith))
+  more_before : (k : ℕ) → k < t.count → found (appended t n index mark) k ≡ found t k
+  more_before k g =
+      sym (find_there (appended t n index mark) k (omega arith) (omega arith))
       ∙ ap entry (get_or-set_other t.slots t.count k last empty (λ e. omega arith))
-      ∙ find-there t k g (omega arith)
+      ∙ find_there t k g (omega arith)
 
-  more-here : found (appended t n index mark) t.count ≡ entry last
-  more-here =
-      sym (find-there (appended t n index mark) t.count (omega arith) h) ∙ ap entry (get_or-set_same t.slots t.count last empty (omega (arith, w.wide)))
+  more_here : found (appended t n index mark) t.count ≡ entry last
+  more_here =
+      sym (find_there (appended t n index mark) t.count (omega arith) h) ∙ ap entry (get_or-set_same t.slots t.count last empty (omega (arith, w.wide)))
 
-  more-beyond : (k : ℕ) → t.count < k → found (appended t n index mark) k ≡ nothing
-  more-beyond k g = sym (find_none (appended t n index mark) k (omega arith))
+  more_beyond : (k : ℕ) → t.count < k → found (appended t n index mark) k ≡ nothing
+  more_beyond k g = sym (find_none (appended t n index mark) k (omega arith))
 
 -- ---- the errors of tables name these, in order
 
@@ -247,13 +247,13 @@ more_names t u n size ns w h e r =
       counted = ap (λ x. x.count) e ∙ omega arith;
       named = λ k. ap (λ y. named_in (found y k)) e
           ∙ elim (dec_lt k t.errors.count) [
-            | yes g ↦ ap named_in (more-before t.errors size (index_of n) (mark_of n) h w k g) ∙ r.named k ∙ sym (name_before ns (n ∷ []) k (omega arith))
+            | yes g ↦ ap named_in (more_before t.errors size (index_of n) (mark_of n) h w k g) ∙ r.named k ∙ sym (name_before ns (n ∷ []) k (omega arith))
             | no g ↦
                 elim (dec_lt t.errors.count k) [
-                  | yes j ↦ ap named_in (more-beyond t.errors size (index_of n) (mark_of n) h w k j) ∙ name_beyond (ns ++ (n ∷ [])) k (omega arith)
+                  | yes j ↦ ap named_in (more_beyond t.errors size (index_of n) (mark_of n) h w k j) ∙ name_beyond (ns ++ (n ∷ [])) k (omega arith)
                   | no j ↦
                       let i : k ≡ t.errors.count = omega arith in
-                      ap (λ x. named_in (found after x)) i ∙ ap named_in (more-here t.errors size (index_of n) (mark_of n) h w) ∙ named_last n t.errors.used size ∙ sym (name_here ns n)
+                      ap (λ x. named_in (found after x)) i ∙ ap named_in (more_here t.errors size (index_of n) (mark_of n) h w) ∙ named_last n t.errors.used size ∙ sym (name_here ns n)
                       ∙ ap (name_at (ns ++ (n ∷ []))) (sym (i ∙ c))
                 ]
           ];
@@ -281,15 +281,15 @@ two_names own t b (bad n) p ns z k r = rw append-nil r
 
 module _ (s : Session) (b : Buffers) (r : ReachedSession s) (ns : List Named) (w : Names s.tables ns) where
   -- an accepted command of phase one leaves the errors
-  one-so : (line body : List ℕ) (b' : one.BuffersOne) (s' : Session) → Applied s b.first line body s' b' → Names s'.tables (ns ++ [])
-  one-so line body b' s' a =
+  one_so : (line body : List ℕ) (b' : one.BuffersOne) (s' : Session) → Applied s b.first line body s' b' → Names s'.tables (ns ++ [])
+  one_so line body b' s' a =
       rw append-nil
       (same_names s.tables s'.tables ns
-      (ap (λ x. x.tables.errors) a.session ∙ one-leaves s.tables (payload_in s.machine s.name line body) b.first (command_in s.machine s.name line body) errors) w)
+      (ap (λ x. x.tables.errors) a.session ∙ one_leaves s.tables (payload_in s.machine s.name line body) b.first (command_in s.machine s.name line body) errors) w)
 
   -- .. of phase two
-  two-so : (own : Bool) (line body : List ℕ) (phase : Phase) (text out : List ℕ) (o : Outcome) → AppliedTwo own s b line body phase text out o → Names o.session.tables (ns ++ names_brought (in_two line body))
-  two-so own line body phase text out o a =
+  two_so : (own : Bool) (line body : List ℕ) (phase : Phase) (text out : List ℕ) (o : Outcome) → AppliedTwo own s b line body phase text out o → Names o.session.tables (ns ++ names_brought (in_two line body))
+  two_so own line body phase text out o a =
       let c = command_at s line body in
       let says = command_says s.machine line body ((decided_iff own s.tables b.second c (length (payload_at s line body))).0 a.faultless).right in
       subst (λ x. Names x.tables (ns ++ names_brought (in_two line body))) (sym a.session)
@@ -297,22 +297,22 @@ module _ (s : Session) (b : Buffers) (r : ReachedSession s) (ns : List Named) (w
       (two_names own s.tables b.second c (payload_at s line body) ns a.faultless (kept_two s.tables r.later_tables errors) w))
 
   -- .. an answer
-  same-so : (u : Tables) → u ≡ s.tables → Names u (ns ++ [])
-  same-so u e = rw (append-nil, e) w
+  same_so : (u : Tables) → u ≡ s.tables → Names u (ns ++ [])
+  same_so u e = rw (append-nil, e) w
 
-  accepted-so : (c : Call) → AcceptedBy s b c → Names (outcome s b c).session.tables (ns ++ names_brought (brought_by c))
-  accepted-so (receive text) a = one-so _ _ (outcome s b (receive text)).buffers.first _ a.applied
-  accepted-so (send word arguments body out) a = one-so _ _ (outcome s b (send word arguments body out)).buffers.first _ a.applied
-  accepted-so (receive_two text out) a = two-so false _ _ _ _ _ (outcome s b (receive_two text out)) a
-  accepted-so (reply x body out) a = same-so _ (ap (λ x. x.tables) a.session)
-  accepted-so (send_two word arguments body out) a = two-so true _ _ _ _ _ (outcome s b (send_two word arguments body out)) a
-  accepted-so (respond text out) a = same-so _ (ap (λ x. x.tables) a.1.session)
+  accepted_so : (c : Call) → AcceptedBy s b c → Names (outcome s b c).session.tables (ns ++ names_brought (brought_by c))
+  accepted_so (receive text) a = one_so _ _ (outcome s b (receive text)).buffers.first _ a.applied
+  accepted_so (send word arguments body out) a = one_so _ _ (outcome s b (send word arguments body out)).buffers.first _ a.applied
+  accepted_so (receive_two text out) a = two_so false _ _ _ _ _ (outcome s b (receive_two text out)) a
+  accepted_so (reply x body out) a = same_so _ (ap (λ x. x.tables) a.session)
+  accepted_so (send_two word arguments body out) a = two_so true _ _ _ _ _ (outcome s b (send_two word arguments body out)) a
+  accepted_so (respond text out) a = same_so _ (ap (λ x. x.tables) a.1.session)
 
   -- any call, accepted or refused
-  call-names : (c : Call) → Names (outcome s b c).session.tables (ns ++ pick (eqb (outcome s b c).number 0) (names_brought (brought_by c)) [])
-  call-names c =
-      cases (eqb (outcome s b c).number 0) (λ f. rw f (accepted-so c (accepted s b c (eqb-true (outcome s b c).number 0 f))))
-      (λ f. rw f (same-so _ (refusal s b c (eqb-false (outcome s b c).number 0 f)).tables))
+  call_names : (c : Call) → Names (outcome s b c).session.tables (ns ++ pick (eqb (outcome s b c).number 0) (names_brought (brought_by c)) [])
+  call_names c =
+      cases (eqb (outcome s b c).number 0) (λ f. rw f (accepted_so c (accepted s b c (eqb-true (outcome s b c).number 0 f))))
+      (λ f. rw f (same_so _ (refusal s b c (eqb-false (outcome s b c).number 0 f)).tables))
 
 -- a list of calls
 names_after : (s : Session) (b : Buffers) (cs : List Call) (ns : List Named) → ReachedSession s → Names s.tables ns → Names (after s b cs).session.tables (ns ++ names_in s b cs)
@@ -320,7 +320,7 @@ unfolding after names_in
 names_after s b [] ns r w = rw append-nil w
 names_after s b (c ∷ cs) ns r w =
     subst (Names (after (outcome s b c).session (outcome s b c).buffers cs).session.tables) (append_assoc ns _ _)
-    (names_after (outcome s b c).session (outcome s b c).buffers cs _ (call_reached s b c r) (call-names s b r ns w c))
+    (names_after (outcome s b c).session (outcome s b c).buffers cs _ (call_reached s b c r) (call_names s b r ns w c))
 
 -- of any list of calls from an opening, the look-up of error k gives what the k-th accepted error names, both numbers of a header stanza; nothing beyond
 pub names_opened : (machine name : List ℕ) (screen : Bool) (b : Buffers) (cs : List Call) (k : ℕ) →

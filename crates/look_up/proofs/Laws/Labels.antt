@@ -36,8 +36,8 @@ module _ (t : Table) (i : ℕ) where
   pub labels_at : i < length (labels t) → drop i (labels t) ≡ slot_label t i ∷ drop (i + 1) (labels t)
   labels_at h = rw (add-one, drop-cons (labels t) i (label_of empty), label_is)
 
-  pub labels-end : length (labels t) ≤ i → drop i (labels t) ≡ []
-  labels-end h = drop_of_length-le (labels t) {i = i} h
+  pub labels_end : length (labels t) ≤ i → drop i (labels t) ≡ []
+  labels_end h = drop_of_length-le (labels t) {i = i} h
 
 -- ---- how many pass: n of those before, and what is left
 
@@ -52,15 +52,15 @@ module _ (q : Label → Bool) (t : Table) where
 
   pub left_end : (i : ℕ) → length (labels t) ≤ i → left i ≡ 0
   unfolding how_many
-  left_end i h = ap (how_many q) (labels-end t i h)
+  left_end i h = ap (how_many q) (labels_end t i h)
 
   -- one that passes
   pub left_one : (i : ℕ) → i < length (labels t) → q (slot_label t i) ≡ true → left i ≡ 1 + left (i + 1)
   left_one i h e = left_at i h ∙ ap (λ b. pick b 1 0 + left (i + 1)) e
 
   -- one that does not
-  pub left-none : (i : ℕ) → i < length (labels t) → q (slot_label t i) ≡ false → left i ≡ left (i + 1)
-  left-none i h e = let a = left_at i h ∙ ap (λ b. pick b 1 0 + left (i + 1)) e in omega arith
+  pub left_none : (i : ℕ) → i < length (labels t) → q (slot_label t i) ≡ false → left i ≡ left (i + 1)
+  left_none i h e = let a = left_at i h ∙ ap (λ b. pick b 1 0 + left (i + 1)) e in omega arith
 
 -- ---- how many pass of those before a slot
 
@@ -68,24 +68,24 @@ module _ (q : Label → Bool) (t : Table) where
   abbrev pub passed : ℕ → ℕ
   passed i = how_many q (take i (labels t))
 
-  passed-at : (i : ℕ) → i < length (labels t) → passed (i + 1) ≡ passed i + pick (q (slot_label t i)) 1 0
-  passed-at i h =
+  passed_at : (i : ℕ) → i < length (labels t) → passed (i + 1) ≡ passed i + pick (q (slot_label t i)) 1 0
+  passed_at i h =
       ap passed (add-one i) ∙ ap (how_many q) (take-suc (labels t) i (label_of empty) h ∙ ap (λ l. take i (labels t) ++ (l ∷ [])) (label_is t i h)) ∙ many_append q (take i (labels t)) (slot_label t i ∷ [])
       ∙ ap (λ n. passed i + n) (many_one q (slot_label t i))
 
-  pub passed-one : (i : ℕ) → i < length (labels t) → q (slot_label t i) ≡ true → passed (i + 1) ≡ passed i + 1
-  passed-one i h e = passed-at i h ∙ ap (λ b. passed i + pick b 1 0) e
+  pub passed_one : (i : ℕ) → i < length (labels t) → q (slot_label t i) ≡ true → passed (i + 1) ≡ passed i + 1
+  passed_one i h e = passed_at i h ∙ ap (λ b. passed i + pick b 1 0) e
 
   pub passed_none : (i : ℕ) → i < length (labels t) → q (slot_label t i) ≡ false → passed (i + 1) ≡ passed i
-  passed_none i h e = let a = passed-at i h ∙ ap (λ b. passed i + pick b 1 0) e in omega arith
+  passed_none i h e = let a = passed_at i h ∙ ap (λ b. passed i + pick b 1 0) e in omega arith
 
   -- beyond the last there is none
-  pub passed-least : (n : ℕ) → passed (min n (length (labels t))) ≡ passed n
-  passed-least n =
+  pub passed_least : (n : ℕ) → passed (min n (length (labels t))) ≡ passed n
+  passed_least n =
       elim (dec_lt n (length (labels t))) [
         | yes h ↦ let e : min n (length (labels t)) ≡ n = omega arith in ap passed e
         | no h ↦ let e : min n (length (labels t)) ≡ length (labels t) = omega arith in ap (how_many q) (ap (λ m. take m (labels t)) e ∙ take-length (labels t) ∙ sym (take_all n (labels t) (omega arith)))
       ]
 
-  pub passed-all : passed (length (labels t)) ≡ how_many q (labels t)
-  passed-all = ap (how_many q) (take-length (labels t))
+  pub passed_all : passed (length (labels t)) ≡ how_many q (labels t)
+  passed_all = ap (how_many q) (take-length (labels t))

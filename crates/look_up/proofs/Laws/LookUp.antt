@@ -23,7 +23,7 @@ use Rattle.conversation.specs.Kinds.{of_file}
 use Rattle.conversation.specs.PhaseTwo.{Label, label_of, labels, how_many, is_file, errors, stanzas, returned}
 use Rattle.conversation.proofs.Laws.ViewsTwo.{ReachedTwo, kept_two}
 use Rattle.look_up.specs.LookUp.{entry_text, number_of, found_of, message_of, stanza_of, key_of, LookedOf, Told}
-use Rattle.look_up.proofs.Laws.Labels.{slot_label, labels_at, labels-end}
+use Rattle.look_up.proofs.Laws.Labels.{slot_label, labels_at, labels_end}
 
 -- ---- the loop: the slots before i have been passed, and the k-th of the rest is looked for
 
@@ -32,25 +32,25 @@ module _ (q : Label → Bool) (t : Table) where
   onward i k = i + number_of q (drop i (labels t)) k
 
   -- it is here
-  pub onward-here : (i k : ℕ) → i < length (labels t) → q (slot_label t i) ≡ true → k ≡ 0 → onward i k ≡ i
+  pub onward_here : (i k : ℕ) → i < length (labels t) → q (slot_label t i) ≡ true → k ≡ 0 → onward i k ≡ i
   unfolding number_of
-  onward-here i k h e z = ap (onward i) z ∙ rw (labels_at t i h, e) (omega arith)
+  onward_here i k h e z = ap (onward i) z ∙ rw (labels_at t i h, e) (omega arith)
 
   -- another that passes
-  pub onward-one : (i k j : ℕ) → i < length (labels t) → q (slot_label t i) ≡ true → k ≡ suc j → onward i k ≡ onward (i + 1) j
+  pub onward_one : (i k j : ℕ) → i < length (labels t) → q (slot_label t i) ≡ true → k ≡ suc j → onward i k ≡ onward (i + 1) j
   unfolding number_of
-  onward-one i k j h e z = ap (onward i) z ∙ rw (labels_at t i h, e) (omega arith)
+  onward_one i k j h e z = ap (onward i) z ∙ rw (labels_at t i h, e) (omega arith)
 
   -- one that does not
-  pub onward-none : (i k : ℕ) → i < length (labels t) → q (slot_label t i) ≡ false → onward i k ≡ onward (i + 1) k
+  pub onward_none : (i k : ℕ) → i < length (labels t) → q (slot_label t i) ≡ false → onward i k ≡ onward (i + 1) k
   unfolding number_of
-  onward-none i zero h e = rw (labels_at t i h, e) (omega arith)
-  onward-none i (suc k) h e = rw (labels_at t i h, e) (omega arith)
+  onward_none i zero h e = rw (labels_at t i h, e) (omega arith)
+  onward_none i (suc k) h e = rw (labels_at t i h, e) (omega arith)
 
   -- none is left
-  pub onward-end : (i k : ℕ) → length (labels t) ≤ i → onward i k ≡ i
+  pub onward_end : (i k : ℕ) → length (labels t) ≤ i → onward i k ≡ i
   unfolding number_of
-  onward-end i k h = rw (labels-end t i h) (omega arith)
+  onward_end i k h = rw (labels_end t i h) (omega arith)
 
 -- ---- a file's rows, by the numbers of its entries
 
@@ -94,10 +94,10 @@ module _ (b : List ℕ) (f : ℕ) where
   abbrev number : List Entry → ℕ → ℕ
   number es = number_of (is_file f) (map label_of es)
 
-  rows-count : (es : List Entry) → how_many (is_file f) (map label_of es) ≡ length (own es)
+  rows_count : (es : List Entry) → how_many (is_file f) (map label_of es) ≡ length (own es)
   unfolding how_many of_file
-  rows-count [] = refl
-  rows-count (e ∷ es) = more_count (eqb e.index f) (row_of b e) (own es) (how_many (is_file f) (map label_of es)) (rows-count es)
+  rows_count [] = refl
+  rows_count (e ∷ es) = more_count (eqb e.index f) (row_of b e) (own es) (how_many (is_file f) (map label_of es)) (rows_count es)
 
   rows_at : (es : List Entry) (d : Row) (k : ℕ) → k < length (own es) → At (own es) (all es) d k (number es k)
   unfolding number_of of_file
@@ -131,7 +131,7 @@ looked_of t b f k w =
 
 -- how many stanzas a file has, and whether it has a key: as many as rows of the file
 pub count_of : (t : Table) (b : List ℕ) (f : ℕ) → how_many (is_file f) (labels t) ≡ length (of_file f (view t b))
-count_of t b f = rows-count b f (take t.count t.slots)
+count_of t b f = rows_count b f (take t.count t.slots)
 
 -- an entry whose payload may be empty: none is shown beyond the rows, or of a buffer that is too short
 none_shown : (t : Table) (b : List ℕ) (k : ℕ) → Kept t → (length (view t b) ≤ k) ⊎ (length b < end_of t k) → shown (found t k) b ≡ []
@@ -146,31 +146,31 @@ none_shown t b k w o =
 
 module _ (t : Tables) (r : Reached t) where
   -- an entry of a kind of phase one, found by its number
-  pub entry-looked : (k : one_kind.KindOne) (b : List ℕ) (n : ℕ) → Looked (shown (found (one_kind.table_of k t) n) b) (one_kind.table_of k t) b n
+  pub entry_looked : (k : one_kind.KindOne) (b : List ℕ) (n : ℕ) → Looked (shown (found (one_kind.table_of k t) n) b) (one_kind.table_of k t) b n
   unfolding Reached
-  entry-looked k b n = looked (one_kind.table_of k t) b n (r k)
+  entry_looked k b n = looked (one_kind.table_of k t) b n (r k)
 
   -- a recipient or an identity: what `entry_text` shows
-  pub recipient-looked : (n : ℕ) (recipients identities : List ℕ) → Looked (entry_text t Recipient n recipients identities) t.recipients recipients n
-  recipient-looked n recipients identities = entry-looked one_kind.recipients recipients n
+  pub recipient_looked : (n : ℕ) (recipients identities : List ℕ) → Looked (entry_text t Recipient n recipients identities) t.recipients recipients n
+  recipient_looked n recipients identities = entry_looked one_kind.recipients recipients n
 
-  pub identity-looked : (n : ℕ) (recipients identities : List ℕ) → Looked (entry_text t Identity n recipients identities) t.identities identities n
-  identity-looked n recipients identities = entry-looked one_kind.identities identities n
+  pub identity_looked : (n : ℕ) (recipients identities : List ℕ) → Looked (entry_text t Identity n recipients identities) t.identities identities n
+  identity_looked n recipients identities = entry_looked one_kind.identities identities n
 
 module _ (t : Tables) (r : ReachedTwo t) where
   -- stanza k of a file, and how many it has
-  pub stanza-looked : (b : List ℕ) (f k : ℕ) → LookedOf (stanza_of t f k b) t.stanzas b f k
+  pub stanza_looked : (b : List ℕ) (f k : ℕ) → LookedOf (stanza_of t f k b) t.stanzas b f k
   unfolding ReachedTwo
-  stanza-looked b f k = looked_of t.stanzas b f k (r stanzas)
+  stanza_looked b f k = looked_of t.stanzas b f k (r stanzas)
 
   -- the key of a file
-  pub key-looked : (b : List ℕ) (f : ℕ) → LookedOf (key_of t f b) t.returned b f 0
+  pub key_looked : (b : List ℕ) (f : ℕ) → LookedOf (key_of t f b) t.returned b f 0
   unfolding ReachedTwo
-  key-looked b f = looked_of t.returned b f 0 (r returned)
+  key_looked b f = looked_of t.returned b f 0 (r returned)
 
   -- the message of error k
-  pub message-told : (b : List ℕ) (k : ℕ) → Told (message_of t k b) t.errors b k
-  message-told b k =
+  pub message_told : (b : List ℕ) (k : ℕ) → Told (message_of t k b) t.errors b k
+  message_told b k =
       let w = kept_two t r errors in
       let c = view_count t.errors b w in
       record { there = λ h l. part_shown t.errors b k w (omega arith) l; none = none_shown t.errors b k w }

@@ -7,7 +7,7 @@ use lib.ListN.{length, drop, get_or, drop_of_length-le}
 use borrow.Author.Tests.{eq-eqb, ne_eqb}
 use Rattle.refusal.specs.Pick.{pick}
 use Rattle.refusal.specs.Same.{same}
-use Rattle.refusal.proofs.Laws.Lists.{drop-one}
+use Rattle.refusal.proofs.Laws.Lists.{drop_one}
 use Rattle.refusal.proofs.Laws.Same.{same_eq}
 use Rattle.session.specs.declared.opening.Machine.{Machine}
 use Rattle.session.specs.declared.opening.Machine.TheVariants.{RecipientV1, IdentityV1}
@@ -16,11 +16,11 @@ use Rattle.phase_one.specs.Commands.{after_space, add_recipient_text, add_identi
 -- a space, and no space
 pub space_here : (t : List ℕ) (i : ℕ) → i < length t → get_or t i 0 ≡ 32 → after_space (drop i t) ≡ drop (i + 1) t
 unfolding after_space
-space_here t i h e = ap after_space (drop-one t i 0 h) ∙ rw (eq-eqb (get_or t i 0) 32 e)
+space_here t i h e = ap after_space (drop_one t i 0 h) ∙ rw (eq-eqb (get_or t i 0) 32 e)
 
 pub space_later : (t : List ℕ) (i : ℕ) → i < length t → (get_or t i 0 ≡ 32 → ⊥) → after_space (drop i t) ≡ after_space (drop (i + 1) t)
 unfolding after_space
-space_later t i h e = ap after_space (drop-one t i 0 h) ∙ rw (ne_eqb (get_or t i 0) 32 e)
+space_later t i h e = ap after_space (drop_one t i 0 h) ∙ rw (ne_eqb (get_or t i 0) 32 e)
 
 -- none left
 pub space_none : (t : List ℕ) (i : ℕ) → length t ≤ i → after_space (drop i t) ≡ []

@@ -33,14 +33,14 @@ late_repeated true n z = refl
 late_repeated false n z = refl
 
 module _ (t : Table) (index : ℕ) where
-  pub falls-none : t.count ≡ 0 → false ≡ falls t index
-  falls-none h = rw (le-ltb 0 t.count (omega arith))
+  pub falls_none : t.count ≡ 0 → false ≡ falls t index
+  falls_none h = rw (le-ltb 0 t.count (omega arith))
 
-  pub falls-over : t.width < t.count → false ≡ falls t index
-  falls-over h = rw (lt-ltb 0 t.count (omega arith), lt-leb t.count t.width h)
+  pub falls_over : t.width < t.count → false ≡ falls t index
+  falls_over h = rw (lt-ltb 0 t.count (omega arith), lt-leb t.count t.width h)
 
-  pub falls-is : 0 < t.count → t.count ≤ t.width → ltb index (get_or t.slots (t.count - 1) empty).index ≡ falls t index
-  falls-is h g = rw (lt-ltb 0 t.count h, le-leb t.count t.width g)
+  pub falls_is : 0 < t.count → t.count ≤ t.width → ltb index (get_or t.slots (t.count - 1) empty).index ≡ falls t index
+  falls_is h g = rw (lt-ltb 0 t.count h, le-leb t.count t.width g)
 
 -- ---- one command, by what it was parsed as and what storing it came to
 
@@ -60,54 +60,54 @@ module _ (m : Machine) (g : List ℕ) (t : Tables) (b : BuffersOne) (z : ℕ) (l
   )
 
   -- a fault that nothing comes before, and a command that is not kept
-  pub step-bad : (n : ℕ) → bad n ≡ command_in m g l y → eqb n 0 ≡ false → Stepped n t b
-  step-bad n e f = stepped (bad n) n t b e (rw f) (same_either (eqb n 0) t) (same_either (eqb n 0) b)
+  pub step_bad : (n : ℕ) → bad n ≡ command_in m g l y → eqb n 0 ≡ false → Stepped n t b
+  step_bad n e f = stepped (bad n) n t b e (rw f) (same_either (eqb n 0) t) (same_either (eqb n 0) b)
 
-  pub step-done : done ≡ command_in m g l y → Stepped z t b
-  step-done e = stepped done z t b e refl (same_either (eqb z 0) t) (same_either (eqb z 0) b)
+  pub step_done : done ≡ command_in m g l y → Stepped z t b
+  step_done e = stepped done z t b e refl (same_either (eqb z 0) t) (same_either (eqb z 0) b)
 
   pub step_other : other ≡ command_in m g l y → Stepped z t b
   step_other e = stepped other z t b e refl (same_either (eqb z 0) t) (same_either (eqb z 0) b)
 
   -- an entry of each kind
-  pub step-recipient : (k v : ℕ) (r : Table) (p : List ℕ) → recipient k ≡ command_in m g l y →
+  pub step_recipient : (k v : ℕ) (r : Table) (p : List ℕ) → recipient k ≡ command_in m g l y →
       v ≡ pick (repeats t.recipients b.recipients (argument_of l 1)) 20 (storing t.recipients (length (argument_of l 1)) (length b.recipients) z) →
       r ≡ pick (eqb v 0) (entered t.recipients (length (argument_of l 1)) 0 k (length b.recipients)) t.recipients → p ≡ pick (eqb v 0) (kept t.recipients (argument_of l 1) b.recipients) b.recipients →
       Stepped v (record { recipients = r; identities = t.identities; keys = t.keys; headers = t.headers; errors = t.errors; stanzas = t.stanzas; returned = t.returned }) (buffers_of p b.identities b.keys b.headers)
-  step-recipient k v r p e q u w =
+  step_recipient k v r p e q u w =
       let f : Table → Tables = λ x. record { recipients = x; identities = t.identities; keys = t.keys; headers = t.headers; errors = t.errors; stanzas = t.stanzas; returned = t.returned } in
       let h : List ℕ → BuffersOne = λ x. buffers_of x b.identities b.keys b.headers in
       stepped (recipient k) v _ _ e (q ∙ late_repeated (repeats t.recipients b.recipients (argument_of l 1)) _ z) (ap f u ∙ pick_in (eqb v 0) f _ _) (ap h w ∙ pick_in (eqb v 0) h _ _)
 
-  pub step-identity : (k v : ℕ) (r : Table) (p : List ℕ) → identity k ≡ command_in m g l y → v ≡ storing t.identities (length (argument_of l 1)) (length b.identities) z →
+  pub step_identity : (k v : ℕ) (r : Table) (p : List ℕ) → identity k ≡ command_in m g l y → v ≡ storing t.identities (length (argument_of l 1)) (length b.identities) z →
       r ≡ pick (eqb v 0) (entered t.identities (length (argument_of l 1)) 0 k (length b.identities)) t.identities → p ≡ pick (eqb v 0) (kept t.identities (argument_of l 1) b.identities) b.identities →
       Stepped v (record { recipients = t.recipients; identities = r; keys = t.keys; headers = t.headers; errors = t.errors; stanzas = t.stanzas; returned = t.returned }) (buffers_of b.recipients p b.keys b.headers)
-  step-identity k v r p e q u w =
+  step_identity k v r p e q u w =
       let f : Table → Tables = λ x. record { recipients = t.recipients; identities = x; keys = t.keys; headers = t.headers; errors = t.errors; stanzas = t.stanzas; returned = t.returned } in
       let h : List ℕ → BuffersOne = λ x. buffers_of b.recipients x b.keys b.headers in
       stepped (identity k) v _ _ e q (ap f u ∙ pick_in (eqb v 0) f _ _) (ap h w ∙ pick_in (eqb v 0) h _ _)
 
-  pub step-key : (v : ℕ) (r : Table) (p : List ℕ) → key ≡ command_in m g l y → v ≡ storing t.keys (length y) (length b.keys) z →
+  pub step_key : (v : ℕ) (r : Table) (p : List ℕ) → key ≡ command_in m g l y → v ≡ storing t.keys (length y) (length b.keys) z →
       r ≡ pick (eqb v 0) (entered t.keys (length y) 0 0 (length b.keys)) t.keys → p ≡ pick (eqb v 0) (kept t.keys y b.keys) b.keys →
       Stepped v (record { recipients = t.recipients; identities = t.identities; keys = r; headers = t.headers; errors = t.errors; stanzas = t.stanzas; returned = t.returned }) (buffers_of b.recipients b.identities p b.headers)
-  step-key v r p e q u w =
+  step_key v r p e q u w =
       let f : Table → Tables = λ x. record { recipients = t.recipients; identities = t.identities; keys = x; headers = t.headers; errors = t.errors; stanzas = t.stanzas; returned = t.returned } in
       let h : List ℕ → BuffersOne = λ x. buffers_of b.recipients b.identities x b.headers in
       stepped key v _ _ e q (ap f u ∙ pick_in (eqb v 0) f _ _) (ap h w ∙ pick_in (eqb v 0) h _ _)
 
-  pub step-header : (i k v : ℕ) (r : Table) (p : List ℕ) → header i k ≡ command_in m g l y → v ≡ pick (falls t.headers i) 7 (storing t.headers (length (rest_of l ++ 10 ∷ y)) (length b.headers) z) →
+  pub step_header : (i k v : ℕ) (r : Table) (p : List ℕ) → header i k ≡ command_in m g l y → v ≡ pick (falls t.headers i) 7 (storing t.headers (length (rest_of l ++ 10 ∷ y)) (length b.headers) z) →
       r ≡ pick (eqb v 0) (entered t.headers (length (rest_of l ++ 10 ∷ y)) i k (length b.headers)) t.headers → p ≡ pick (eqb v 0) (kept t.headers (rest_of l ++ 10 ∷ y) b.headers) b.headers →
       Stepped v (record { recipients = t.recipients; identities = t.identities; keys = t.keys; headers = r; errors = t.errors; stanzas = t.stanzas; returned = t.returned }) (buffers_of b.recipients b.identities b.keys p)
-  step-header i k v r p e q u w =
+  step_header i k v r p e q u w =
       let f : Table → Tables = λ x. record { recipients = t.recipients; identities = t.identities; keys = t.keys; headers = x; errors = t.errors; stanzas = t.stanzas; returned = t.returned } in
       let h : List ℕ → BuffersOne = λ x. buffers_of b.recipients b.identities b.keys x in
       stepped (header i k) v _ _ e (q ∙ late_falling (falls t.headers i) _ z) (ap f u ∙ pick_in (eqb v 0) f _ _) (ap h w ∙ pick_in (eqb v 0) h _ _)
 
 -- ---- an accepted command
 module _ (m : Machine) (g : List ℕ) (t : Tables) (b : BuffersOne) (z : ℕ) (l y : List ℕ) where
-  pub accepted-one : (x : CommandOne) → x ≡ command_in m g l y → number_one m g t b z l y ≡ 0 →
+  pub accepted_one : (x : CommandOne) → x ≡ command_in m g l y → number_one m g t b z l y ≡ 0 →
       (applied t b x (payload_of x l y) ≡ tables_one m g t b z l y) × (filled_by t b x (payload_of x l y) ≡ buffers_one m g t b z l y)
-  accepted-one x e q =
+  accepted_one x e q =
       let f0 : eqb (number_one m g t b z l y) 0 ≡ true = eq-eqb (number_one m g t b z l y) 0 q in (
         ap (λ w. applied t b w (payload_of w l y)) e ∙ sym (ap (λ c. pick c (applied t b (command_in m g l y) (payload_in m g l y)) t) f0),
         ap (λ w. filled_by t b w (payload_of w l y)) e ∙ sym (ap (λ c. pick c (filled_by t b (command_in m g l y) (payload_in m g l y)) b) f0),

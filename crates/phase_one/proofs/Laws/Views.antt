@@ -96,26 +96,26 @@ module _ (t : Tables) (b : BuffersOne) (p : List ℕ) (r : Reached t) where
   unfolding Reached
   kept_of k = (r k).kept_so
 
-  pub applied-view : (c : CommandOne) → decided t b c p ≡ 0 → (k : KindOne) → view_of k (applied t b c p) (filled_by t b c p) ≡ view_of k t b ++ rows_of c k p
-  applied-view (recipient m) h recipients = own t.recipients p b.recipients 0 m (kept_of recipients) (recipient_space (repeats t.recipients b.recipients p) (fits t.recipients (length p) (length b.recipients)) h).0
-  applied-view (recipient m) h identities = none identities
-  applied-view (recipient m) h keys = none keys
-  applied-view (recipient m) h headers = none headers
-  applied-view (identity m) h recipients = none recipients
-  applied-view (identity m) h identities = own t.identities p b.identities 0 m (kept_of identities) (space (fits t.identities (length p) (length b.identities)) h)
-  applied-view (identity m) h keys = none keys
-  applied-view (identity m) h headers = none headers
-  applied-view key h recipients = none recipients
-  applied-view key h identities = none identities
-  applied-view key h keys = own t.keys p b.keys 0 0 (kept_of keys) (space (fits t.keys (length p) (length b.keys)) h)
-  applied-view key h headers = none headers
-  applied-view (header i m) h recipients = none recipients
-  applied-view (header i m) h identities = none identities
-  applied-view (header i m) h keys = none keys
-  applied-view (header i m) h headers = own t.headers p b.headers i m (kept_of headers) (header_space (falls t.headers i) (fits t.headers (length p) (length b.headers)) h).0
-  applied-view done h k = none k
-  applied-view other h k = none k
-  applied-view (bad n) h k = none k
+  pub applied_view : (c : CommandOne) → decided t b c p ≡ 0 → (k : KindOne) → view_of k (applied t b c p) (filled_by t b c p) ≡ view_of k t b ++ rows_of c k p
+  applied_view (recipient m) h recipients = own t.recipients p b.recipients 0 m (kept_of recipients) (recipient_space (repeats t.recipients b.recipients p) (fits t.recipients (length p) (length b.recipients)) h).0
+  applied_view (recipient m) h identities = none identities
+  applied_view (recipient m) h keys = none keys
+  applied_view (recipient m) h headers = none headers
+  applied_view (identity m) h recipients = none recipients
+  applied_view (identity m) h identities = own t.identities p b.identities 0 m (kept_of identities) (space (fits t.identities (length p) (length b.identities)) h)
+  applied_view (identity m) h keys = none keys
+  applied_view (identity m) h headers = none headers
+  applied_view key h recipients = none recipients
+  applied_view key h identities = none identities
+  applied_view key h keys = own t.keys p b.keys 0 0 (kept_of keys) (space (fits t.keys (length p) (length b.keys)) h)
+  applied_view key h headers = none headers
+  applied_view (header i m) h recipients = none recipients
+  applied_view (header i m) h identities = none identities
+  applied_view (header i m) h keys = none keys
+  applied_view (header i m) h headers = own t.headers p b.headers i m (kept_of headers) (header_space (falls t.headers i) (fits t.headers (length p) (length b.headers)) h).0
+  applied_view done h k = none k
+  applied_view other h k = none k
+  applied_view (bad n) h k = none k
 
 -- ---- one command, accepted or refused
 
@@ -124,50 +124,50 @@ first_zero n late h = cases (eqb n 0) (λ e. eqb-true n 0 e) (λ e. rw e at h)
 
 -- no payload of a command that was read is empty: no argument is, a key has 16 bytes, and a header stanza its LF
 module _ (g l y : List ℕ) (a : is_line l ≡ true) where
-  text-stored : (k : TextKind) (f : Bool) (m : ℕ) → (f ≡ true → 0 < length (argument_of l 1)) → Stored (pick f (text_of_kind k m) (bad 4)) (payload_of (pick f (text_of_kind k m) (bad 4)) l y)
-  text-stored the_kind.Recipient true m h = h refl
-  text-stored the_kind.Identity true m h = h refl
-  text-stored k false m h = tt
+  text_stored : (k : TextKind) (f : Bool) (m : ℕ) → (f ≡ true → 0 < length (argument_of l 1)) → Stored (pick f (text_of_kind k m) (bad 4)) (payload_of (pick f (text_of_kind k m) (bad 4)) l y)
+  text_stored the_kind.Recipient true m h = h refl
+  text_stored the_kind.Identity true m h = h refl
+  text_stored k false m h = tt
 
-  bare-stored : (f : Bool) → (f ≡ true → 0 < length y) → Stored (pick f key (bad 4)) (payload_of (pick f key (bad 4)) l y)
-  bare-stored true h = h refl
-  bare-stored false h = tt
+  bare_stored : (f : Bool) → (f ≡ true → 0 < length y) → Stored (pick f key (bad 4)) (payload_of (pick f key (bad 4)) l y)
+  bare_stored true h = h refl
+  bare_stored false h = tt
 
-  done-stored : (f : Bool) → Stored (pick f done (bad 4)) (payload_of (pick f done (bad 4)) l y)
-  done-stored true = tt
-  done-stored false = tt
+  done_stored : (f : Bool) → Stored (pick f done (bad 4)) (payload_of (pick f done (bad 4)) l y)
+  done_stored true = tt
+  done_stored false = tt
 
-  header-stored : (f : Bool) (i : ReadIndex) (m : ℕ) → Stored (pick f (indexed i m) (bad 4)) (payload_of (pick f (indexed i m) (bad 4)) l y)
-  header-stored true (number i) m = simp length-append (omega arith)
-  header-stored true (refused n) m = tt
-  header-stored false i m = tt
+  header_stored : (f : Bool) (i : ReadIndex) (m : ℕ) → Stored (pick f (indexed i m) (bad 4)) (payload_of (pick f (indexed i m) (bad 4)) l y)
+  header_stored true (number i) m = simp length-append (omega arith)
+  header_stored true (refused n) m = tt
+  header_stored false i m = tt
 
-  two-some : (eqb (count_of l) 2 && eqb (length y) 0) ≡ true → 0 < length (argument_of l 1)
-  two-some e = argument_some l 1 a (omega (arith, eqb-true (count_of l) 2 (and_true (eqb (count_of l) 2) (eqb (length y) 0) e).0))
+  two_some : (eqb (count_of l) 2 && eqb (length y) 0) ≡ true → 0 < length (argument_of l 1)
+  two_some e = argument_some l 1 a (omega (arith, eqb-true (count_of l) 2 (and_true (eqb (count_of l) 2) (eqb (length y) 0) e).0))
 
-  row-stored : (w : WordOne) → Stored (row_command w g l (length y)) (payload_of (row_command w g l (length y)) l y)
-  row-stored add_recipient = text-stored the_kind.Recipient (eqb (count_of l) 2 && eqb (length y) 0) (mark_of (parse (form_of the_kind.Recipient) (argument_of l 1)) g) two-some
-  row-stored add_identity = text-stored the_kind.Identity (eqb (count_of l) 2 && eqb (length y) 0) (mark_of (parse (form_of the_kind.Identity) (argument_of l 1)) g) two-some
-  row-stored wrap_file_key = bare-stored (is_bare l (length y) 16) (λ e. omega (arith, eqb-true (length y) 16 (and_true (eqb (count_of l) 1) (eqb (length y) 16) e).1))
-  row-stored recipient_stanza = header-stored (leb 3 (count_of l)) (read_index (argument_of l 1)) (header_mark g l (length y))
-  row-stored done_command = done-stored (is_bare l (length y) 0)
-  row-stored other_word = tt
+  row_stored : (w : WordOne) → Stored (row_command w g l (length y)) (payload_of (row_command w g l (length y)) l y)
+  row_stored add_recipient = text_stored the_kind.Recipient (eqb (count_of l) 2 && eqb (length y) 0) (mark_of (parse (form_of the_kind.Recipient) (argument_of l 1)) g) two_some
+  row_stored add_identity = text_stored the_kind.Identity (eqb (count_of l) 2 && eqb (length y) 0) (mark_of (parse (form_of the_kind.Identity) (argument_of l 1)) g) two_some
+  row_stored wrap_file_key = bare_stored (is_bare l (length y) 16) (λ e. omega (arith, eqb-true (length y) 16 (and_true (eqb (count_of l) 1) (eqb (length y) 16) e).1))
+  row_stored recipient_stanza = header_stored (leb 3 (count_of l)) (read_index (argument_of l 1)) (header_mark g l (length y))
+  row_stored done_command = done_stored (is_bare l (length y) 0)
+  row_stored other_word = tt
 
-  pub payload-stored : (m : Machine) → Stored (command_in m g l y) (payload_in m g l y)
-  payload-stored m = row-stored (word_in m (argument_of l 0))
+  pub payload_stored : (m : Machine) → Stored (command_in m g l y) (payload_in m g l y)
+  payload_stored m = row_stored (word_in m (argument_of l 0))
 
 module _ (m : Machine) (g : List ℕ) (t : Tables) (b : BuffersOne) (z : ℕ) (l y : List ℕ) (r : Reached t) where
-  pub one-reached : is_line l ≡ true → Reached (tables_one m g t b z l y)
-  one-reached a =
+  pub one_reached : is_line l ≡ true → Reached (tables_one m g t b z l y)
+  one_reached a =
       cases (eqb (number_one m g t b z l y) 0)
-      (λ e. subst Reached (sym (ap (λ x. pick x (applied t b (command_in m g l y) (payload_in m g l y)) t) e)) (applied_reached t b (command_in m g l y) (payload_in m g l y) (payload-stored g l y a m) r))
+      (λ e. subst Reached (sym (ap (λ x. pick x (applied t b (command_in m g l y) (payload_in m g l y)) t) e)) (applied_reached t b (command_in m g l y) (payload_in m g l y) (payload_stored g l y a m) r))
       (λ e. subst Reached (sym (ap (λ x. pick x (applied t b (command_in m g l y) (payload_in m g l y)) t) e)) r)
 
   -- the rows that it adds: one to its kind's table if it is accepted; none if it is refused, or ignored
-  pub one-view : (k : KindOne) → view_of k (tables_one m g t b z l y) (buffers_one m g t b z l y) ≡ view_of k t b ++ pick (eqb (number_one m g t b z l y) 0) (rows_of (command_in m g l y) k (payload_in m g l y)) []
-  one-view k =
+  pub one_view : (k : KindOne) → view_of k (tables_one m g t b z l y) (buffers_one m g t b z l y) ≡ view_of k t b ++ pick (eqb (number_one m g t b z l y) 0) (rows_of (command_in m g l y) k (payload_in m g l y)) []
+  one_view k =
       both (eqb (number_one m g t b z l y) 0)
-      (λ e. applied-view t b (payload_in m g l y) r (command_in m g l y) (first_zero (decided t b (command_in m g l y) (payload_in m g l y)) z (eqb-true (number_one m g t b z l y) 0 e)) k)
+      (λ e. applied_view t b (payload_in m g l y) r (command_in m g l y) (first_zero (decided t b (command_in m g l y) (payload_in m g l y)) z (eqb-true (number_one m g t b z l y) 0 e)) k)
     where
       both : (f : Bool) →
           (f ≡ true → view_of k (applied t b (command_in m g l y) (payload_in m g l y)) (filled_by t b (command_in m g l y) (payload_in m g l y)) ≡ view_of k t b ++ rows_of (command_in m g l y) k (payload_in m g l y)) →

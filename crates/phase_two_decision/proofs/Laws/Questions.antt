@@ -15,7 +15,7 @@ use Rattle.tables.specs.declared.slots.Entry.{Entry}
 use Rattle.tables.specs.Tables.{Table, empty}
 use Rattle.conversation.specs.PhaseTwo.{Label, label_of, labels, how_many, is_any, passes, among, is_file, is_nonconforming, are_reported, are_stanzas_reported, is_naming}
 use Rattle.look_up.specs.LookUp.{number_of}
-use Rattle.look_up.proofs.Laws.Labels.{slot_label, label_is, labels_at, labels-end, left, left_one, left-none, left_end}
+use Rattle.look_up.proofs.Laws.Labels.{slot_label, label_is, labels_at, labels_end, left, left_one, left_none, left_end}
 
 -- ---- a label that passes
 
@@ -35,8 +35,8 @@ module _ (q : Label → Bool) (t : Table) (i : ℕ) where
   pub passes_at : i < length (labels t) → q (slot_label t i) ≡ passes q (labels t) i
   passes_at h = sym (passes_get_d q (labels t) i (label_of empty) h ∙ ap q (label_is t i h))
 
-  pub passes-out : length (labels t) ≤ i → false ≡ passes q (labels t) i
-  passes-out h = sym (passes_none q (labels t) i h)
+  pub passes_out : length (labels t) ≤ i → false ≡ passes q (labels t) i
+  passes_out h = sym (passes_none q (labels t) i h)
 
 -- ---- a search for one that passes
 
@@ -46,8 +46,8 @@ module _ (q : Label → Bool) (t : Table) where
   any_here i e h p = let a = left_one q t i h p in sym (lt-ltb 0 (how_many q (labels t)) (omega arith))
 
   -- none before i, nor at i
-  pub any-on : (i : ℕ) → left q t i ≡ how_many q (labels t) → i < length (labels t) → q (slot_label t i) ≡ false → left q t (i + 1) ≡ how_many q (labels t)
-  any-on i e h p = sym (left-none q t i h p) ∙ e
+  pub any_on : (i : ℕ) → left q t i ≡ how_many q (labels t) → i < length (labels t) → q (slot_label t i) ≡ false → left q t (i + 1) ≡ how_many q (labels t)
+  any_on i e h p = sym (left_none q t i h p) ∙ e
 
   -- none at all
   pub any_none : (i : ℕ) → left q t i ≡ how_many q (labels t) → length (labels t) ≤ i → false ≡ is_any q (labels t)
@@ -60,22 +60,22 @@ module _ (q : Label → Bool) (mark : ℕ) (t : Table) (es : List Label) where
   abbrev pub reported : ℕ → Bool
   reported i = are_reported q mark i (drop i (labels t)) es
 
-  reported-at : (i : ℕ) → i < length (labels t) → reported i ≡ ((not (q (slot_label t i)) || is_any (is_naming mark i) es) && reported (i + 1))
+  reported_at : (i : ℕ) → i < length (labels t) → reported i ≡ ((not (q (slot_label t i)) || is_any (is_naming mark i) es) && reported (i + 1))
   unfolding are_reported
-  reported-at i h = rw (labels_at t i h)
+  reported_at i h = rw (labels_at t i h)
 
   -- one that has not
-  pub reported-not : (i : ℕ) → reported i ≡ reported 0 → i < length (labels t) → (not (q (slot_label t i)) || is_any (is_naming mark i) es) ≡ false → false ≡ reported 0
-  reported-not i e h p = sym (ap (λ b. b && reported (i + 1)) p) ∙ sym (reported-at i h) ∙ e
+  pub reported_not : (i : ℕ) → reported i ≡ reported 0 → i < length (labels t) → (not (q (slot_label t i)) || is_any (is_naming mark i) es) ≡ false → false ≡ reported 0
+  reported_not i e h p = sym (ap (λ b. b && reported (i + 1)) p) ∙ sym (reported_at i h) ∙ e
 
   -- one that has
-  pub reported-on : (i : ℕ) → reported i ≡ reported 0 → i < length (labels t) → (not (q (slot_label t i)) || is_any (is_naming mark i) es) ≡ true → reported (i + 1) ≡ reported 0
-  reported-on i e h p = sym (ap (λ b. b && reported (i + 1)) p) ∙ sym (reported-at i h) ∙ e
+  pub reported_on : (i : ℕ) → reported i ≡ reported 0 → i < length (labels t) → (not (q (slot_label t i)) || is_any (is_naming mark i) es) ≡ true → reported (i + 1) ≡ reported 0
+  reported_on i e h p = sym (ap (λ b. b && reported (i + 1)) p) ∙ sym (reported_at i h) ∙ e
 
   -- all have
-  pub reported-all : (i : ℕ) → reported i ≡ reported 0 → length (labels t) ≤ i → true ≡ reported 0
+  pub reported_all : (i : ℕ) → reported i ≡ reported 0 → length (labels t) ≤ i → true ≡ reported 0
   unfolding are_reported
-  reported-all i e h = sym (ap (λ ls. are_reported q mark i ls es) (labels-end t i h)) ∙ e
+  reported_all i e h = sym (ap (λ ls. are_reported q mark i ls es) (labels_end t i h)) ∙ e
 
 -- ---- an error for a file's header stanza, by its mark
 
@@ -117,18 +117,18 @@ module _ (t : Table) (es : List Label) where
   pub settled_is : (i : ℕ) (e : Entry) → e ≡ get_or t.slots i empty → is_settled i ≡ (not (is_nonconforming (label_of e)) || is_any (is_naming (3 + e.index) (how_many (is_file e.index) (take i (labels t)))) es)
   settled_is i e h = ap (λ (e : Entry). not (is_nonconforming (label_of e)) || is_any (is_naming (3 + e.index) (how_many (is_file e.index) (take i (labels t)))) es) (sym h)
 
-  stanzas-at : (i : ℕ) → i < length (labels t) → stanzas_reported i ≡ (is_settled i && stanzas_reported (i + 1))
+  stanzas_at : (i : ℕ) → i < length (labels t) → stanzas_reported i ≡ (is_settled i && stanzas_reported (i + 1))
   unfolding are_stanzas_reported
-  stanzas-at i h =
+  stanzas_at i h =
       ap (λ ls. are_stanzas_reported (take i (labels t)) ls es) (labels_at t i h)
       ∙ ap (λ ls. is_settled i && are_stanzas_reported ls (drop (i + 1) (labels t)) es) (sym (ap (λ n. take n (labels t)) (add-one i) ∙ take-suc (labels t) i (label_of empty) h ∙ ap (λ l. take i (labels t) ++ (l ∷ [])) (label_is t i h)))
 
-  pub stanzas-not : (i : ℕ) → stanzas_reported i ≡ stanzas_reported 0 → i < length (labels t) → is_settled i ≡ false → false ≡ stanzas_reported 0
-  stanzas-not i e h p = sym (ap (λ b. b && stanzas_reported (i + 1)) p) ∙ sym (stanzas-at i h) ∙ e
+  pub stanzas_not : (i : ℕ) → stanzas_reported i ≡ stanzas_reported 0 → i < length (labels t) → is_settled i ≡ false → false ≡ stanzas_reported 0
+  stanzas_not i e h p = sym (ap (λ b. b && stanzas_reported (i + 1)) p) ∙ sym (stanzas_at i h) ∙ e
 
-  pub stanzas-on : (i : ℕ) → stanzas_reported i ≡ stanzas_reported 0 → i < length (labels t) → is_settled i ≡ true → stanzas_reported (i + 1) ≡ stanzas_reported 0
-  stanzas-on i e h p = sym (ap (λ b. b && stanzas_reported (i + 1)) p) ∙ sym (stanzas-at i h) ∙ e
+  pub stanzas_on : (i : ℕ) → stanzas_reported i ≡ stanzas_reported 0 → i < length (labels t) → is_settled i ≡ true → stanzas_reported (i + 1) ≡ stanzas_reported 0
+  stanzas_on i e h p = sym (ap (λ b. b && stanzas_reported (i + 1)) p) ∙ sym (stanzas_at i h) ∙ e
 
-  pub stanzas-all : (i : ℕ) → stanzas_reported i ≡ stanzas_reported 0 → length (labels t) ≤ i → true ≡ stanzas_reported 0
+  pub stanzas_all : (i : ℕ) → stanzas_reported i ≡ stanzas_reported 0 → length (labels t) ≤ i → true ≡ stanzas_reported 0
   unfolding are_stanzas_reported
-  stanzas-all i e h = sym (ap (λ ls. are_stanzas_reported (take i (labels t)) ls es) (labels-end t i h)) ∙ e
+  stanzas_all i e h = sym (ap (λ ls. are_stanzas_reported (take i (labels t)) ls es) (labels_end t i h)) ∙ e

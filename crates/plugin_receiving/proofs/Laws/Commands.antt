@@ -43,8 +43,8 @@ use Rattle.chunks.specs.Cutting.{cut}
 use Rattle.chunks.specs.Uncut.{is_waiting}
 use Rattle.chunks.proofs.Laws.Bounds.{stanza_long}
 use Rattle.chunks.proofs.Laws.Cases.{drops_not_reads, keeps_not_reads, keeps_not_drops}
-use Rattle.chunks.proofs.Laws.Texts.{stanza_taken, taken_cut, text-stanza, behind_more, behind_none}
-use Rattle.intake.proofs.Laws.Fronts.{between, intake-reads, chunk-ends}
+use Rattle.chunks.proofs.Laws.Texts.{stanza_taken, taken_cut, text_stanza, behind_more, behind_none}
+use Rattle.intake.proofs.Laws.Fronts.{between, intake_reads, chunk_ends}
 use Rattle.intake.proofs.Laws.Keeping.{filled_empty}
 use Rattle.intake.specs.Fronts.{front_of}
 use Rattle.intake.specs.Intake.{intake_of, stored_in, last_said, taken_said}
@@ -63,8 +63,8 @@ module _ (s : Session) (b : BuffersOne) (c : BuffersTwo) (x : List ℕ) (first :
   in_turn = ap (λ p. outcome s (buffers_of b c) (stanza_call plugin p x)) first ∙ ap (received_outcome c) (sym (received_in_turn s x b (sym (ap turn_one first))))
 
   module _ (r : Received) (is : r ≡ received_as (read_first x) s x b) (t rest : List ℕ) where
-    call-is : outcome s (buffers_of b c) (stanza_call plugin s.phase x) ≡ received_outcome c r
-    call-is = in_turn ∙ ap (received_outcome c) (sym is)
+    call_is : outcome s (buffers_of b c) (stanza_call plugin s.phase x) ≡ received_outcome c r
+    call_is = in_turn ∙ ap (received_outcome c) (sym is)
 
     -- what it comes to, with the text behind it
     abbrev call_taken : Taken
@@ -81,16 +81,16 @@ module _ (s : Session) (b : BuffersOne) (c : BuffersTwo) (x : List ℕ) (first :
     }) t rest
 
     by_answer : (a : Taking) → r.answer ≡ a → call_taken ≡ answer_taken a
-    by_answer a e = ap (λ o. stanza_taken plugin (buffers_of b c) o t rest) call-is ∙ ap answer_taken e
+    by_answer a e = ap (λ o. stanza_taken plugin (buffers_of b c) o t rest) call_is ∙ ap answer_taken e
 
     -- it is accepted
-    command-taken : (w : WordOne) (j : ℕ) → r.answer ≡ took w j →
+    command_taken : (w : WordOne) (j : ℕ) → r.answer ≡ took w j →
         call_taken ≡ one_more (command (one.text_of_word w)) [] (taken_text plugin r.session (buffers_of r.buffers c) [] rest)
-    command-taken w j e = by_answer (took w j) e
+    command_taken w j e = by_answer (took w j) e
 
     -- or refused: the buffers stay
-    command-refused : (n : ℕ) → eqb n 0 ≡ false → r.answer ≡ declined n → call_taken ≡ no_more n (emptied r.session []) (buffers_of r.buffers c)
-    command-refused n z e =
+    command_refused : (n : ℕ) → eqb n 0 ≡ false → r.answer ≡ declined n → call_taken ≡ no_more n (emptied r.session []) (buffers_of r.buffers c)
+    command_refused n z e =
         by_answer (declined n) e
         ∙ ap (λ f. pick f (one_more no_stanza [] (taken_text plugin r.session (buffers_of r.buffers c) [] rest))
         (no_more n (emptied r.session []) (buffers_of b c))) z
@@ -99,7 +99,7 @@ module _ (s : Session) (b : BuffersOne) (c : BuffersTwo) (x : List ℕ) (first :
         same : buffers_of r.buffers c ≡ buffers_of b c
         same =
             let o = outcome s (buffers_of b c) (receive x) in
-            let e' : o ≡ received_outcome c r = sym (ap (λ p. outcome s (buffers_of b c) (stanza_call plugin p x)) first) ∙ call-is in
+            let e' : o ≡ received_outcome c r = sym (ap (λ p. outcome s (buffers_of b c) (stanza_call plugin p x)) first) ∙ call_is in
             let n' : o.number ≡ n = ap (λ (o : Outcome). o.number) e' ∙ ap taking_number e in
             sym (ap (λ (o : Outcome). o.buffers) e') ∙ (refusal s (buffers_of b c) (receive x) (λ q. eqb-false n 0 z (sym n' ∙ q))).buffers
 
@@ -129,25 +129,25 @@ module _ (r : CodeReceived) (xs hs xs' hs' : List (List ℕ)) (b b' : BuffersOne
     (first : r.session.phase ≡ One)
     (is : record { answer = taking_said answer; session = session_of after xs' hs'; buffers = b' } ≡
     received_as (read_first x) (session_of r.session xs hs) x b) where
-  comes-on : (c : BuffersTwo) (t rest : List ℕ) →
+  comes_on : (c : BuffersTwo) (t rest : List ℕ) →
       behind r.count (last_said r.last) [] (call_taken (session_of r.session xs hs) b c x first _ is t rest) ≡
       comes_to (answer_behind r answer after) xs' hs' (buffers_of b' c) rest
-  comes-on c t rest = by answer is
+  comes_on c t rest = by answer is
     where
       by : (a : CodeTaking)
           (is : record { answer = taking_said a; session = session_of after xs' hs'; buffers = b' } ≡ received_as (read_first x) (session_of r.session xs hs) x b) →
           behind r.count (last_said r.last) [] (call_taken (session_of r.session xs hs) b c x first _ is t rest) ≡
           comes_to (answer_behind r a after) xs' hs' (buffers_of b' c) rest
       by (the.Command w j) is =
-          ap (behind r.count (last_said r.last) []) (command-taken (session_of r.session xs hs) b c x first _ is t rest (word_said w) j refl)
+          ap (behind r.count (last_said r.last) []) (command_taken (session_of r.session xs hs) b c x first _ is t rest (word_said w) j refl)
           ∙ behind_more r.count (last_said r.last) (command (one.text_of_word (word_said w))) [] [] (taken_text plugin (session_of after xs' hs') (buffers_of b' c) [] rest)
       by (the.Refused q) is =
-          ap (behind r.count (last_said r.last) []) (command-refused (session_of r.session xs hs) b c x first _ is t rest (number_of q) (number_not_zero q) refl)
+          ap (behind r.count (last_said r.last) []) (command_refused (session_of r.session xs hs) b c x first _ is t rest (number_of q) (number_not_zero q) refl)
           ∙ ap (λ f. behind r.count (last_said r.last) [] (pick f (taken_text plugin (session_of after xs' hs') (buffers_of b' c) [] rest)
           (no_more (number_of q) (emptied (session_of after xs' hs') []) (buffers_of b' c)))) (sym (number_not_zero q))
 
-  none-due-on : NoneDue (answer_behind r answer after)
-  none-due-on = by answer (ap (λ (r : Received). is_waiting client r.session.phase) is ∙ command_phase (session_of r.session xs hs) b x (read_first x) first)
+  none_due_on : NoneDue (answer_behind r answer after)
+  none_due_on = by answer (ap (λ (r : Received). is_waiting client r.session.phase) is ∙ command_phase (session_of r.session xs hs) b x (read_first x) first)
     where
       by : (a : CodeTaking) → is_waiting client after.phase ≡ false → NoneDue (answer_behind r a after)
       by (the.Command w j) e z = e
@@ -163,7 +163,7 @@ module _ (r : CodeReceived) (xs hs xs' hs' : List (List ℕ)) (b b' : BuffersOne
     session : r'.session ≡ after
 
   stepped : (r' : CodeReceived) → r' ≡ answer_behind r answer after → Stepped r'
-  stepped r' e = subst Stepped (sym e) (record { comes = comes-on; none_due = none-due-on; count = more answer; written = wrote answer; session = left answer })
+  stepped r' e = subst Stepped (sym e) (record { comes = comes_on; none_due = none_due_on; count = more answer; written = wrote answer; session = left answer })
     where
       more : (a : CodeTaking) → (answer_behind r a after).count ≤ r.count + 1
       more (the.Command w j) = omega arith
@@ -214,8 +214,8 @@ module _ (r : CodeReceived) (text : List ℕ) (at : ℕ) (in-text : at ≤ lengt
   reads_so : read_first x ≡ stanza s.line s.body s.taken
   reads_so = (next_stanza (verdict_said r.verdict) r.session.phase (read_first x) s.line s.body s.taken found).2
 
-  pub stanza-within : at + s.taken ≤ length text
-  stanza-within = omega (arith, ((taken_iff x s.taken).0 (s.line, s.body, reads_so)).within, ap length (part_is text at), length-drop at text)
+  pub stanza_within : at + s.taken ≤ length text
+  stanza_within = omega (arith, ((taken_iff x s.taken).0 (s.line, s.body, reads_so)).within, ap length (part_is text at), length-drop at text)
 
   pub advanced : (r' : CodeReceived) (xs hs xs' hs' : List (List ℕ)) (b b' : BuffersOne) (answer : CodeTaking) (after : CodeSession) →
       record { answer = taking_said answer; session = session_of after xs' hs'; buffers = b' } ≡
@@ -227,12 +227,12 @@ module _ (r : CodeReceived) (text : List ℕ) (at : ℕ) (in-text : at ≤ lengt
       let is' = is ∙ ap (λ q. received_as q v x b) (sym reads_so) in
       let z = stepped r xs hs xs' hs' b b' x answer after f.1 is' r' e in
       record {
-        within = stanza-within;
+        within = stanza_within;
         long = stanza_long x s.line s.body s.taken reads_so;
         comes = λ c.
             ap (comes_to r xs hs (buffers_of b c)) (sym (part_is text at))
             ∙ ap (λ n. behind r.count (last_said r.last) [] (pick (eqb n 0) (taken_text plugin v (buffers_of b c) [] x) (no_more n (emptied v []) (buffers_of b c)))) f.0
-            ∙ ap (behind r.count (last_said r.last) []) (text-stanza plugin v (buffers_of b c) [] (ap (turn_at plugin) f.1) x s.line s.body s.taken reads_so)
+            ∙ ap (behind r.count (last_said r.last) []) (text_stanza plugin v (buffers_of b c) [] (ap (turn_at plugin) f.1) x s.line s.body s.taken reads_so)
             ∙ z.comes c (take s.taken x) (drop s.taken x)
             ∙ ap (comes_to r' xs' hs' (buffers_of b' c)) (ap (drop s.taken) (part_is text at) ∙ drop-drop s.taken at text);
         none_due = z.none_due;
@@ -312,7 +312,7 @@ pub chunk_begun : (s : CodeSession) (xs hs : List (List ℕ)) (input : List ℕ)
 chunk_begun s xs hs input turn chunk b h =
     let z = between s.reading (min s.kept 8191) chunk h in
     behind_none plugin (session_of s xs hs) b [] (cut start [] chunk).texts (cut start [] chunk).rest
-    ∙ sym (ap (λ i. taken plugin i b chunk) (intake-reads plugin s xs hs input turn)
+    ∙ sym (ap (λ i. taken plugin i b chunk) (intake_reads plugin s xs hs input turn)
     ∙ ap₂ (λ q n. taken_cut plugin (session_of s xs hs) b [] (cut q (take n input) chunk)) z.0 z.1)
 
 -- a command that did
@@ -333,7 +333,7 @@ fronted s xs hs xs' hs' b b' input chunk k r answer after long first h some text
     record {
       comes = λ c.
           let turn : turn_at plugin s.phase ≡ reads = ap (turn_at plugin) first in
-          let d = chunk-ends plugin s xs hs input turn long chunk (buffers_of b c) k h some in
+          let d = chunk_ends plugin s xs hs input turn long chunk (buffers_of b c) k h some in
           let whole-taken : taken plugin (intake_of plugin s xs hs input) (buffers_of b c) chunk ≡ call_taken (session_of s xs hs) b c text first _ is text (drop k chunk) =
           d ∙ ap (λ t. stanza_taken plugin (buffers_of b c) (outcome (session_of s xs hs) (buffers_of b c) (stanza_call plugin s.phase t)) t (drop k chunk)) (sym at) in
           sym (z.comes c text (drop k chunk))

@@ -30,14 +30,14 @@ use Rattle.conversation.proofs.Laws.StepsTwo.{all_written}
 use Rattle.chunks.specs.Taking.{plugin, reads, ample, turn_at, stanza_call, no_stanza, last_in, Taken, Intake, no_more, emptied, one_more, taken_text}
 use Rattle.chunks.specs.Chunks.{Outcome, judged, untaken, taken}
 use Rattle.chunks.proofs.Laws.Cases.{held, keeps_not_reads}
-use Rattle.chunks.proofs.Laws.Rooms.{response-fits, response-overflows, response-declined}
+use Rattle.chunks.proofs.Laws.Rooms.{response_fits, response_overflows, response_declined}
 use Rattle.chunks.proofs.Laws.Runs.{judged_held}
 use Rattle.chunks.proofs.Laws.Short.{taken_not_short}
-use Rattle.chunks.proofs.Laws.Texts.{stanza_taken, text_dropped, text-stanza}
+use Rattle.chunks.proofs.Laws.Texts.{stanza_taken, text_dropped, text_stanza}
 use Rattle.intake.specs.Intake.{intake_of}
 use Rattle.intake.specs.Settling.{MaySettle}
 use Rattle.intake.specs.Fronts.{front_of}
-use Rattle.intake.proofs.Laws.Fronts.{chunk-begins, chunk-ends}
+use Rattle.intake.proofs.Laws.Fronts.{chunk_begins, chunk_ends}
 use Rattle.intake.proofs.Laws.Keeping.{filled_empty}
 use Rattle.plugin_receiving.specs.Responding.{answering_said, responded_said, settled_as, settled_response}
 use Rattle.plugin_receiving.specs.declared.responding.Answering.{Answering as CodeAnswering}
@@ -88,24 +88,24 @@ module _ (b : Buffers) (i : Intake) (left : ℕ) (s : Session) (after : List ℕ
     output = o.output;
   }
 
-  settled-took : (a : CodeAnswering) (o : one_call.Outcome) → said a ≡ o → o.number ≡ 0 → settled a ≡ took o
-  settled-took (the.Response r k n) o e z = ap took e
-  settled-took (the.Refused q) o e z = absurd (eqb-false (number_of q) 0 (number_not_zero q) (ap (λ (o : one_call.Outcome). o.number) e ∙ z))
+  settled_took : (a : CodeAnswering) (o : one_call.Outcome) → said a ≡ o → o.number ≡ 0 → settled a ≡ took o
+  settled_took (the.Response r k n) o e z = ap took e
+  settled_took (the.Refused q) o e z = absurd (eqb-false (number_of q) 0 (number_not_zero q) (ap (λ (o : one_call.Outcome). o.number) e ∙ z))
 
   -- .. or it is refused
   abbrev declined : one_call.Outcome → Outcome
   declined o = record { number = o.number; count = 0; last = no_stanza; size = 0; intake = emptied o.session []; buffers = b; output = o.output }
 
-  settled-refused : (a : CodeAnswering) (o : one_call.Outcome) → said a ≡ o → (o.number ≡ 0 → ⊥) → (o.number ≡ 15 → ⊥) → settled a ≡ declined o
-  settled-refused (the.Response r k n) o e z f = absurd (z (sym (ap (λ (o : one_call.Outcome). o.number) e)))
-  settled-refused (the.Refused q) o e z f =
+  settled_refused : (a : CodeAnswering) (o : one_call.Outcome) → said a ≡ o → (o.number ≡ 0 → ⊥) → (o.number ≡ 15 → ⊥) → settled a ≡ declined o
+  settled_refused (the.Response r k n) o e z f = absurd (z (sym (ap (λ (o : one_call.Outcome). o.number) e)))
+  settled_refused (the.Refused q) o e z f =
       ap (λ d. pick d (untaken (number_of q) i b after) (declined (said (the.Refused q))))
       (ne_eqb (number_of q) 15 (λ h. f (sym (ap (λ (o : one_call.Outcome). o.number) e) ∙ h)))
       ∙ ap declined e
 
-  settled-short : (a : CodeAnswering) (o : one_call.Outcome) → said a ≡ o → o.number ≡ 15 → settled a ≡ untaken 15 i b o.output
-  settled-short (the.Response r k n) o e z = let h : ◌≡◌ {A = ℕ} 0 15 = ap (λ (o : one_call.Outcome). o.number) e ∙ z in absurd (omega arith)
-  settled-short (the.Refused q) o e z =
+  settled_short : (a : CodeAnswering) (o : one_call.Outcome) → said a ≡ o → o.number ≡ 15 → settled a ≡ untaken 15 i b o.output
+  settled_short (the.Response r k n) o e z = let h : ◌≡◌ {A = ℕ} 0 15 = ap (λ (o : one_call.Outcome). o.number) e ∙ z in absurd (omega arith)
+  settled_short (the.Refused q) o e z =
       let h : number_of q ≡ 15 = ap (λ (o : one_call.Outcome). o.number) e ∙ z in
       ap (λ d. pick d (untaken (number_of q) i b after) (declined (said (the.Refused q)))) (eq-eqb (number_of q) 15 h)
       ∙ ap₂ (λ n y. untaken n i b y) h (ap (λ (o : one_call.Outcome). o.output) e)
@@ -129,14 +129,14 @@ module _ (s : Session) (b : Buffers) (i : Intake) (bytes t rest out : List ℕ)
     abbrev w : List ℕ
     w = take in_room.size in_room.output
 
-    written-size : length w ≡ in_room.size
-    written-size =
+    written_size : length w ≡ in_room.size
+    written_size =
         let a = (accepted s b (respond t ample) z).1.written in
         let body = body_read (read_first t) t in
         ap length (ap₂ take a.size a.output ∙ all_written body ample (ltb-false (length ample) (length body) a.fits)) ∙ sym a.size
 
-    behind-is : taken_text plugin in_room.session b [] rest ≡ dropping
-    behind-is =
+    behind_is : taken_text plugin in_room.session b [] rest ≡ dropping
+    behind_is =
         text_dropped plugin in_room.session b [] 14 (ap (λ (s : Session). turn_at plugin s.phase) (accepted s b (respond t ample) z).1.session) rest
         ∙ go (eqb (length rest) 0)
       where
@@ -155,20 +155,20 @@ module _ (s : Session) (b : Buffers) (i : Intake) (bytes t rest out : List ℕ)
       buffers = b;
     }
 
-    one-taken : taken plugin i b bytes ≡ more w
-    one-taken =
+    one_taken : taken plugin i b bytes ≡ more w
+    one_taken =
         is
         ∙ ap by_number (eq-eqb in_room.number 0 z)
-        ∙ ap (one_more (last_in in_room.given) w) behind-is
+        ∙ ap (one_more (last_in in_room.given) w) behind_is
         ∙ ap more (append-nil w)
 
   none_taken : (in_room.number ≡ 0 → ⊥) → taken plugin i b bytes ≡ no_more in_room.number (emptied in_room.session []) b
   none_taken z = is ∙ ap by_number (ne_eqb in_room.number 0 z)
 
   -- the code's step with the lent buffer settles the chunk
-  pub response-settled : (x : CodeResponded) (xs hs : List (List ℕ)) (after : List ℕ) → responded_said x xs hs after ≡ responded s t out →
+  pub response_settled : (x : CodeResponded) (xs hs : List (List ℕ)) (after : List ℕ) → responded_said x xs hs after ≡ responded s t out →
       settled_response (responded_said x xs hs after) i b (length rest) ≡ judged i b out (taken plugin i b bytes)
-  response-settled x xs hs after e =
+  response_settled x xs hs after e =
       let v = (responded_said x xs hs after).session in
       let said-is : said b i (length rest) v after x.answer ≡ outcome s b (respond t out) = ap (responded_outcome b) e in
       cases (eqb in_room.number 0)
@@ -177,7 +177,7 @@ module _ (s : Session) (b : Buffers) (i : Intake) (bytes t rest out : List ℕ)
       cases (leb in_room.size (length out))
       (λ g.
       let l = leb-true in_room.size (length out) g in
-      settled-took b i (length rest) v after x.answer _ (said-is ∙ response-fits s b t out z l) z
+      settled_took b i (length rest) v after x.answer _ (said-is ∙ response_fits s b t out z l) z
       ∙ ap (λ n. record {
         number = pick (eqb (length rest) 0) 0 14;
         count = 1;
@@ -186,15 +186,15 @@ module _ (s : Session) (b : Buffers) (i : Intake) (bytes t rest out : List ℕ)
         intake = emptied in_room.session [];
         buffers = b;
         output = filled (w z) out;
-      }) (sym (written-size z))
-      ∙ sym (ap (judged i b out) (one-taken z) ∙ judged_held i b out (more z (w z)) (omega (arith, written-size z)) (omega arith)))
+      }) (sym (written_size z))
+      ∙ sym (ap (judged i b out) (one_taken z) ∙ judged_held i b out (more z (w z)) (omega (arith, written_size z)) (omega arith)))
       (λ g.
       let l = leb-false in_room.size (length out) g in
-      settled-short b i (length rest) v after x.answer _ (said-is ∙ response-overflows s b t out z l) refl
-      ∙ sym (ap (judged i b out) (one-taken z) ∙ judged_overflows i b out (more z (w z)) (omega (arith, written-size z)))))
+      settled_short b i (length rest) v after x.answer _ (said-is ∙ response_overflows s b t out z l) refl
+      ∙ sym (ap (judged i b out) (one_taken z) ∙ judged_overflows i b out (more z (w z)) (omega (arith, written_size z)))))
       (λ f.
       let z = eqb-false in_room.number 0 f in
-      settled-refused b i (length rest) v after x.answer _ (said-is ∙ response-declined s b t out z) z
+      settled_refused b i (length rest) v after x.answer _ (said-is ∙ response_declined s b t out z) z
       (λ h. taken_not_short plugin i b bytes (ap (λ (t : Taken). t.number) (none_taken z) ∙ h))
       ∙ sym (ap (judged i b out) (none_taken z) ∙ judged_silent i b out (no_more in_room.number (emptied in_room.session []) b) refl (omega arith)))
 
@@ -202,8 +202,8 @@ module _ (s : Session) (b : Buffers) (i : Intake) (bytes t rest out : List ℕ)
 
 module _ (s : CodeSession) (w : WordTwo) (due : s.phase ≡ Awaiting w) (input : List ℕ) (long : 8192 ≤ length input) (chunk : List ℕ) where
   -- no whole stanza stands in it
-  pub may-settle-due : (n : ℕ) → read_first chunk ≡ refused n → MaySettle plugin s.phase reads [] chunk input
-  may-settle-due n h = record {
+  pub may_settle_due : (n : ℕ) → read_first chunk ≡ refused n → MaySettle plugin s.phase reads [] chunk input
+  may_settle_due n h = record {
     turn = ap (turn_at plugin) due;
     none_waits = λ k. refl;
     no_stanza = λ r l m k e. stanza_not_refused n l m k (sym h ∙ e);
@@ -219,32 +219,32 @@ module _ (s : CodeSession) (w : WordTwo) (due : s.phase ≡ Awaiting w) (input :
     v = session_of s xs hs
 
     -- it begins a stanza
-    begun-text : front_of s.reading (min s.kept 8191) chunk ≡ whole 0 → taken_text plugin v b [] chunk ≡ taken plugin i b chunk
-    begun-text h = sym (chunk-begins plugin s xs hs input (ap (turn_at plugin) due) long chunk b h)
+    begun_text : front_of s.reading (min s.kept 8191) chunk ≡ whole 0 → taken_text plugin v b [] chunk ≡ taken plugin i b chunk
+    begun_text h = sym (chunk_begins plugin s xs hs input (ap (turn_at plugin) due) long chunk b h)
 
     module _ (x : CodeResponded) (out after : List ℕ) where
-      by-due : (text : List ℕ) → responded_said x xs hs after ≡ responded_text (read_first text) w v text out → responded_said x xs hs after ≡ responded v text out
-      by-due text e = e ∙ sym (ap (λ p. responded_by (due_in p) v text out) due)
+      by_due_lem : (text : List ℕ) → responded_said x xs hs after ≡ responded_text (read_first text) w v text out → responded_said x xs hs after ≡ responded v text out
+      by_due_lem text e = e ∙ sym (ap (λ p. responded_by (due_in p) v text out) due)
 
       -- .. and the stanza ends in it
-      pub begun-settled : front_of s.reading (min s.kept 8191) chunk ≡ whole 0 → (l m k : ℕ) → read_first chunk ≡ stanza l m k →
+      pub begun_settled : front_of s.reading (min s.kept 8191) chunk ≡ whole 0 → (l m k : ℕ) → read_first chunk ≡ stanza l m k →
           responded_said x xs hs after ≡ responded_text (stanza l m k) w v chunk out →
           settled_response (responded_said x xs hs after) i b (length chunk - k) ≡ judged i b out (taken plugin i b chunk)
-      begun-settled f l m k h e =
+      begun_settled f l m k h e =
           ap (settled_response (responded_said x xs hs after) i b) (sym (length-drop k chunk))
-          ∙ response-settled v b i chunk chunk (drop k chunk) out
-          (sym (begun-text f) ∙ text-stanza plugin v b [] (ap (turn_at plugin) due) chunk l m k h
+          ∙ response_settled v b i chunk chunk (drop k chunk) out
+          (sym (begun_text f) ∙ text_stanza plugin v b [] (ap (turn_at plugin) due) chunk l m k h
           ∙ ap (λ p. stanza_taken plugin b (outcome v b (stanza_call plugin p chunk)) chunk (drop k chunk)) due)
-          x xs hs after (by-due chunk (e ∙ ap (λ r. responded_text r w v chunk out) (sym h)))
+          x xs hs after (by_due_lem chunk (e ∙ ap (λ r. responded_text r w v chunk out) (sym h)))
 
       -- a stanza that began in an earlier chunk ends behind k bytes
-      pub ended-settled : (k : ℕ) → front_of s.reading (min s.kept 8191) chunk ≡ whole k → (k ≡ 0 → ⊥) →
+      pub ended_settled : (k : ℕ) → front_of s.reading (min s.kept 8191) chunk ≡ whole k → (k ≡ 0 → ⊥) →
           (text : List ℕ) → text ≡ take (min s.kept 8191) input ++ take k chunk →
           responded_said x xs hs after ≡ responded_text (read_first text) w v text out →
           settled_response (responded_said x xs hs after) i b (length chunk - k) ≡ judged i b out (taken plugin i b chunk)
-      ended-settled k h some text at e =
+      ended_settled k h some text at e =
           ap (settled_response (responded_said x xs hs after) i b) (sym (length-drop k chunk))
-          ∙ response-settled v b i chunk text (drop k chunk) out
-          (chunk-ends plugin s xs hs input (ap (turn_at plugin) due) long chunk b k h some
+          ∙ response_settled v b i chunk text (drop k chunk) out
+          (chunk_ends plugin s xs hs input (ap (turn_at plugin) due) long chunk b k h some
           ∙ ap₂ (λ p t. stanza_taken plugin b (outcome v b (stanza_call plugin p t)) t (drop k chunk)) due (sym at))
-          x xs hs after (by-due text e)
+          x xs hs after (by_due_lem text e)

@@ -1,6 +1,6 @@
 -- A piece behind the bytes in use, as the code writes it; and how many digits a number has.
 use Prim.Native.Nat.{ℕ, zero, suc, ◌+◌, ◌-◌, ◌*◌, ◌/◌, ◌^◌, ◌<◌, ◌≤◌}
-use mathlib.Core.Path.{◌≡◌, refl, sym, ap, ◌∙◌}
+use mathlib.Core.Path.{◌≡◌, refl, ap, ◌∙◌}
 use mathlib.Core.Bool.{true, false}
 use mathlib.Core.List.{List, [], ◌∷◌, ◌++◌, append-nil}
 use lib.Dec.{ltb}
@@ -27,29 +27,29 @@ none_added (x ∷ p) = rw (lt-ltb 0 (length (x ∷ p)) (omega arith))
 
 module _ (piece o : List ℕ) (n : ℕ) where
   -- the buffer and how many bytes are in use, each by itself
-  put-parts : (m : ℕ) (after : List ℕ) → after ≡ take n o ++ filled piece (drop n o) → m ≡ n + pick (overflows piece (drop n o)) 0 (length piece) →
+  put_parts : (m : ℕ) (after : List ℕ) → after ≡ take n o ++ filled piece (drop n o) → m ≡ n + pick (overflows piece (drop n o)) 0 (length piece) →
       page m after ≡ put piece (page n o)
   unfolding put
-  put-parts m after e f = rw (e, f)
+  put_parts m after e f = rw (e, f)
 
   -- it does not fit
-  pub put-over : (after : List ℕ) → after ≡ take n o ++ filled piece (drop n o) → length o - n < length piece → page n after ≡ put piece (page n o)
-  put-over after e l =
+  pub put_over : (after : List ℕ) → after ≡ take n o ++ filled piece (drop n o) → length o - n < length piece → page n after ≡ put piece (page n o)
+  put_over after e l =
       let t : overflows piece (drop n o) ≡ true = lt-ltb (length (drop n o)) (length piece) (simp length-drop l) in
-      put-parts n after e (rw t (omega arith))
+      put_parts n after e (rw t (omega arith))
 
   -- it fits
   pub put_whole : (m : ℕ) (after : List ℕ) → after ≡ take n o ++ filled piece (drop n o) → m ≡ n + length piece → length piece ≤ length o - n →
       page m after ≡ put piece (page n o)
   put_whole m after e f l =
       let t : overflows piece (drop n o) ≡ false = le-ltb (length (drop n o)) (length piece) (simp length-drop l) in
-      put-parts m after e (rw t f)
+      put_parts m after e (rw t f)
 
   -- more bytes are in use than there are
-  pub put-none : length o < n → page n o ≡ put piece (page n o)
-  put-none h =
+  pub put_none : length o < n → page n o ≡ put piece (page n o)
+  put_none h =
       let d : drop n o ≡ [] = drop_of_length-le o {i = n} (omega arith) in
-      put-parts n o (rw (take_all n o (omega arith), d, filled_none piece, append-nil)) (rw (d, none_added piece) (omega arith))
+      put_parts n o (rw (take_all n o (omega arith), d, filled_none piece, append-nil)) (rw (d, none_added piece) (omega arith))
 
 -- the fewest digits that hold a number are its places
 fewest_places : (most k n : ℕ) → k ≤ suc most → IsDigitCount 10 1 n k → k ≡ places most n

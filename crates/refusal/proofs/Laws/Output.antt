@@ -27,8 +27,8 @@ module _ (content buffer : List ℕ) where
     pub fits : length content ≤ length buffer
     pub front : take n after ≡ content
 
-  pub written-front : (n : ℕ) (after : List ℕ) → bytes n ≡ answered content buffer → after ≡ filled content buffer → Front n after
-  written-front n after e q =
+  pub written_front : (n : ℕ) (after : List ℕ) → bytes n ≡ answered content buffer → after ≡ filled content buffer → Front n after
+  written_front n after e q =
       let w = whole (ltb (length buffer) (length content)) n (length content) e in
       let s : after ≡ content ++ drop (length content) buffer = q ∙ ap (λ f. pick f buffer (content ++ drop (length content) buffer)) w.0 in
       record { size = w.1; fits = ltb-false (length buffer) (length content) w.0; front = rw (w.1, s) (take-append_seam content (drop (length content) buffer)) }
@@ -46,8 +46,8 @@ short_kept content buffer n e = rw (lt-ltb (length buffer) (length content) (ref
 
 -- a call that is refused with a number exactly where a test fails; with no other than 15 behind it
 module _ (number : ℕ) (content buffer : List ℕ) (other : number ≡ 15 → ⊥) (IsBad : Type 0) where
-  bad-judged : IsBad → WritingJudged number IsBad content buffer (refused number) buffer
-  bad-judged b = record {
+  bad_judged : IsBad → WritingJudged number IsBad content buffer (refused number) buffer
+  bad_judged b = record {
     bad = (λ _. b, λ _. refl);
     short = (λ e. let z : number ≡ 15 = cc in absurd (other z), λ w. absurd (w.0 b));
     whole = λ n. (λ e. let z : ◌≡◌ {A = ℕ} 0 1 = cc in absurd (omega arith), λ w. absurd (w.0 b));
@@ -55,9 +55,9 @@ module _ (number : ℕ) (content buffer : List ℕ) (other : number ≡ 15 → �
     front = λ n e. let z : ◌≡◌ {A = ℕ} 0 1 = cc in absurd (omega arith);
   }
 
-  good-judged : (IsBad → ⊥) → (over : Bool) → ltb (length buffer) (length content) ≡ over →
+  good_judged : (IsBad → ⊥) → (over : Bool) → ltb (length buffer) (length content) ≡ over →
       WritingJudged number IsBad content buffer (pick over (refused 15) (bytes (length content))) (pick over buffer (content ++ drop (length content) buffer))
-  good-judged g true o =
+  good_judged g true o =
       let l = ltb-true (length buffer) (length content) o in
       record {
         bad = (λ e. let z : 15 ≡ number = cc in absurd (other (sym z)), λ b. absurd (g b));
@@ -66,7 +66,7 @@ module _ (number : ℕ) (content buffer : List ℕ) (other : number ≡ 15 → �
         kept = λ n e. refl;
         front = λ n e. let z : ◌≡◌ {A = ℕ} 0 1 = cc in absurd (omega arith);
       }
-  good-judged g false o =
+  good_judged g false o =
       let l = ltb-false (length buffer) (length content) o in
       record {
         bad = (λ e. let z : ◌≡◌ {A = ℕ} 0 1 = cc in absurd (omega arith), λ b. absurd (g b));
@@ -78,8 +78,8 @@ module _ (number : ℕ) (content buffer : List ℕ) (other : number ≡ 15 → �
 
   pub judged : (good : Bool) → (good ≡ true → IsBad → ⊥) → (good ≡ false → IsBad) →
       WritingJudged number IsBad content buffer (pick good (answered content buffer) (refused number)) (pick good (filled content buffer) buffer)
-  judged true g b = good-judged (g refl) (ltb (length buffer) (length content)) refl
-  judged false g b = bad-judged (b refl)
+  judged true g b = good_judged (g refl) (ltb (length buffer) (length content)) refl
+  judged false g b = bad_judged (b refl)
 
 -- where it is bad exactly if a test fails
 pub test_judged : (number : ℕ) (content buffer : List ℕ) → (number ≡ 15 → ⊥) → (good : Bool) →

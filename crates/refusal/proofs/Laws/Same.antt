@@ -8,7 +8,7 @@ use lib.ListN.{length, drop, get_or}
 use borrow.Author.Tests.{eq-eqb, eqb-true}
 use Rattle.refusal.specs.Same.{same}
 use Rattle.refusal.proofs.Laws.Booleans.{and_true, cases}
-use Rattle.refusal.proofs.Laws.Lists.{drop-one}
+use Rattle.refusal.proofs.Laws.Lists.{drop_one}
 
 pub same_refl : (a : List ℕ) → same a a ≡ true
 unfolding same
@@ -39,4 +39,4 @@ same_length (x ∷ a) (y ∷ b) h =
 pub same_one : (a b : List ℕ) (i : ℕ) → i < length a → i < length b →
     same (drop i a) (drop i b) ≡ (eqb (get_or a i 0) (get_or b i 0) && same (drop (i + 1) a) (drop (i + 1) b))
 unfolding same
-same_one a b i h k = rw (drop-one a i 0 h, drop-one b i 0 k)
+same_one a b i h k = rw (drop_one a i 0 h, drop_one b i 0 k)

@@ -16,9 +16,9 @@ module _ (w : List ℕ) (ws : List (List ℕ)) (k : ℕ) where
   unfolding place
   place_here h e = rw (drop-cons ws k [] h, e)
 
-  pub place-later : k < length ws → same w (get_or ws k []) ≡ false → place w (drop k ws) ≡ 1 + place w (drop (k + 1) ws)
+  pub place_later : k < length ws → same w (get_or ws k []) ≡ false → place w (drop k ws) ≡ 1 + place w (drop (k + 1) ws)
   unfolding place
-  place-later h e = rw (add-one k, drop-cons ws k [] h, e) (omega arith)
+  place_later h e = rw (add-one k, drop-cons ws k [] h, e) (omega arith)
 
   pub place_none : length ws ≤ k → place w (drop k ws) ≡ 0
   unfolding place

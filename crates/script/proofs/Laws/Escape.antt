@@ -14,39 +14,39 @@ use Rattle.refusal.specs.Pick.{pick}
 use Rattle.refusal.specs.Run.{all, is_graphic}
 use Rattle.refusal.proofs.Laws.Below.{below}
 use Rattle.refusal.proofs.Laws.Booleans.{cases, and_true, T_true}
-use Rattle.refusal.proofs.Laws.Lists.{drop-one, store-one}
+use Rattle.refusal.proofs.Laws.Lists.{drop_one, store_one}
 use Rattle.refusal.proofs.Laws.Run.{all_append}
 use Rattle.script.specs.Escape.{hex_value, moves, gives, stops, plain, letter, digit, effect, Meaning, word, bad, behind, rest, unescaped, measured, fits, answered_by, filled_by, hex_digit, letter_of, printed, spelled, escaped, sized}
 
 -- ---- reading, one byte on
 
 module _ (s b : ℕ) (t : List ℕ) where
-  cons-moves : (r : ℕ) → moves r ≡ effect s b → rest s (b ∷ t) ≡ rest r t
+  cons_moves : (r : ℕ) → moves r ≡ effect s b → rest s (b ∷ t) ≡ rest r t
   unfolding rest
-  cons-moves r e = rw (rest, ← e)
+  cons_moves r e = rw (rest, ← e)
 
-  cons-gives : (v : ℕ) → gives v ≡ effect s b → rest s (b ∷ t) ≡ behind (v ∷ []) (rest 0 t)
+  cons_gives : (v : ℕ) → gives v ≡ effect s b → rest s (b ∷ t) ≡ behind (v ∷ []) (rest 0 t)
   unfolding rest
-  cons-gives v e = rw (rest, ← e)
+  cons_gives v e = rw (rest, ← e)
 
-  cons-stops : stops ≡ effect s b → rest s (b ∷ t) ≡ bad
+  cons_stops : stops ≡ effect s b → rest s (b ∷ t) ≡ bad
   unfolding rest
-  cons-stops e = rw (rest, ← e)
+  cons_stops e = rw (rest, ← e)
 
 module _ (t : List ℕ) (s i : ℕ) where
-  pub rest-ends : length t ≤ i → rest s (drop i t) ≡ pick (eqb s 0) (word []) bad
+  pub rest_ends : length t ≤ i → rest s (drop i t) ≡ pick (eqb s 0) (word []) bad
   unfolding rest
-  rest-ends h = rw (drop_of_length-le t h)
+  rest_ends h = rw (drop_of_length-le t h)
 
-  pub rest-moves : (r : ℕ) → i < length t → moves r ≡ effect s (get_or t i 0) → rest s (drop i t) ≡ rest r (drop (i + 1) t)
-  rest-moves r h e = rw (drop-one t i 0 h) (cons-moves s (get_or t i 0) (drop (i + 1) t) r e)
+  pub rest_moves : (r : ℕ) → i < length t → moves r ≡ effect s (get_or t i 0) → rest s (drop i t) ≡ rest r (drop (i + 1) t)
+  rest_moves r h e = rw (drop_one t i 0 h) (cons_moves s (get_or t i 0) (drop (i + 1) t) r e)
 
   pub rest_gives : (v : ℕ) → i < length t → gives v ≡ effect s (get_or t i 0) →
       rest s (drop i t) ≡ behind (v ∷ []) (rest 0 (drop (i + 1) t))
-  rest_gives v h e = rw (drop-one t i 0 h) (cons-gives s (get_or t i 0) (drop (i + 1) t) v e)
+  rest_gives v h e = rw (drop_one t i 0 h) (cons_gives s (get_or t i 0) (drop (i + 1) t) v e)
 
-  pub rest-stops : i < length t → stops ≡ effect s (get_or t i 0) → rest s (drop i t) ≡ bad
-  rest-stops h e = rw (drop-one t i 0 h) (cons-stops s (get_or t i 0) (drop (i + 1) t) e)
+  pub rest_stops : i < length t → stops ≡ effect s (get_or t i 0) → rest s (drop i t) ≡ bad
+  rest_stops h e = rw (drop_one t i 0 h) (cons_stops s (get_or t i 0) (drop (i + 1) t) e)
 
 -- ---- measuring
 
@@ -106,7 +106,7 @@ fits_one u o s v bad f e = absurd (fits_rest u o s f e)
 -- one byte stored behind those that are kept
 pub more : (u : Meaning (List ℕ)) (o : List ℕ) (n v : ℕ) (m : Meaning (List ℕ)) → n < length o →
     u ≡ behind (take n o) (behind (v ∷ []) m) → u ≡ behind (take (n + 1) (set o n v)) m
-more u o n v m h e = e ∙ behind_behind (take n o) (v ∷ []) m ∙ rw (store-one o n v h)
+more u o n v m h e = e ∙ behind_behind (take n o) (v ∷ []) m ∙ rw (store_one o n v h)
 
 pub kept : (o p : List ℕ) (n v : ℕ) → drop n o ≡ drop n p → drop (n + 1) (set o n v) ≡ drop (n + 1) p
 kept o p n v e = rw (drop-set-lt (n + 1) o n v (omega arith), ← drop-drop 1 n o, ← drop-drop 1 n p, e)
@@ -140,16 +140,16 @@ unfolding printed
 printed_hex b h e = rw (le-ltb 0 (letter_of b) h, e)
 
 module _ (t : List ℕ) (i : ℕ) where
-  pub spelled-ends : length t ≤ i → spelled (drop i t) ≡ []
+  pub spelled_ends : length t ≤ i → spelled (drop i t) ≡ []
   unfolding spelled
-  spelled-ends h = rw (drop_of_length-le t h)
+  spelled_ends h = rw (drop_of_length-le t h)
 
-  pub spelled-one : i < length t → spelled (drop i t) ≡ printed (get_or t i 0) ++ spelled (drop (i + 1) t)
+  pub spelled_one : i < length t → spelled (drop i t) ≡ printed (get_or t i 0) ++ spelled (drop (i + 1) t)
   unfolding spelled
-  spelled-one h = rw (drop-one t i 0 h)
+  spelled_one h = rw (drop_one t i 0 h)
 
-  pub spelled-length : i < length t → length (spelled (drop i t)) ≡ length (printed (get_or t i 0)) + length (spelled (drop (i + 1) t))
-  spelled-length h = rw (spelled-one h) (length-append (printed (get_or t i 0)) (spelled (drop (i + 1) t)))
+  pub spelled_length_lem : i < length t → length (spelled (drop i t)) ≡ length (printed (get_or t i 0)) + length (spelled (drop (i + 1) t))
+  spelled_length_lem h = rw (spelled_one h) (length-append (printed (get_or t i 0)) (spelled (drop (i + 1) t)))
 
 pub escaped_some : (t : List ℕ) → 0 < length t → escaped t ≡ spelled t
 unfolding escaped
@@ -188,30 +188,30 @@ drop_sets o k s h =
 
 -- one byte printed at n: what is kept, what is printed so far, and what is still to be printed
 module _ (t o p : List ℕ) (n i : ℕ) (h : i < length t) (f : n + length (spelled (drop i t)) ≤ length o) where
-  printed-fits : n + length (printed (get_or t i 0)) ≤ length o
-  printed-fits = omega (arith, spelled-length t i h)
+  printed_fits : n + length (printed (get_or t i 0)) ≤ length o
+  printed_fits = omega (arith, spelled_length_lem t i h)
 
-  pub spell-space : n + length (printed (get_or t i 0)) + length (spelled (drop (i + 1) t)) ≤ length o
-  spell-space = omega (arith, spelled-length t i h)
+  pub spell_space : n + length (printed (get_or t i 0)) + length (spelled (drop (i + 1) t)) ≤ length o
+  spell_space = omega (arith, spelled_length_lem t i h)
 
-  pub spell-kept : drop n o ≡ drop n p →
+  pub spell_kept : drop n o ≡ drop n p →
       drop (n + length (printed (get_or t i 0))) (sets o n (printed (get_or t i 0))) ≡ drop (n + length (printed (get_or t i 0))) p
-  spell-kept e =
-      drop_sets o n (printed (get_or t i 0)) printed-fits ∙
+  spell_kept e =
+      drop_sets o n (printed (get_or t i 0)) printed_fits ∙
       rw (← drop-drop (length (printed (get_or t i 0))) n o, ← drop-drop (length (printed (get_or t i 0))) n p, e)
 
-  pub spell-more : spelled t ≡ take n o ++ spelled (drop i t) →
+  pub spell_more : spelled t ≡ take n o ++ spelled (drop i t) →
       spelled t ≡ take (n + length (printed (get_or t i 0))) (sets o n (printed (get_or t i 0))) ++ spelled (drop (i + 1) t)
-  spell-more e =
+  spell_more e =
       e ∙
-      rw (take_sets o n (printed (get_or t i 0)) printed-fits, spelled-one t i h)
+      rw (take_sets o n (printed (get_or t i 0)) printed_fits, spelled_one t i h)
       (sym (append_assoc (take n o) (printed (get_or t i 0)) (spelled (drop (i + 1) t))))
 
 -- all bytes printed
 pub spell_whole : (t o p : List ℕ) (n i : ℕ) → length t ≤ i → n ≤ length o → drop n o ≡ drop n p →
     spelled t ≡ take n o ++ spelled (drop i t) → o ≡ spelled t ++ drop (length (spelled t)) p
 spell_whole t o p n i h k d e =
-    let w : spelled t ≡ take n o = e ∙ rw (spelled-ends t i h) (append-nil (take n o)) in
+    let w : spelled t ≡ take n o = e ∙ rw (spelled_ends t i h) (append-nil (take n o)) in
     rw (w, length-take-le n o k, ← d) (sym (take-append-drop n o))
 
 -- a length that was measured against a limit
@@ -249,10 +249,10 @@ second q r hq hr =
 read_hex : (q r : ℕ) (t : List ℕ) → q < 16 → r < 16 →
     unescaped (92 ∷ 120 ∷ hex_digit q ∷ hex_digit r ∷ t) ≡ behind ((q * 16 + r) ∷ []) (unescaped t)
 read_hex q r t hq hr =
-    cons-moves 0 92 (120 ∷ hex_digit q ∷ hex_digit r ∷ t) 1 (unfold effect plain in refl) ∙
-    cons-moves 1 120 (hex_digit q ∷ hex_digit r ∷ t) 2 (unfold effect letter in refl) ∙
-    cons-moves 2 (hex_digit q) (hex_digit r ∷ t) (16 + q) (unfold effect digit in rw (hex_digit_lem q hq, lt-ltb q 16 hq)) ∙
-    cons-gives (16 + q) (hex_digit r) t (q * 16 + r) (second q r hq hr)
+    cons_moves 0 92 (120 ∷ hex_digit q ∷ hex_digit r ∷ t) 1 (unfold effect plain in refl) ∙
+    cons_moves 1 120 (hex_digit q ∷ hex_digit r ∷ t) 2 (unfold effect letter in refl) ∙
+    cons_moves 2 (hex_digit q) (hex_digit r ∷ t) (16 + q) (unfold effect digit in rw (hex_digit_lem q hq, lt-ltb q 16 hq)) ∙
+    cons_gives (16 + q) (hex_digit r) t (q * 16 + r) (second q r hq hr)
 
 no_letter : (b : ℕ) → eqb b 32 ≡ false → eqb b 10 ≡ false → eqb b 92 ≡ false → letter_of b ≤ 0
 unfolding letter_of
@@ -266,7 +266,7 @@ itself b k g = rw (k, g)
 read_other : (b : ℕ) (t : List ℕ) → b < 256 → letter_of b ≤ 0 → eqb b 92 ≡ false →
     unescaped (printed b ++ t) ≡ behind (b ∷ []) (unescaped t)
 read_other b t h l k =
-    cases (is_graphic b) (λ g. rw (printed_self b l g) (cons-gives 0 b t b (itself b k g)))
+    cases (is_graphic b) (λ g. rw (printed_self b l g) (cons_gives 0 b t b (itself b k g)))
     (λ g. let e : b / 16 * 16 + b % 16 ≡ b = omega arith in
     rw (printed_hex b l g) (read_hex (b / 16) (b % 16) t (omega arith) (omega arith) ∙ rw e))
 

@@ -10,7 +10,7 @@ use borrow.Author.Tests.{le-leb}
 use Rattle.refusal.specs.Pick.{pick}
 use Rattle.refusal.specs.Run.{all}
 use Rattle.refusal.proofs.Laws.Booleans.{and_false_right}
-use Rattle.refusal.proofs.Laws.Lists.{drop-one}
+use Rattle.refusal.proofs.Laws.Lists.{drop_one}
 use Rattle.stanza.specs.Index.{is_digit, value_from, decimal}
 use Rattle.stanza.proofs.Laws.Index.{value_above, decimal_digits, decimal_some}
 use Rattle.script.specs.Number.{ReadNumber, value, bad, is_number, read_number}
@@ -34,19 +34,19 @@ unfolding read_number rest_number
 number_some limit t h = rw (some_digits t h)
 
 module _ (limit v : ℕ) (t : List ℕ) (i : ℕ) where
-  pub rest-ends : length t ≤ i → v ≤ limit → rest_number limit v (drop i t) ≡ value v
+  pub rest_ends : length t ≤ i → v ≤ limit → rest_number limit v (drop i t) ≡ value v
   unfolding rest_number all value_from
-  rest-ends h k = rw (drop_of_length-le t h, le-leb v limit k)
+  rest_ends h k = rw (drop_of_length-le t h, le-leb v limit k)
 
   -- a byte that is no digit
-  pub rest-other : i < length t → is_digit (get_or t i 0) ≡ false → rest_number limit v (drop i t) ≡ bad
+  pub rest_other : i < length t → is_digit (get_or t i 0) ≡ false → rest_number limit v (drop i t) ≡ bad
   unfolding rest_number all
-  rest-other h e = rw (drop-one t i 0 h, e)
+  rest_other h e = rw (drop_one t i 0 h, e)
 
-  pub rest-digit : i < length t → is_digit (get_or t i 0) ≡ true →
+  pub rest_digit : i < length t → is_digit (get_or t i 0) ≡ true →
       rest_number limit v (drop i t) ≡ rest_number limit (v * 10 + (get_or t i 0 - 48)) (drop (i + 1) t)
   unfolding rest_number all value_from
-  rest-digit h e = rw (drop-one t i 0 h, e)
+  rest_digit h e = rw (drop_one t i 0 h, e)
 
 -- what is above the limit stays above it
 pub rest_above : (limit v : ℕ) (t : List ℕ) → limit < v → rest_number limit v t ≡ bad

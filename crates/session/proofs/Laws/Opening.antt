@@ -36,14 +36,14 @@ module _ (machine : Machine) (t bytes : List ℕ) (n : ℕ) (p : bytes ≡ padde
   given = rw (p, q) (take-append_seam (given_name t) (replicate (32 - length (given_name t)) 0))
 
   -- the name is empty where the text is none
-  pub name-refused : n ≡ 0 → record { number = 17; machine = RecipientV1; name = take n bytes } ≡ settings_named machine t
-  name-refused z =
+  pub name_refused : n ≡ 0 → record { number = 17; machine = RecipientV1; name = take n bytes } ≡ settings_named machine t
+  name_refused z =
       cases (is_name t)
       (λ e. let l : n ≡ length t = q ∙ ap (λ f. length (pick f t [])) e in absurd (omega (arith, name_some t e)))
       (λ e. let g : take n bytes ≡ [] = given ∙ ap (λ f. pick f t []) e in rw (e, g))
 
-  pub name-accepted : (n ≡ 0 → ⊥) → record { number = 0; machine = machine; name = take n bytes } ≡ settings_named machine t
-  name-accepted z =
+  pub name_accepted : (n ≡ 0 → ⊥) → record { number = 0; machine = machine; name = take n bytes } ≡ settings_named machine t
+  name_accepted z =
       cases (is_name t)
       (λ e. let g : take n bytes ≡ t = given ∙ ap (λ f. pick f t []) e in rw (e, g))
       (λ e. let l : n ≡ 0 = q ∙ ap (λ f. length (pick f t [])) e in absurd (z l))
@@ -80,22 +80,22 @@ machine_found t =
     other w q e = false≢true (sym e ∙ ap (λ x. same x w) q ∙ same_refl w)
 
 module _ (machine name : List ℕ) (n : ℕ) where
-  with-18 : (IsMachine machine → ⊥) → n ≡ 18 → OpenedWith machine name n
-  with-18 h z = record {
+  with_18 : (IsMachine machine → ⊥) → n ≡ 18 → OpenedWith machine name n
+  with_18 h z = record {
     no_machine = (λ e. h, λ k. z);
     no_name = (λ e. absurd (omega arith), λ w. absurd (h w.0));
     accepted = (λ e. absurd (omega arith), λ w. absurd (h w.0));
   }
 
-  with-17 : IsMachine machine → is_name name ≡ false → n ≡ 17 → OpenedWith machine name n
-  with-17 m f z = record {
+  with_17 : IsMachine machine → is_name name ≡ false → n ≡ 17 → OpenedWith machine name n
+  with_17 m f z = record {
     no_machine = (λ e. absurd (omega arith), λ k. absurd (k m));
     no_name = (λ e. (m, f), λ w. z);
     accepted = (λ e. absurd (omega arith), λ w. absurd (false≢true (sym f ∙ w.1)));
   }
 
-  with-0 : IsMachine machine → is_name name ≡ true → n ≡ 0 → OpenedWith machine name n
-  with-0 m f z = record {
+  with_0 : IsMachine machine → is_name name ≡ true → n ≡ 0 → OpenedWith machine name n
+  with_0 m f z = record {
     no_machine = (λ e. absurd (omega arith), λ k. absurd (k m));
     no_name = (λ e. absurd (omega arith), λ w. absurd (false≢true (sym w.1 ∙ f)));
     accepted = (λ e. (m, f), λ w. z);
@@ -106,8 +106,8 @@ opened_with machine name screen =
     let n = (opened machine name screen).number in
     ⊎_elim
     (λ w. let s : settings machine name ≡ settings_named w.1 name = ap (λ x. settings_of x name) w.2 in
-    cases (is_name name) (λ f. with-0 machine name n w.0 f (ap (λ x. x.number) s ∙ rw f)) (λ f. with-17 machine name n w.0 f (ap (λ x. x.number) s ∙ rw f)))
-    (λ w. with-18 machine name n w.0 (ap (λ x. (settings_of x name).number) w.1))
+    cases (is_name name) (λ f. with_0 machine name n w.0 f (ap (λ x. x.number) s ∙ rw f)) (λ f. with_17 machine name n w.0 f (ap (λ x. x.number) s ∙ rw f)))
+    (λ w. with_18 machine name n w.0 (ap (λ x. (settings_of x name).number) w.1))
     (machine_found machine)
 
 -- ---- what is opened

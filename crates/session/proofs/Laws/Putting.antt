@@ -25,43 +25,43 @@ module _ (t : CodeTables) (xs ys hs : List (List ℕ)) where
   same : (h : Span) (c : CodeTable) → slots_of h ys ≡ slots_of h xs → table_in h c ys ≡ table_in h c xs
   same h c e = ap (λ s. record { width = h.width; slots = s; count = c.count; used = c.used }) e
 
-  pub put-recipients : (c : CodeTable) (w : Table) → table_in (span_of the.Recipients) c ys ≡ w → Others (span_of the.Recipients) xs ys →
+  pub put_recipients : (c : CodeTable) (w : Table) → table_in (span_of the.Recipients) c ys ≡ w → Others (span_of the.Recipients) xs ys →
       tables_in (with_table t the.Recipients c) ys hs
       ≡ record { recipients = w; identities = (tables_in t xs hs).identities; keys = (tables_in t xs hs).keys; headers = (tables_in t xs hs).headers; errors = (tables_in t xs hs).errors; stanzas = (tables_in t xs hs).stanzas; returned = (tables_in t xs hs).returned }
-  put-recipients c w e o =
+  put_recipients c w e o =
       seven_eq e (same (span_of the.Identities) t.identities (o (span_of the.Identities) refl)) (same (span_of the.Keys) t.keys (o (span_of the.Keys) refl)) refl
       (same (span_of the.Errors) t.errors (o (span_of the.Errors) refl)) (same (span_of the.Stanzas) t.stanzas (o (span_of the.Stanzas) refl)) (same (span_of the.Returned) t.returned (o (span_of the.Returned) refl))
 
-  pub put-identities : (c : CodeTable) (w : Table) → table_in (span_of the.Identities) c ys ≡ w → Others (span_of the.Identities) xs ys →
+  pub put_identities : (c : CodeTable) (w : Table) → table_in (span_of the.Identities) c ys ≡ w → Others (span_of the.Identities) xs ys →
       tables_in (with_table t the.Identities c) ys hs
       ≡ record { recipients = (tables_in t xs hs).recipients; identities = w; keys = (tables_in t xs hs).keys; headers = (tables_in t xs hs).headers; errors = (tables_in t xs hs).errors; stanzas = (tables_in t xs hs).stanzas; returned = (tables_in t xs hs).returned }
-  put-identities c w e o =
+  put_identities c w e o =
       seven_eq (same (span_of the.Recipients) t.recipients (o (span_of the.Recipients) refl)) e (same (span_of the.Keys) t.keys (o (span_of the.Keys) refl)) refl
       (same (span_of the.Errors) t.errors (o (span_of the.Errors) refl)) (same (span_of the.Stanzas) t.stanzas (o (span_of the.Stanzas) refl)) (same (span_of the.Returned) t.returned (o (span_of the.Returned) refl))
 
-  pub put-keys : (c : CodeTable) (w : Table) → table_in (span_of the.Keys) c ys ≡ w → Others (span_of the.Keys) xs ys →
+  pub put_keys : (c : CodeTable) (w : Table) → table_in (span_of the.Keys) c ys ≡ w → Others (span_of the.Keys) xs ys →
       tables_in (with_table t the.Keys c) ys hs
       ≡ record { recipients = (tables_in t xs hs).recipients; identities = (tables_in t xs hs).identities; keys = w; headers = (tables_in t xs hs).headers; errors = (tables_in t xs hs).errors; stanzas = (tables_in t xs hs).stanzas; returned = (tables_in t xs hs).returned }
-  put-keys c w e o =
+  put_keys c w e o =
       seven_eq (same (span_of the.Recipients) t.recipients (o (span_of the.Recipients) refl)) (same (span_of the.Identities) t.identities (o (span_of the.Identities) refl)) e refl
       (same (span_of the.Errors) t.errors (o (span_of the.Errors) refl)) (same (span_of the.Stanzas) t.stanzas (o (span_of the.Stanzas) refl)) (same (span_of the.Returned) t.returned (o (span_of the.Returned) refl))
 
-  pub put-errors : (c : CodeTable) (w : Table) → table_in (span_of the.Errors) c ys ≡ w → Others (span_of the.Errors) xs ys →
+  pub put_errors : (c : CodeTable) (w : Table) → table_in (span_of the.Errors) c ys ≡ w → Others (span_of the.Errors) xs ys →
       tables_in (with_table t the.Errors c) ys hs
       ≡ record { recipients = (tables_in t xs hs).recipients; identities = (tables_in t xs hs).identities; keys = (tables_in t xs hs).keys; headers = (tables_in t xs hs).headers; errors = w; stanzas = (tables_in t xs hs).stanzas; returned = (tables_in t xs hs).returned }
-  put-errors c w e o =
+  put_errors c w e o =
       seven_eq (same (span_of the.Recipients) t.recipients (o (span_of the.Recipients) refl)) (same (span_of the.Identities) t.identities (o (span_of the.Identities) refl)) (same (span_of the.Keys) t.keys (o (span_of the.Keys) refl)) refl e (same (span_of the.Stanzas) t.stanzas (o (span_of the.Stanzas) refl)) (same (span_of the.Returned) t.returned (o (span_of the.Returned) refl))
 
-  pub put-stanzas : (c : CodeTable) (w : Table) → table_in (span_of the.Stanzas) c ys ≡ w → Others (span_of the.Stanzas) xs ys →
+  pub put_stanzas : (c : CodeTable) (w : Table) → table_in (span_of the.Stanzas) c ys ≡ w → Others (span_of the.Stanzas) xs ys →
       tables_in (with_table t the.Stanzas c) ys hs
       ≡ record { recipients = (tables_in t xs hs).recipients; identities = (tables_in t xs hs).identities; keys = (tables_in t xs hs).keys; headers = (tables_in t xs hs).headers; errors = (tables_in t xs hs).errors; stanzas = w; returned = (tables_in t xs hs).returned }
-  put-stanzas c w e o =
+  put_stanzas c w e o =
       seven_eq (same (span_of the.Recipients) t.recipients (o (span_of the.Recipients) refl)) (same (span_of the.Identities) t.identities (o (span_of the.Identities) refl)) (same (span_of the.Keys) t.keys (o (span_of the.Keys) refl)) refl (same (span_of the.Errors) t.errors (o (span_of the.Errors) refl)) e (same (span_of the.Returned) t.returned (o (span_of the.Returned) refl))
 
-  pub put-returned : (c : CodeTable) (w : Table) → table_in (span_of the.Returned) c ys ≡ w → Others (span_of the.Returned) xs ys →
+  pub put_returned : (c : CodeTable) (w : Table) → table_in (span_of the.Returned) c ys ≡ w → Others (span_of the.Returned) xs ys →
       tables_in (with_table t the.Returned c) ys hs
       ≡ record { recipients = (tables_in t xs hs).recipients; identities = (tables_in t xs hs).identities; keys = (tables_in t xs hs).keys; headers = (tables_in t xs hs).headers; errors = (tables_in t xs hs).errors; stanzas = (tables_in t xs hs).stanzas; returned = w }
-  put-returned c w e o =
+  put_returned c w e o =
       seven_eq (same (span_of the.Recipients) t.recipients (o (span_of the.Recipients) refl)) (same (span_of the.Identities) t.identities (o (span_of the.Identities) refl)) (same (span_of the.Keys) t.keys (o (span_of the.Keys) refl)) refl (same (span_of the.Errors) t.errors (o (span_of the.Errors) refl)) (same (span_of the.Stanzas) t.stanzas (o (span_of the.Stanzas) refl)) e
 
 -- the header stanzas' table, whose slots are an array of their own

@@ -33,26 +33,26 @@ words_some t = rw (words_split t) (omega arith)
 
 -- the word that begins at i and ends at j: it is the word of number 0 there, and behind it the others are numbered from 1
 module _ (t : List ℕ) (i j : ℕ) (e : j ≡ i + run is_word_byte (drop i t)) where
-  pub argument-here : argument_of (drop i t) 0 ≡ take (j - i) (drop i t)
-  argument-here =
+  pub argument_here : argument_of (drop i t) 0 ≡ take (j - i) (drop i t)
+  argument_here =
       let d : j - i ≡ run is_word_byte (drop i t) = omega arith in
       rw (words_split (drop i t), d)
 
-  pub argument-none : (k : ℕ) → 0 < k → length t ≤ j → argument_of (drop i t) k ≡ []
-  argument-none zero h g = absurd (omega arith)
-  argument-none (suc k) h g =
+  pub argument_none : (k : ℕ) → 0 < k → length t ≤ j → argument_of (drop i t) k ≡ []
+  argument_none zero h g = absurd (omega arith)
+  argument_none (suc k) h g =
       rw (words_split (drop i t), le-ltb (run is_word_byte (drop i t)) (length (drop i t)) (omega (arith, length-drop i t)))
 
-  pub argument-next : (k : ℕ) → 0 < k → j < length t → argument_of (drop i t) k ≡ argument_of (drop (j + 1) t) (k - 1)
-  argument-next zero h g = absurd (omega arith)
-  argument-next (suc k) h g =
+  pub argument_next : (k : ℕ) → 0 < k → j < length t → argument_of (drop i t) k ≡ argument_of (drop (j + 1) t) (k - 1)
+  argument_next zero h g = absurd (omega arith)
+  argument_next (suc k) h g =
       let d : i + suc (run is_word_byte (drop i t)) ≡ j + 1 = omega arith in
       let m : suc k - 1 ≡ k = omega arith in
       rw (words_split (drop i t), lt-ltb (run is_word_byte (drop i t)) (length (drop i t)) (omega (arith, length-drop i t)), drop-drop (suc (run is_word_byte (drop i t))) i t, d, m)
 
   -- it is the last word, or one before the others
-  pub count-last : length t ≤ j → count_of (drop i t) ≡ 1
-  count-last g =
+  pub count_last : length t ≤ j → count_of (drop i t) ≡ 1
+  count_last g =
       rw (words_split (drop i t), le-ltb (run is_word_byte (drop i t)) (length (drop i t)) (omega (arith, length-drop i t)))
 
   pub count_next : j < length t → count_of (drop i t) ≡ count_of (drop (j + 1) t) + 1
@@ -135,14 +135,14 @@ line_run (b ∷ t) =
 -- the run of graphic bytes that begins at i and ends at j
 module _ (t : List ℕ) (i j : ℕ) (e : j ≡ i + run is_graphic (drop i t)) where
   -- no byte of an argument
-  pub line-empty : j ≡ i → is_line (drop i t) ≡ false
-  line-empty h =
+  pub line_empty : j ≡ i → is_line (drop i t) ≡ false
+  line_empty h =
       let z : run is_graphic (drop i t) ≡ 0 = omega arith in
       rw (line_run (drop i t), z)
 
   -- the last argument
-  pub line-last : (j ≡ i → ⊥) → j ≡ length t → is_line (drop i t) ≡ true
-  line-last h g =
+  pub line_last : (j ≡ i → ⊥) → j ≡ length t → is_line (drop i t) ≡ true
+  line_last h g =
       rw (
         line_run (drop i t),
         ne_eqb (run is_graphic (drop i t)) 0 (λ z. h (omega arith)),
@@ -164,12 +164,12 @@ module _ (t : List ℕ) (i j : ℕ) (e : j ≡ i + run is_graphic (drop i t)) wh
         ← e,
       )
 
-  pub line-bad : (j ≡ i → ⊥) → i ≤ length t → (j ≡ length t → ⊥) → (get_or t j 0 ≡ 32 → ⊥) → is_line (drop i t) ≡ false
-  line-bad h g k n = rw (line_on h g k, ne_eqb (get_or t j 0) 32 n)
+  pub line_bad : (j ≡ i → ⊥) → i ≤ length t → (j ≡ length t → ⊥) → (get_or t j 0 ≡ 32 → ⊥) → is_line (drop i t) ≡ false
+  line_bad h g k n = rw (line_on h g k, ne_eqb (get_or t j 0) 32 n)
 
-  pub line-next : (j ≡ i → ⊥) → i ≤ length t → (j ≡ length t → ⊥) → get_or t j 0 ≡ 32 →
+  pub line_next : (j ≡ i → ⊥) → i ≤ length t → (j ≡ length t → ⊥) → get_or t j 0 ≡ 32 →
       is_line (drop i t) ≡ is_line (drop (j + 1) t)
-  line-next h g k s = rw (line_on h g k, eq-eqb (get_or t j 0) 32 s)
+  line_next h g k s = rw (line_on h g k, eq-eqb (get_or t j 0) 32 s)
 
 -- ---- joining words
 

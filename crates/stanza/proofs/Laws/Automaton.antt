@@ -12,8 +12,8 @@ use borrow.Author.Tests.{lt-ltb, ne_eqb, leb-true, ltb-true, eqb-true}
 use Rattle.refusal.specs.Pick.{pick}
 use Rattle.refusal.specs.Run.{all, run, is_graphic}
 use Rattle.refusal.proofs.Laws.Booleans.{and_true, cases}
-use Rattle.refusal.proofs.Laws.Lists.{drop-one}
-use Rattle.refusal.proofs.Laws.Run.{run-stop, run-in-class, run_take, run-le, run_more, run_in, all-wider}
+use Rattle.refusal.proofs.Laws.Lists.{drop_one}
+use Rattle.refusal.proofs.Laws.Run.{run_stop, run_in_class, run_take, run_le, run_more, run_in, all_wider}
 use Rattle.strict_base64.specs.Alphabet.{is_character, value_of}
 use Rattle.strict_base64.specs.Code.{ends_well}
 use Rattle.strict_base64.specs.Lines.{is_full}
@@ -24,7 +24,7 @@ use Rattle.stanza.specs.Reading.{is_not_lf, line_end}
 pub scan_at : (s : State) (t : List ℕ) (i : ℕ) → i < length t →
     scan s i (drop i t) ≡ verdict (next s (get_or t i 0)) (i + 1) (scan (next s (get_or t i 0)) (i + 1) (drop (i + 1) t))
 unfolding scan
-scan_at s t i h = rw (drop-one t i 0 h)
+scan_at s t i h = rw (drop_one t i 0 h)
 
 pub scan_end : (s : State) (t : List ℕ) (i : ℕ) → length t ≤ i → scan s i (drop i t) ≡ short
 unfolding scan
@@ -107,9 +107,9 @@ graphic_not_lf b h = let a = leb-true 33 b (and_true (leb 33 b) (leb b 126) h).0
 
 pub graphic_line_end : (t : List ℕ) (i e : ℕ) → i ≤ length t → e ≡ i + run is_graphic (drop i t) → i + line_end (drop i t) ≡ e + line_end (drop e t)
 graphic_line_end t i e h p =
-    let n : run is_graphic (drop i t) ≤ length (drop i t) = run-le is_graphic (drop i t) in
+    let n : run is_graphic (drop i t) ≤ length (drop i t) = run_le is_graphic (drop i t) in
     rw p (run_more is_not_lf (run is_graphic (drop i t)) t i (omega (arith, length-drop i t))
-    (all-wider is_graphic is_not_lf graphic_not_lf (take (run is_graphic (drop i t)) (drop i t)) (run_take is_graphic (run is_graphic (drop i t)) (drop i t) (omega arith))))
+    (all_wider is_graphic is_not_lf graphic_not_lf (take (run is_graphic (drop i t)) (drop i t)) (run_take is_graphic (run is_graphic (drop i t)) (drop i t) (omega arith))))
 
 -- the value of the last character, v where there is none
 unfoldable pub last_value : ℕ → List ℕ → ℕ
@@ -151,52 +151,52 @@ line_full t i h =
 -- the line that ends at e, k characters behind i
 module _ (t : List ℕ) (i e : ℕ) (p : e ≡ i + run is_character (drop i t)) (h : i ≤ length t) where
   -- the characters up to n of them
-  pub line-to : (n : ℕ) → n ≤ 64 → i + n ≤ e → scan (line 0 0) i (drop i t) ≡ scan (line n (last_value 0 (take n (drop i t)))) (i + n) (drop (i + n) t)
-  line-to n f g =
+  pub line_to : (n : ℕ) → n ≤ 64 → i + n ≤ e → scan (line 0 0) i (drop i t) ≡ scan (line n (last_value 0 (take n (drop i t)))) (i + n) (drop (i + n) t)
+  line_to n f g =
       let r : n ≤ run is_character (drop i t) = omega arith in
-      line_run n 0 0 i (drop i t) (omega (arith, run-le is_character (drop i t))) (run_take is_character n (drop i t) r) (omega arith)
+      line_run n 0 0 i (drop i t) (omega (arith, run_le is_character (drop i t))) (run_take is_character n (drop i t) r) (omega arith)
       ∙ rw drop-drop (ap (λ m. scan (line m (last_value 0 (take n (drop i t)))) (i + n) (drop (i + n) t)) (omega arith))
 
   -- a 65th character
-  pub line-long : i + 64 < e → scan (line 0 0) i (drop i t) ≡ bad
+  pub line_long : i + 64 < e → scan (line 0 0) i (drop i t) ≡ bad
   unfolding next verdict
-  line-long g =
-      let n : i + 64 < length t = omega (arith, run-le is_character (drop i t), length-drop i t) in
-      let c : is_character (get_or t (i + 64) 0) ≡ true = rw get_or-drop at (run-in-class is_character 64 (drop i t) (omega arith)) in
-      line-to 64 (omega arith) (omega arith) ∙ rw (scan_at (line 64 (last_value 0 (take 64 (drop i t)))) t (i + 64) n, c)
+  line_long g =
+      let n : i + 64 < length t = omega (arith, run_le is_character (drop i t), length-drop i t) in
+      let c : is_character (get_or t (i + 64) 0) ≡ true = rw get_or-drop at (run_in_class is_character 64 (drop i t) (omega arith)) in
+      line_to 64 (omega arith) (omega arith) ∙ rw (scan_at (line 64 (last_value 0 (take 64 (drop i t)))) t (i + 64) n, c)
 
   -- the text's end, a byte that is neither a character nor LF, and LF
   pub line_short : e ≤ i + 64 → e ≡ length t → scan (line 0 0) i (drop i t) ≡ short
   line_short f g =
       let q : i + (e - i) ≡ e = omega arith in
-      line-to (e - i) (omega arith) (omega arith) ∙ rw q (scan_end _ t e (omega arith))
+      line_to (e - i) (omega arith) (omega arith) ∙ rw q (scan_end _ t e (omega arith))
 
-  pub line-bad : e ≤ i + 64 → e < length t → (get_or t e 0 ≡ 10 → ⊥) → scan (line 0 0) i (drop i t) ≡ bad
+  pub line_bad : e ≤ i + 64 → e < length t → (get_or t e 0 ≡ 10 → ⊥) → scan (line 0 0) i (drop i t) ≡ bad
   unfolding next verdict
-  line-bad f g x =
+  line_bad f g x =
       let q : i + (e - i) ≡ e = omega arith in
-      line-to (e - i) (omega arith) (omega arith) ∙ rw (q, scan_at (line (e - i) (last_value 0 (take (e - i) (drop i t)))) t e g, run-stop is_character t i e p g, ne_eqb (get_or t e 0) 10 x)
+      line_to (e - i) (omega arith) (omega arith) ∙ rw (q, scan_at (line (e - i) (last_value 0 (take (e - i) (drop i t)))) t e g, run_stop is_character t i e p g, ne_eqb (get_or t e 0) 10 x)
 
-  pub line-lf : e < i + 64 → e < length t → get_or t e 0 ≡ 10 →
+  pub line_lf : e < i + 64 → e < length t → get_or t e 0 ≡ 10 →
       scan (line 0 0) i (drop i t) ≡ pick (ends_well (e - i) (last_value 0 (take (e - i) (drop i t)))) (whole (e + 1)) bad
   unfolding next verdict is_character
-  line-lf f g x =
+  line_lf f g x =
       let q : i + (e - i) ≡ e = omega arith in
-      line-to (e - i) (omega arith) (omega arith)
+      line_to (e - i) (omega arith) (omega arith)
       ∙ rw (q, scan_at (line (e - i) (last_value 0 (take (e - i) (drop i t)))) t e g, x, ne_eqb (e - i) 64 (omega arith))
       (cases (ends_well (e - i) (last_value 0 (take (e - i) (drop i t)))) (λ w. rw w) (λ w. rw w))
 
   -- the value of the last character on the line
-  pub line-last : i < e → last_value 0 (take (e - i) (drop i t)) ≡ value_of (get_or t (e - 1) 0)
-  line-last f =
-      let l : length (take (e - i) (drop i t)) ≡ e - i = length-take-le (e - i) (drop i t) (omega (arith, run-le is_character (drop i t))) in
+  pub line_last : i < e → last_value 0 (take (e - i) (drop i t)) ≡ value_of (get_or t (e - 1) 0)
+  line_last f =
+      let l : length (take (e - i) (drop i t)) ≡ e - i = length-take-le (e - i) (drop i t) (omega (arith, run_le is_character (drop i t))) in
       let q : i + (e - i - 1) ≡ e - 1 = omega arith in
       last_value_lem 0 (take (e - i) (drop i t)) (omega arith) ∙ rw (l, get_or-take (e - i) (drop i t) (e - i - 1) 0 (omega arith), get_or-drop, q)
 
   -- no full line: not 64 characters and LF
-  pub line-not-full : is_full (drop i t) ≡ false → e < length t → get_or t e 0 ≡ 10 → e ≡ i + 64 → ⊥
+  pub line_not_full : is_full (drop i t) ≡ false → e < length t → get_or t e 0 ≡ 10 → e ≡ i + 64 → ⊥
   unfolding is_full
-  line-not-full n g x q =
+  line_not_full n g x q =
       let l : 64 < length (drop i t) = simp length-drop (omega arith) in
       let y : get_or (drop i t) 64 0 ≡ 10 = rw (get_or-drop, ← q) x in
       false≢true (sym n ∙ rw (lt-ltb 64 (length (drop i t)) l, run_take is_character 64 (drop i t) (omega arith), y))

@@ -125,11 +125,11 @@ stops (b ∷ u) s i a = go (next s b) refl (λ l. stops u (next s b) (i + 1) l)
 begins_alive : (p : List ℕ) → Begins p → Alive (after start p)
 begins_alive p w =
     let e = sym (after_append start p w.rest) ∙ (ended_iff (p ++ w.rest)).1 w.whole in
-    rest-alive w.rest w.longer e
+    rest_alive w.rest w.longer e
   where
-    rest-alive : (r : List ℕ) → 0 < length r → after (after start p) r ≡ ended → Alive (after start p)
-    rest-alive [] h e = absurd (omega arith)
-    rest-alive (b ∷ r) h e = ended_before (after start p) b r e
+    rest_alive : (r : List ℕ) → 0 < length r → after (after start p) r ≡ ended → Alive (after start p)
+    rest_alive [] h e = absurd (omega arith)
+    rest_alive (b ∷ r) h e = ended_before (after start p) b r e
 
 alive_begins : (p : List ℕ) → Alive (after start p) → Begins p
 unfolding Fits after

@@ -11,7 +11,7 @@ use borrow.Author.Tests.{lt-ltb, le-ltb, le-leb, lt-leb, ne_eqb, leb-true, leb-f
 use Rattle.refusal.specs.Pick.{pick}
 use Rattle.refusal.specs.Run.{all}
 use Rattle.refusal.proofs.Laws.Booleans.{cases, and_true, and_false_right}
-use Rattle.refusal.proofs.Laws.Lists.{drop-one}
+use Rattle.refusal.proofs.Laws.Lists.{drop_one}
 use Rattle.refusal.proofs.Laws.Run.{all_append}
 use Rattle.stanza.specs.Index.{number, refused, is_digit, digits, read_index, value_from, is_index, decimal, decimal_with}
 
@@ -27,7 +27,7 @@ pub digits_one : (t : List ℕ) (v i : ℕ) → i < length t →
     (digits (v * 10 + (get_or t i 0 - 48)) (drop (i + 1) t))
     (refused 5)
 unfolding digits
-digits_one t v i h = rw (drop-one t i 0 h)
+digits_one t v i h = rw (drop_one t i 0 h)
 
 -- by the length and the first byte
 pub read_index_by : (t : List ℕ) →

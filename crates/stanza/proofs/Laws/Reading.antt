@@ -10,7 +10,7 @@ use native.Mathlib.Omega.{arith}
 use native.Mathlib.Decide.{dec_le, dec_lt}
 use borrow.Author.Tests.{lt-ltb, le-ltb}
 use Rattle.refusal.specs.Pick.{pick}
-use Rattle.refusal.proofs.Laws.Run.{run-front}
+use Rattle.refusal.proofs.Laws.Run.{run_front}
 use Rattle.strict_base64.specs.Tables.{body_size}
 use Rattle.strict_base64.proofs.Laws.Lines.{body_length}
 use Rattle.stanza.specs.Automaton.{Scan, bad, short, whole}
@@ -51,6 +51,6 @@ found_window t n e (whole k) = refl
 pub found_whole : (m : ℕ) (w : List ℕ) (e k : ℕ) → line_end w ≡ e → e < k → k ≤ length w → found m w (whole k) ≡ stanza e (body_size (k - e - 1)) k
 unfolding found
 found_whole m w e k p h l =
-    let q : line_end (take k w) ≡ e = run-front is_not_lf k w (omega arith) ∙ p in
+    let q : line_end (take k w) ≡ e = run_front is_not_lf k w (omega arith) ∙ p in
     let s : length (drop (e + 1) (take k w)) ≡ k - e - 1 = simp (length-drop, length-take-le k w l) (omega arith) in
     rw (p, q, body_length (drop (e + 1) (take k w)), s)

@@ -12,7 +12,7 @@ use types.Run.{OneOf, miss}
 use borrow.Author.Tests.{lt-ltb, le-ltb, ne_eqb, ltb-true, eqb-true}
 use Rattle.refusal.specs.Pick.{pick}
 use Rattle.refusal.proofs.Laws.Booleans.{cases}
-use Rattle.refusal.proofs.Laws.Lists.{drop-one}
+use Rattle.refusal.proofs.Laws.Lists.{drop_one}
 use Rattle.stanza.specs.Automaton.{State, start, hyphen, arrow, gap, word, line, ended, dead, next, after, Scan, bad, short, verdict, scan}
 use Rattle.stanza.specs.Automaton as automaton
 use Rattle.stanza.specs.Reading.{Reading, stanza, found, read_first}
@@ -68,7 +68,7 @@ pub continued_at : (s q : State) (n : ℕ) (t : List ℕ) (i : ℕ) → n + i < 
 unfolding continued
 continued_at s q n t i h l e =
     let p : n + i + 1 ≡ n + (i + 1) = omega arith in
-    rw (drop-one t i 0 l, lt-ltb (n + i) 8192 h, p, ← e)
+    rw (drop_one t i 0 l, lt-ltb (n + i) 8192 h, p, ← e)
 
 -- where an answer is unfinished, the byte led on
 record LedOn (s : State) (x : Continued) (q : State) : Type 0 where

@@ -10,7 +10,7 @@ use lib.Seq.{take-take, take-append_seam, drop_at, length-take-le}
 use native.Mathlib.Omega.{arith}
 use borrow.Author.Tests.{le-leb, leb-true, eqb-true}
 use Rattle.refusal.specs.Run.{all, run, is_graphic}
-use Rattle.refusal.proofs.Laws.Run.{run-back, run-stop-append}
+use Rattle.refusal.proofs.Laws.Run.{run_back, run_stop_append}
 use Rattle.refusal.proofs.Laws.Booleans.{and_true, true_and, cases}
 use Rattle.strict_base64.specs.Lines.{lines_of, body_of}
 use Rattle.strict_base64.proofs.Laws.RoundTrip.{body_lines}
@@ -41,11 +41,11 @@ goes_no_lf (b ∷ c ∷ t) h =
     cases (eqb b 32)
     (λ e.
     let l = and_true (is_graphic c) (goes_on t) (sym (goes_space b (c ∷ t) e ∙ line_cons c t) ∙ h) in
-    rw (space-not-lf b e, graphic_not_lf c l.0) (goes_no_lf t l.1))
+    rw (space_not_lf b e, graphic_not_lf c l.0) (goes_no_lf t l.1))
     (λ e. let g = and_true (is_graphic b) (goes_on (c ∷ t)) (sym (goes_cons b (c ∷ t) e) ∙ h) in rw (graphic_not_lf b g.0) (goes_no_lf (c ∷ t) g.1))
   where
-    space-not-lf : (b : ℕ) → eqb b 32 ≡ true → is_not_lf b ≡ true
-    space-not-lf b e = rw (eqb-true b 32 e)
+    space_not_lf : (b : ℕ) → eqb b 32 ≡ true → is_not_lf b ≡ true
+    space_not_lf b e = rw (eqb-true b 32 e)
 
 line_no_lf : (t : List ℕ) → is_line t ≡ true → all is_not_lf t ≡ true
 unfolding all
@@ -58,7 +58,7 @@ text_is l b r = ap (λ x. 45 ∷ 62 ∷ 32 ∷ x) (append_assoc (l ++ (10 ∷ []
 
 line_end_is : (l b r : List ℕ) → is_line l ≡ true → line_end (stanza_text l b ++ r) ≡ length l + 3
 unfolding run
-line_end_is l b r h = ap line_end (text_is l b r) ∙ ap (λ n. suc (suc (suc n))) (run-stop-append is_not_lf l 10 (lines_of b ++ r) (line_no_lf l h) refl) ∙ omega arith
+line_end_is l b r h = ap line_end (text_is l b r) ∙ ap (λ n. suc (suc (suc n))) (run_stop_append is_not_lf l 10 (lines_of b ++ r) (line_no_lf l h) refl) ∙ omega arith
 
 -- the lines behind the first line
 lines_in_is : (l b : List ℕ) → is_line l ≡ true → lines_in (stanza_text l b) ≡ lines_of b
@@ -78,7 +78,7 @@ read_text t l b k w e h a =
     let s : take k (take 8192 t) ≡ stanza_text l b = take-take k 8192 t w.limit ∙ e in
     let n : line_end (take k (take 8192 t)) ≡ length l + 3 = ap line_end s ∙ line_end_text l b h in
     let m : line_end (take k (take 8192 t)) < length (take k (take 8192 t)) = omega (arith, ap length s, text_length l b, n) in
-    let f : line_end (take 8192 t) ≡ length l + 3 = run-back is_not_lf k (take 8192 t) m ∙ n in
+    let f : line_end (take 8192 t) ≡ length l + 3 = run_back is_not_lf k (take 8192 t) m ∙ n in
     let g : length (body_of (lines_in (take k (take 8192 t)))) ≡ length b = ap (λ u. length (body_of (lines_in u))) s ∙ ap (λ u. length (body_of u)) (lines_in_is l b h) ∙ ap length (body_lines b a) in
     ap (found (length t) (take 8192 t)) (scan_taken t k w) ∙ ap₂ (λ x y. stanza x y k) f g
 

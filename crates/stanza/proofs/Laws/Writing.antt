@@ -12,7 +12,7 @@ use Rattle.refusal.specs.Pick.{pick}
 use Rattle.refusal.specs.Output.{bytes, refused, answered, filled, WritingJudged}
 use Rattle.refusal.proofs.Laws.Booleans.{cases, and_false_right}
 use Rattle.refusal.proofs.Laws.Output.{test_judged}
-use Rattle.refusal.proofs.Laws.Lists.{part-rest, put_rest, overwrite-part, front-part, front-store, front_whole}
+use Rattle.refusal.proofs.Laws.Lists.{part_rest, put_rest, overwrite_part, front_part, front_store, front_whole}
 use Rattle.strict_base64.specs.Lines.{lines_of}
 use Rattle.stanza.specs.Arguments.{is_line, line_with}
 use Rattle.stanza.specs.Grammar.{first_line, stanza_text}
@@ -35,14 +35,14 @@ line_done l o₀ part h p =
     let n = first_length l in
     let e : o ≡ take 3 w ++ drop 3 o₀ = sets-eq (45 ∷ 62 ∷ 32 ∷ []) o₀ 0 (omega arith) in
     let f : take 3 o ++ (part ++ drop (length o - 3) (drop 3 o)) ≡ take (3 + length l) w ++ drop (3 + length l) o₀ =
-    put_rest 3 o part ∙ rw (p, part-rest 3 o) (front-part w o o₀ l (10 ∷ []) 3 e refl (omega arith)) in
+    put_rest 3 o part ∙ rw (p, part_rest 3 o) (front_part w o o₀ l (10 ∷ []) 3 e refl (omega arith)) in
     let k : length l + 3 ≡ 3 + length l = omega arith in
     let x : get_or w (3 + length l) 0 ≡ 10 = get_or_at (45 ∷ 62 ∷ 32 ∷ l) 10 [] 0 (3 + length l) (omega arith) in
-    rw k (ap (set (take 3 o ++ (part ++ drop (length o - 3) (drop 3 o))) (3 + length l)) (sym x) ∙ front-store w (take 3 o ++ (part ++ drop (length o - 3) (drop 3 o))) o₀ (3 + length l) 0 f (omega arith) (omega arith))
-    ∙ front-end w o₀ (3 + length l + 1) (length l + 4) (omega arith) (omega arith)
+    rw k (ap (set (take 3 o ++ (part ++ drop (length o - 3) (drop 3 o))) (3 + length l)) (sym x) ∙ front_store w (take 3 o ++ (part ++ drop (length o - 3) (drop 3 o))) o₀ (3 + length l) 0 f (omega arith) (omega arith))
+    ∙ front_end w o₀ (3 + length l + 1) (length l + 4) (omega arith) (omega arith)
   where
-    front-end : (w o₀ : List ℕ) (k m : ℕ) → k ≡ m → m ≡ length w → take k w ++ drop k o₀ ≡ w ++ drop m o₀
-    front-end w o₀ k m p q = front_whole w (take k w ++ drop k o₀) o₀ k refl (p ∙ q) ∙ rw (← q)
+    front_end : (w o₀ : List ℕ) (k m : ℕ) → k ≡ m → m ≡ length w → take k w ++ drop k o₀ ≡ w ++ drop m o₀
+    front_end w o₀ k m p q = front_whole w (take k w ++ drop k o₀) o₀ k refl (p ∙ q) ∙ rw (← q)
 
 -- the body's lines, written to the part behind the first line
 pub text_done : (l b o o₀ part : List ℕ) → length (stanza_text l b) ≤ length o₀ → o ≡ first_line l ++ drop (length l + 4) o₀ →
@@ -52,7 +52,7 @@ text_done l b o o₀ part h e p =
     let k = length l + 4 in
     let n : length o ≡ length o₀ = ap length e ∙ simp (length-append (first_line l), first_length l, length-drop) (omega (arith, text_length l b)) in
     let f : length (lines_of b) ≤ length (drop k o) = simp length-drop (omega (arith, text_length l b)) in
-    put_rest k o part ∙ rw (p, part-rest k o, le-ltb (length (drop k o)) (length (lines_of b)) f) (overwrite-part o o₀ (first_line l) (lines_of b) k e (first_length l))
+    put_rest k o part ∙ rw (p, part_rest k o, le-ltb (length (drop k o)) (length (lines_of b)) f) (overwrite_part o o₀ (first_line l) (lines_of b) k e (first_length l))
 
 -- ---- by the size that was worked out first
 
@@ -72,45 +72,45 @@ pub size_none : (l b : List ℕ) (r : ℕ) → refused r ≡ sized l b → (is_w
 size_none l b r e = refused_only (is_writable l b) r (length (stanza_text l b)) e
 
 module _ (l b o : List ℕ) where
-  pub size-refused : (r : ℕ) → refused r ≡ sized l b → (refused r ≡ written l b o) × (o ≡ buffer_after l b o)
-  size-refused r e = let f = size_none l b r e in rw (f.0, f.1) (refl, refl)
+  pub size_refused : (r : ℕ) → refused r ≡ sized l b → (refused r ≡ written l b o) × (o ≡ buffer_after l b o)
+  size_refused r e = let f = size_none l b r e in rw (f.0, f.1) (refl, refl)
 
-  pub size-bytes : (n : ℕ) → bytes n ≡ sized l b → (is_writable l b ≡ true) × (n ≡ length (stanza_text l b))
-  size-bytes n e = bytes_only (is_writable l b) n (length (stanza_text l b)) e
+  pub size_bytes : (n : ℕ) → bytes n ≡ sized l b → (is_writable l b ≡ true) × (n ≡ length (stanza_text l b))
+  size_bytes n e = bytes_only (is_writable l b) n (length (stanza_text l b)) e
 
-  pub size-short : (n : ℕ) → bytes n ≡ sized l b → length o < n → (refused 15 ≡ written l b o) × (o ≡ buffer_after l b o)
-  size-short n e h =
-      let f = size-bytes n e in
+  pub size_short : (n : ℕ) → bytes n ≡ sized l b → length o < n → (refused 15 ≡ written l b o) × (o ≡ buffer_after l b o)
+  size_short n e h =
+      let f = size_bytes n e in
       rw (f.0, lt-ltb (length o) (length (stanza_text l b)) (omega (arith, f.1))) (refl, refl)
 
   pub size_fits : (n : ℕ) (o' : List ℕ) → bytes n ≡ sized l b → n ≤ length o → o' ≡ stanza_text l b ++ drop (length (stanza_text l b)) o → (bytes n ≡ written l b o) × (o' ≡ buffer_after l b o)
   size_fits n o' e h q =
-      let f = size-bytes n e in
+      let f = size_bytes n e in
       rw (f.0, le-ltb (length o) (length (stanza_text l b)) (omega (arith, f.1))) (ap bytes f.1, q)
 
 -- ---- a command and what stands behind it
 
 module _ (command arguments o : List ℕ) where
-  line-longer : length command ≤ length (line_with command arguments)
-  line-longer = cases (eqb (length arguments) 0) (λ e. rw e (omega arith)) (λ e. rw e (simp length-append (omega arith)))
+  line_longer : length command ≤ length (line_with command arguments)
+  line_longer = cases (eqb (length arguments) 0) (λ e. rw e (omega arith)) (λ e. rw e (simp length-append (omega arith)))
 
-  pub join-short : length o < length command → (refused 15 ≡ answered (line_with command arguments) o) × (o ≡ filled (line_with command arguments) o)
-  join-short h = rw (lt-ltb (length o) (length (line_with command arguments)) (omega (arith, line-longer))) (refl, refl)
+  pub join_short : length o < length command → (refused 15 ≡ answered (line_with command arguments) o) × (o ≡ filled (line_with command arguments) o)
+  join_short h = rw (lt-ltb (length o) (length (line_with command arguments)) (omega (arith, line_longer))) (refl, refl)
 
-  pub join-alone : (o' : List ℕ) → length arguments ≡ 0 → length command ≤ length o → o' ≡ command ++ drop (length command) o →
+  pub join_alone : (o' : List ℕ) → length arguments ≡ 0 → length command ≤ length o → o' ≡ command ++ drop (length command) o →
       (bytes (length command) ≡ answered (line_with command arguments) o) × (o' ≡ filled (line_with command arguments) o)
-  join-alone o' e h q = rw (eq-eqb (length arguments) 0 e, le-ltb (length o) (length command) h) (refl, q)
+  join_alone o' e h q = rw (eq-eqb (length arguments) 0 e, le-ltb (length o) (length command) h) (refl, q)
 
   joined_length : length (command ++ 32 ∷ arguments) ≡ length command + 1 + length arguments
   joined_length = simp length-append (omega arith)
 
-  pub join-over : (length arguments ≡ 0 → ⊥) → length o ≤ length command + length arguments → (refused 15 ≡ answered (line_with command arguments) o) × (o ≡ filled (line_with command arguments) o)
-  join-over e h = rw (ne_eqb (length arguments) 0 e, lt-ltb (length o) (length (command ++ 32 ∷ arguments)) (omega (arith, joined_length))) (refl, refl)
+  pub join_over : (length arguments ≡ 0 → ⊥) → length o ≤ length command + length arguments → (refused 15 ≡ answered (line_with command arguments) o) × (o ≡ filled (line_with command arguments) o)
+  join_over e h = rw (ne_eqb (length arguments) 0 e, lt-ltb (length o) (length (command ++ 32 ∷ arguments)) (omega (arith, joined_length))) (refl, refl)
 
-  pub join-both : (o' : List ℕ) → (length arguments ≡ 0 → ⊥) → length command + length arguments < length o →
+  pub join_both : (o' : List ℕ) → (length arguments ≡ 0 → ⊥) → length command + length arguments < length o →
       o' ≡ (command ++ 32 ∷ arguments) ++ drop (length command + 1 + length arguments) o →
       (bytes (length command + 1 + length arguments) ≡ answered (line_with command arguments) o) × (o' ≡ filled (line_with command arguments) o)
-  join-both o' e h q =
+  join_both o' e h q =
       rw (ne_eqb (length arguments) 0 e, le-ltb (length o) (length (command ++ 32 ∷ arguments)) (omega (arith, joined_length)))
       (ap bytes (sym joined_length), q ∙ ap (λ k. (command ++ 32 ∷ arguments) ++ drop k o) (sym joined_length))
 

@@ -8,7 +8,7 @@ use Rattle.strict_base64.specs.Tables.{decoded_size, encoded_size}
 use lib.Seq.{take-add, length-take-le}
 use native.Mathlib.Omega.{arith}
 use Rattle.refusal.proofs.Laws.Booleans.{cases}
-use Rattle.refusal.proofs.Laws.Lists.{drop-one, part-rest, put_rest, overwrite-part}
+use Rattle.refusal.proofs.Laws.Lists.{drop_one, part_rest, put_rest, overwrite_part}
 use Rattle.strict_base64.specs.Alphabet.{value_of, character_of}
 use Rattle.strict_base64.specs.Code.{encoded, decoded, is_base64, Judged, base64, not_base64, measured}
 
@@ -48,12 +48,12 @@ four : (t : List ℕ) (k : ℕ) → k + 4 ≤ length t → take 4 (drop k t) ≡
 four t k h =
     let e2 : k + 1 + 1 ≡ k + 2 = omega arith in
     let e3 : k + 2 + 1 ≡ k + 3 = omega arith in
-    rw (drop-one t k 0 (omega arith), drop-one t (k + 1) 0 (omega arith), e2, drop-one t (k + 2) 0 (omega arith), e3, drop-one t (k + 3) 0 (omega arith))
+    rw (drop_one t k 0 (omega arith), drop_one t (k + 1) 0 (omega arith), e2, drop_one t (k + 2) 0 (omega arith), e3, drop_one t (k + 3) 0 (omega arith))
 
 three : (t : List ℕ) (k : ℕ) → k + 3 ≤ length t → take 3 (drop k t) ≡ get_or t k 0 ∷ get_or t (k + 1) 0 ∷ get_or t (k + 2) 0 ∷ []
 three t k h =
     let e2 : k + 1 + 1 ≡ k + 2 = omega arith in
-    rw (drop-one t k 0 (omega arith), drop-one t (k + 1) 0 (omega arith), e2, drop-one t (k + 2) 0 (omega arith))
+    rw (drop_one t k 0 (omega arith), drop_one t (k + 1) 0 (omega arith), e2, drop_one t (k + 2) 0 (omega arith))
 
 -- one group more of a text that is decoded group by group
 pub decoded_turn : (t : List ℕ) (i : ℕ) {a b c d : ℕ} → 4 * i + 4 ≤ length t →
@@ -87,14 +87,14 @@ pub decoded_end : (t o o₀ part : List ℕ) (n : ℕ) → 4 * n ≤ length t �
     take (3 * n) o ++ (part ++ drop (length o - 3 * n) (drop (3 * n) o)) ≡ decoded t ++ drop (length (decoded t)) o₀
 decoded_end t o o₀ part n h e p =
     let d : decoded (take (4 * n) t) ++ decoded (drop (4 * n) t) ≡ decoded t = sym (decoded_append n (take (4 * n) t) (drop (4 * n) t) (length-take-le (4 * n) t h)) ∙ rw (take-append-drop (4 * n) t) in
-    put_rest (3 * n) o part ∙ rw (p, part-rest (4 * n) t, part-rest (3 * n) o) (overwrite-part o o₀ (decoded (take (4 * n) t)) (decoded (drop (4 * n) t)) (3 * n) e (decoded_groups t n h) ∙ rw d)
+    put_rest (3 * n) o part ∙ rw (p, part_rest (4 * n) t, part_rest (3 * n) o) (overwrite_part o o₀ (decoded (take (4 * n) t)) (decoded (drop (4 * n) t)) (3 * n) e (decoded_groups t n h) ∙ rw d)
 
 pub encoded_end : (t o o₀ part : List ℕ) (n : ℕ) → 3 * n ≤ length t → o ≡ encoded (take (3 * n) t) ++ drop (4 * n) o₀ →
     part ≡ encoded (take (length t - 3 * n) (drop (3 * n) t)) ++ drop (length (encoded (take (length t - 3 * n) (drop (3 * n) t)))) (take (length o - 4 * n) (drop (4 * n) o)) →
     take (4 * n) o ++ (part ++ drop (length o - 4 * n) (drop (4 * n) o)) ≡ encoded t ++ drop (length (encoded t)) o₀
 encoded_end t o o₀ part n h e p =
     let d : encoded (take (3 * n) t) ++ encoded (drop (3 * n) t) ≡ encoded t = sym (encoded_append n (take (3 * n) t) (drop (3 * n) t) (length-take-le (3 * n) t h)) ∙ rw (take-append-drop (3 * n) t) in
-    put_rest (4 * n) o part ∙ rw (p, part-rest (3 * n) t, part-rest (4 * n) o) (overwrite-part o o₀ (encoded (take (3 * n) t)) (encoded (drop (3 * n) t)) (4 * n) e (encoded_groups t n h) ∙ rw d)
+    put_rest (4 * n) o part ∙ rw (p, part_rest (3 * n) t, part_rest (4 * n) o) (overwrite_part o o₀ (encoded (take (3 * n) t)) (encoded (drop (3 * n) t)) (4 * n) e (encoded_groups t n h) ∙ rw d)
 
 -- the last characters, fewer than four
 pub decoded_none : (t : List ℕ) → length t < 2 → decoded t ≡ []

@@ -9,7 +9,7 @@ use native.Mathlib.Omega.{arith}
 use borrow.Author.Tests.{eq-eqb, ne_eqb, eqb-true, eqb-false}
 use Rattle.refusal.specs.Pick.{pick}
 use Rattle.refusal.proofs.Laws.Booleans.{cases}
-use Rattle.refusal.proofs.Laws.Lists.{part-rest, put_rest, front-part, front-store, front-last}
+use Rattle.refusal.proofs.Laws.Lists.{part_rest, put_rest, front_part, front_store, front_last}
 use Rattle.strict_base64.specs.Code.{encoded, decoded}
 use Rattle.strict_base64.specs.Lines.{wrapped, unwrapped, lines_of, body_of}
 use Rattle.strict_base64.specs.Tables.{decoded_size, encoded_size, body_size}
@@ -126,7 +126,7 @@ pub body_fits : (l o : List ℕ) (i : ℕ) → 65 * i + 65 < length l → body_s
     decoded_size (length (take (65 * i + 64 - 65 * i) (drop (65 * i) l))) ≤ length (take (length o - 48 * i) (drop (48 * i) o))
 body_fits l o i h f =
     let s : 65 * i + 64 - 65 * i ≡ 64 = omega arith in
-    rw (s, part-rest (48 * i) o, length-take-le 64 (drop (65 * i) l) (simp length-drop (omega arith)), length-drop) (omega arith)
+    rw (s, part_rest (48 * i) o, length-take-le 64 (drop (65 * i) l) (simp length-drop (omega arith)), length-drop) (omega arith)
 
 pub body_fits_last : (l o : List ℕ) (i : ℕ) → 65 * i < length l → length l ≤ 65 * i + 65 → body_size (length l) ≤ length o →
     decoded_size (length (take (length l - 1 - 65 * i) (drop (65 * i) l))) ≤ length (take (length o - 48 * i) (drop (48 * i) o))
@@ -134,7 +134,7 @@ body_fits_last l o i h k f =
     let r : ℕ = length l - 1 - 65 * i in
     let s : (length l - 1) - (length l - 1) / 65 ≡ 64 * i + r = omega arith in
     let g : 48 * i + decoded_size r ≤ length o = rw (s, decoded_size_lem i r) at f in
-    rw (part-rest (48 * i) o, length-take-le (length l - 1 - 65 * i) (drop (65 * i) l) (simp length-drop (omega arith)), length-drop) (omega arith)
+    rw (part_rest (48 * i) o, length-take-le (length l - 1 - 65 * i) (drop (65 * i) l) (simp length-drop (omega arith)), length-drop) (omega arith)
 
 pub lines_fits_last : (b o : List ℕ) (i : ℕ) → 48 * i ≤ length b → length b < 48 * i + 48 → encoded_size (length b) + encoded_size (length b) / 64 + 1 ≤ length o →
     encoded_size (length (take (length b - 48 * i) (drop (48 * i) b))) + 1 ≤ length (take (length o - 65 * i) (drop (65 * i) o))
@@ -142,7 +142,7 @@ lines_fits_last b o i h k f =
     let r : ℕ = length b - 48 * i in
     let s : length b ≡ 48 * i + r = omega arith in
     let g : 64 * i + encoded_size r + (64 * i + encoded_size r) / 64 + 1 ≤ length o = rw (s, encoded_size_lem i r) at f in
-    rw (part-rest (65 * i) o, part-rest (48 * i) b, length-drop (65 * i) o, length-drop (48 * i) b) (omega arith)
+    rw (part_rest (65 * i) o, part_rest (48 * i) b, length-drop (65 * i) o, length-drop (48 * i) b) (omega arith)
 
 -- reading, line by line: a full line is written to the part of the buffer behind those before it
 pub body_turn : (l o o₀ part : List ℕ) (i : ℕ) → 65 * i + 65 < length l → o ≡ take (48 * i) (body_of l) ++ drop (48 * i) o₀ →
@@ -154,8 +154,8 @@ body_turn l o o₀ part i h e p =
     let r : 65 < length l' = simp length-drop (omega arith) in
     let g : length (decoded (take 64 l')) ≡ 48 = decoded_length (take 64 l') ∙ rw (length-take-le 64 l' (omega arith)) in
     let n : 48 * i + 48 ≡ 48 * (i + 1) = omega arith in
-    put_rest (48 * i) o part ∙ rw (p, s, part-rest (48 * i) o)
-    (front-part (body_of l) o o₀ (decoded (take 64 l')) (body_of (drop 65 l')) (48 * i) e (body_drop i l (omega arith) ∙ body_line l' r) (rw (body_length l) (omega arith)) ∙ rw (g, n))
+    put_rest (48 * i) o part ∙ rw (p, s, part_rest (48 * i) o)
+    (front_part (body_of l) o o₀ (decoded (take 64 l')) (body_of (drop 65 l')) (48 * i) e (body_drop i l (omega arith) ∙ body_line l' r) (rw (body_length l) (omega arith)) ∙ rw (g, n))
 
 pub body_end : (l o o₀ part : List ℕ) (i : ℕ) → 65 * i < length l → length l ≤ 65 * i + 65 → o ≡ take (48 * i) (body_of l) ++ drop (48 * i) o₀ →
     part ≡ decoded (take (length l - 1 - 65 * i) (drop (65 * i) l)) ++ drop (length (decoded (take (length l - 1 - 65 * i) (drop (65 * i) l)))) (take (length o - 48 * i) (drop (48 * i) o)) →
@@ -164,8 +164,8 @@ body_end l o o₀ part i h m e p =
     let l' = drop (65 * i) l in
     let s : length l - 1 - 65 * i ≡ length l' - 1 = simp length-drop (omega arith) in
     let q : drop (48 * i) (body_of l) ≡ decoded (take (length l' - 1) l') = body_drop i l h ∙ body_last l' (simp length-drop (omega arith)) in
-    put_rest (48 * i) o part ∙ rw (p, s, part-rest (48 * i) o)
-    (front-last (body_of l) o o₀ (decoded (take (length l' - 1) l')) (48 * i) e q (rw (body_length l) (omega arith)))
+    put_rest (48 * i) o part ∙ rw (p, s, part_rest (48 * i) o)
+    (front_last (body_of l) o o₀ (decoded (take (length l' - 1) l')) (48 * i) e q (rw (body_length l) (omega arith)))
 
 -- writing, line by line: 48 bytes, and then the LF
 pub lines_turn : (b o o₀ part : List ℕ) (i : ℕ) → 48 * i + 48 ≤ length b → length (lines_of b) ≤ length o₀ → o ≡ take (65 * i) (lines_of b) ++ drop (65 * i) o₀ →
@@ -182,16 +182,16 @@ lines_turn b o o₀ part i h m e p =
     let k : 65 * i + 65 ≤ length (lines_of b) = rw (lines_length b) (omega arith) in
     let x : get_or (lines_of b) (65 * i + 64) 0 ≡ 10 = sym (get_or-drop (65 * i) (lines_of b) 64 0) ∙ rw q (get_or_at block 10 (lines_of (drop 48 b')) 0 64 g) in
     let f : take (65 * i) o ++ (part ++ drop (length o - 65 * i) (drop (65 * i) o)) ≡ take (65 * i + 64) (lines_of b) ++ drop (65 * i + 64) o₀ =
-    put_rest (65 * i) o part ∙ rw (p, s, part-rest (65 * i) o) (front-part (lines_of b) o o₀ block (10 ∷ lines_of (drop 48 b')) (65 * i) e q (omega arith) ∙ rw g) in
+    put_rest (65 * i) o part ∙ rw (p, s, part_rest (65 * i) o) (front_part (lines_of b) o o₀ block (10 ∷ lines_of (drop 48 b')) (65 * i) e q (omega arith) ∙ rw g) in
     ap (set (take (65 * i) o ++ (part ++ drop (length o - 65 * i) (drop (65 * i) o))) (65 * i + 64)) (sym x)
-    ∙ front-store (lines_of b) (take (65 * i) o ++ (part ++ drop (length o - 65 * i) (drop (65 * i) o))) o₀ (65 * i + 64) 0 f (omega arith) m ∙ rw n
+    ∙ front_store (lines_of b) (take (65 * i) o ++ (part ++ drop (length o - 65 * i) (drop (65 * i) o))) o₀ (65 * i + 64) 0 f (omega arith) m ∙ rw n
 
 pub lines_end : (b o o₀ part : List ℕ) (i : ℕ) → 48 * i ≤ length b → length b < 48 * i + 48 → o ≡ take (65 * i) (lines_of b) ++ drop (65 * i) o₀ →
     part ≡ lines_of (take (length b - 48 * i) (drop (48 * i) b)) ++ drop (length (lines_of (take (length b - 48 * i) (drop (48 * i) b)))) (take (length o - 65 * i) (drop (65 * i) o)) →
     take (65 * i) o ++ (part ++ drop (length o - 65 * i) (drop (65 * i) o)) ≡ lines_of b ++ drop (length (lines_of b)) o₀
 lines_end b o o₀ part i h m e p =
-    put_rest (65 * i) o part ∙ rw (p, part-rest (48 * i) b, part-rest (65 * i) o)
-    (front-last (lines_of b) o o₀ (lines_of (drop (48 * i) b)) (65 * i) e (lines_drop i b h) (rw (lines_length b) (omega arith)))
+    put_rest (65 * i) o part ∙ rw (p, part_rest (48 * i) b, part_rest (65 * i) o)
+    (front_last (lines_of b) o o₀ (lines_of (drop (48 * i) b)) (65 * i) e (lines_drop i b h) (rw (lines_length b) (omega arith)))
 
 -- a line of fewer than 48 bytes: its characters, and then the LF
 pub lines_short : (b o o₀ : List ℕ) → length b < 48 → length (encoded b) + 1 ≤ length o₀ → o ≡ encoded b ++ drop (length (encoded b)) o₀ →
@@ -201,7 +201,7 @@ lines_short b o o₀ h f e =
     let w : List ℕ = encoded b ++ (10 ∷ []) in
     let l : length w ≡ n + 1 = length-append (encoded b) (10 ∷ []) in
     let e' : o ≡ take n w ++ drop n o₀ = e ∙ rw (take_at (encoded b) (10 ∷ []) n refl) in
-    ap (set o n) (sym (get_or_at (encoded b) 10 [] 0 n refl)) ∙ front-store w o o₀ n 0 e' (omega arith) (omega arith)
+    ap (set o n) (sym (get_or_at (encoded b) 10 [] 0 n refl)) ∙ front_store w o o₀ n 0 e' (omega arith) (omega arith)
     ∙ rw (← l, take-length w, lines_last b h)
 
 -- there and back: what was laid out in lines is what the lines hold

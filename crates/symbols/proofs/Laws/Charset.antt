@@ -12,7 +12,7 @@ use Rattle.refusal.proofs.Laws.Booleans.{and_true, true_and, cases}
 use Rattle.symbols.specs.Charset.{charset, place_of, value_of, character_of, is_upper, is_lower, lower, upper}
 use Rattle.symbols.specs.Calls.{value_at, symbol_at}
 use Rattle.symbols.specs.Steps.{Values, value_in, symbol_in}
-use Rattle.symbols.proofs.Laws.Maps.{map-part}
+use Rattle.symbols.proofs.Laws.Maps.{map_part}
 
 -- what stands at its own place
 place_at : (b : ℕ) (xs : List ℕ) → place_of b xs < length xs → get_or xs (place_of b xs) 0 ≡ b
@@ -87,8 +87,8 @@ upper_not_lower b =
 -- ---- by the table of the values, a part of a text has its values and its symbols
 
 module _ (t : List ℕ) (v : Values t) where
-  pub values-by : (n m : ℕ) (l : List ℕ) → ((i : ℕ) → get_or l i 0 < 256) → map (value_in t) (take n (drop m l)) ≡ map value_at (take n (drop m l))
-  values-by = map-part (value_in t) value_at v
+  pub values_by : (n m : ℕ) (l : List ℕ) → ((i : ℕ) → get_or l i 0 < 256) → map (value_in t) (take n (drop m l)) ≡ map value_at (take n (drop m l))
+  values_by = map_part (value_in t) value_at v
 
-  pub symbols-by : (n m : ℕ) (l : List ℕ) → ((i : ℕ) → get_or l i 0 < 256) → map (symbol_in t) (take n (drop m l)) ≡ map symbol_at (take n (drop m l))
-  symbols-by = map-part (symbol_in t) symbol_at (λ b h. ap (λ x. x % 32) (v b h))
+  pub symbols_by : (n m : ℕ) (l : List ℕ) → ((i : ℕ) → get_or l i 0 < 256) → map (symbol_in t) (take n (drop m l)) ≡ map symbol_at (take n (drop m l))
+  symbols_by = map_part (symbol_in t) symbol_at (λ b h. ap (λ x. x % 32) (v b h))

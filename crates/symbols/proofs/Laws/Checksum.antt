@@ -31,14 +31,14 @@ folded_zero (g ∷ gs) a = ap (λ x. folded x gs 0) (xor_zero_r a) ∙ folded_ze
 
 taken_xor : (s t g : ℕ) → taken (bit_xor s t % 2) g ≡ bit_xor (taken (s % 2) g) (taken (t % 2) g)
 unfolding taken
-taken_xor s t g = ap (λ x. taken x g) (xor_odd s t) ∙ of-digits (s % 2) (t % 2) (omega arith) (omega arith)
+taken_xor s t g = ap (λ x. taken x g) (xor_odd s t) ∙ of_digits (s % 2) (t % 2) (omega arith) (omega arith)
   where
-    of-digits : (x y : ℕ) → x < 2 → y < 2 → taken (differ x y) g ≡ bit_xor (taken x g) (taken y g)
-    of-digits zero y hx hy = sym (xor_zero_l (taken y g))
-    of-digits (suc zero) zero hx hy = sym (xor_zero_r g)
-    of-digits (suc zero) (suc zero) hx hy = sym (xor_self g)
-    of-digits (suc zero) (suc (suc y)) hx hy = absurd (omega arith)
-    of-digits (suc (suc x)) y hx hy = absurd (omega arith)
+    of_digits : (x y : ℕ) → x < 2 → y < 2 → taken (differ x y) g ≡ bit_xor (taken x g) (taken y g)
+    of_digits zero y hx hy = sym (xor_zero_l (taken y g))
+    of_digits (suc zero) zero hx hy = sym (xor_zero_r g)
+    of_digits (suc zero) (suc zero) hx hy = sym (xor_self g)
+    of_digits (suc zero) (suc (suc y)) hx hy = absurd (omega arith)
+    of_digits (suc (suc x)) y hx hy = absurd (omega arith)
 
 folded_linear : (gs : List ℕ) (a b s t : ℕ) → folded (bit_xor a b) gs (bit_xor s t) ≡ bit_xor (folded a gs s) (folded b gs t)
 unfolding folded
@@ -144,10 +144,10 @@ unfolding folded all
 folded_lt [] a t h l = l
 folded_lt (g ∷ gs) a t h l =
     let b = and_true (ltb g 1073741824) (all (λ g. ltb g 1073741824) gs) h in
-    folded_lt gs (bit_xor a (taken (t % 2) g)) (t / 2) b.1 (xor_lt 30 a (taken (t % 2) g) l (taken-lt (t % 2) g (ltb-true g 1073741824 b.0)))
+    folded_lt gs (bit_xor a (taken (t % 2) g)) (t / 2) b.1 (xor_lt 30 a (taken (t % 2) g) l (taken_lt (t % 2) g (ltb-true g 1073741824 b.0)))
   where
-    taken-lt : (x g : ℕ) → g < 1073741824 → taken x g < 1073741824
-    taken-lt x g l = unfold taken in cases (eqb x 1) (λ e. rw e l) (λ e. rw e (omega arith))
+    taken_lt : (x g : ℕ) → g < 1073741824 → taken x g < 1073741824
+    taken_lt x g l = unfold taken in cases (eqb x 1) (λ e. rw e l) (λ e. rw e (omega arith))
 
 pub step_lt : (c v : ℕ) → v < 32 → stepped c v < 1073741824
 unfolding stepped all

@@ -13,12 +13,12 @@ use Rattle.refusal.proofs.Laws.Booleans.{cases, and_assoc}
 use Rattle.symbols.specs.Charset.{is_upper, lower}
 use Rattle.symbols.specs.Checksum.{are_symbols, stepped, polymod}
 use Rattle.symbols.specs.Calls.{closes}
-use Rattle.symbols.proofs.Laws.Maps.{map-one}
+use Rattle.symbols.proofs.Laws.Maps.{map_one}
 
 -- one symbol more
 pub polymod_at : (f : ℕ → ℕ) (l : List ℕ) (i c : ℕ) → i < length l → polymod c (map f (drop i l)) ≡ polymod (stepped c (f (get_or l i 0))) (map f (drop (i + 1) l))
 unfolding polymod
-polymod_at f l i c h = ap (polymod c) (map-one f l i h)
+polymod_at f l i c h = ap (polymod c) (map_one f l i h)
 
 -- none left
 pub polymod_end : (f : ℕ → ℕ) (l : List ℕ) (i c : ℕ) → length l ≤ i → polymod c (map f (drop i l)) ≡ c
@@ -28,7 +28,7 @@ polymod_end f l i c h = ap (λ t. polymod c (map f t)) (drop_of_length-le l h)
 closes_at : (f : ℕ → ℕ) (l : List ℕ) (i c : ℕ) → i < length l →
     closes c (map f (drop i l)) ≡ (ltb (f (get_or l i 0)) 32 && closes (stepped c (f (get_or l i 0))) (map f (drop (i + 1) l)))
 unfolding closes
-closes_at f l i c h = ap (closes c) (map-one f l i h)
+closes_at f l i c h = ap (closes c) (map_one f l i h)
 
 pub closes_end : (f : ℕ → ℕ) (l : List ℕ) (i c : ℕ) → length l ≤ i → closes c (map f (drop i l)) ≡ eqb c 1
 unfolding closes

@@ -9,7 +9,7 @@ use native.Mathlib.Nat.{add-mul-mod_self_left}
 use native.Mathlib.Decide.{dec_le}
 use native.Mathlib.Omega.{arith}
 use Rattle.refusal.proofs.Laws.Below.{tabulate}
-use Rattle.refusal.proofs.Laws.Lists.{part-rest, put_rest, overwrite-part}
+use Rattle.refusal.proofs.Laws.Lists.{part_rest, put_rest, overwrite_part}
 use Rattle.symbols.specs.Checksum.{are_symbols}
 use Rattle.symbols.specs.Regroup.{symbols, bytes, is_whole}
 use Rattle.symbols.specs.Calls.{bytes_size, symbols_size}
@@ -85,66 +85,66 @@ whole n t h = elements n 0 t (omega arith)
 
 module _ (f : ℕ → ℕ) where
   -- the symbol of each character is below 32
-  pub symbol-at : (t : List ℕ) (i : ℕ) → are_symbols (map f t) ≡ true → i < length t → f (get_or t i 0) < 32
-  symbol-at [] i a h = absurd (omega arith)
-  symbol-at (b ∷ t) zero a h = (symbol (f b) (map f t) a).0
-  symbol-at (b ∷ t) (suc i) a h = symbol-at t i (symbol (f b) (map f t) a).1 (omega arith)
+  pub symbol_at : (t : List ℕ) (i : ℕ) → are_symbols (map f t) ≡ true → i < length t → f (get_or t i 0) < 32
+  symbol_at [] i a h = absurd (omega arith)
+  symbol_at (b ∷ t) zero a h = (symbol (f b) (map f t) a).0
+  symbol_at (b ∷ t) (suc i) a h = symbol_at t i (symbol (f b) (map f t) a).1 (omega arith)
 
   -- no symbols are whole; others by how many there are and the last
-  pub whole-none : (t : List ℕ) → length t ≡ 0 → is_whole (map f t) ≡ true
+  pub whole_none : (t : List ℕ) → length t ≡ 0 → is_whole (map f t) ≡ true
   unfolding is_whole
-  whole-none [] h = refl
-  whole-none (b ∷ t) h = absurd (omega arith)
+  whole_none [] h = refl
+  whole_none (b ∷ t) h = absurd (omega arith)
 
-  pub whole-last : (t : List ℕ) → 0 < length t → is_clear (length t % 8 * 5 % 8) (f (get_or t (length t - 1) 0)) ≡ is_whole (map f t)
+  pub whole_last : (t : List ℕ) → 0 < length t → is_clear (length t % 8 * 5 % 8) (f (get_or t (length t - 1) 0)) ≡ is_whole (map f t)
   unfolding is_whole
-  whole-last t h =
+  whole_last t h =
       let s : length t * 5 ≡ length t % 8 * 5 + 8 * (length t / 8 * 5) = omega arith in
       let e : length t * 5 % 8 ≡ length t % 8 * 5 % 8 = ap (λ n. n % 8) s ∙ add-mul-mod_self_left (length t % 8 * 5) 8 (length t / 8 * 5) in
       rw (length-map t f, map_at f t (length t - 1) (omega arith), e)
 
   -- the bytes of fewer than two characters, of two or three, of four, of five or six, of seven, of eight
-  pub bytes-none : (t : List ℕ) → length t < 2 → bytes (map f t) ≡ []
+  pub bytes_none : (t : List ℕ) → length t < 2 → bytes (map f t) ≡ []
   unfolding bytes
-  bytes-none [] h = refl
-  bytes-none (a ∷ []) h = refl
-  bytes-none (a ∷ b ∷ t) h = absurd (omega arith)
+  bytes_none [] h = refl
+  bytes_none (a ∷ []) h = refl
+  bytes_none (a ∷ b ∷ t) h = absurd (omega arith)
 
-  pub bytes-two : (t : List ℕ) → 2 ≤ length t → length t < 4 → bytes (map f t) ≡ (f (get_or t 0 0) * 8 + f (get_or t 1 0) / 4) ∷ []
+  pub bytes_two : (t : List ℕ) → 2 ≤ length t → length t < 4 → bytes (map f t) ≡ (f (get_or t 0 0) * 8 + f (get_or t 1 0) / 4) ∷ []
   unfolding bytes
-  bytes-two [] g h = absurd (omega arith)
-  bytes-two (a ∷ []) g h = absurd (omega arith)
-  bytes-two (a ∷ b ∷ []) g h = refl
-  bytes-two (a ∷ b ∷ c ∷ []) g h = refl
-  bytes-two (a ∷ b ∷ c ∷ d ∷ t) g h = absurd (omega arith)
+  bytes_two [] g h = absurd (omega arith)
+  bytes_two (a ∷ []) g h = absurd (omega arith)
+  bytes_two (a ∷ b ∷ []) g h = refl
+  bytes_two (a ∷ b ∷ c ∷ []) g h = refl
+  bytes_two (a ∷ b ∷ c ∷ d ∷ t) g h = absurd (omega arith)
 
-  pub bytes-four : (t : List ℕ) → length t ≡ 4 →
+  pub bytes_four : (t : List ℕ) → length t ≡ 4 →
       bytes (map f t) ≡ (f (get_or t 0 0) * 8 + f (get_or t 1 0) / 4) ∷ (f (get_or t 1 0) % 4 * 64 + f (get_or t 2 0) * 2 + f (get_or t 3 0) / 16) ∷ []
   unfolding bytes
-  bytes-four t h = ap (λ l. bytes (map f l)) (whole 4 t h)
+  bytes_four t h = ap (λ l. bytes (map f l)) (whole 4 t h)
 
-  pub bytes-five : (t : List ℕ) → 5 ≤ length t → length t < 7 →
+  pub bytes_five : (t : List ℕ) → 5 ≤ length t → length t < 7 →
       bytes (map f t) ≡
       (f (get_or t 0 0) * 8 + f (get_or t 1 0) / 4) ∷ (f (get_or t 1 0) % 4 * 64 + f (get_or t 2 0) * 2 + f (get_or t 3 0) / 16) ∷
       (f (get_or t 3 0) % 16 * 16 + f (get_or t 4 0) / 2) ∷ []
   unfolding bytes
-  bytes-five t g h =
+  bytes_five t g h =
       elim (dec_le (length t) 5) [ yes k ↦ ap (λ l. bytes (map f l)) (whole 5 t (omega arith)) | no k ↦ ap (λ l. bytes (map f l)) (whole 6 t (omega arith)) ]
 
-  pub bytes-seven : (t : List ℕ) → length t ≡ 7 →
+  pub bytes_seven : (t : List ℕ) → length t ≡ 7 →
       bytes (map f t) ≡
       (f (get_or t 0 0) * 8 + f (get_or t 1 0) / 4) ∷ (f (get_or t 1 0) % 4 * 64 + f (get_or t 2 0) * 2 + f (get_or t 3 0) / 16) ∷
       (f (get_or t 3 0) % 16 * 16 + f (get_or t 4 0) / 2) ∷ (f (get_or t 4 0) % 2 * 128 + f (get_or t 5 0) * 4 + f (get_or t 6 0) / 8) ∷ []
   unfolding bytes
-  bytes-seven t h = ap (λ l. bytes (map f l)) (whole 7 t h)
+  bytes_seven t h = ap (λ l. bytes (map f l)) (whole 7 t h)
 
-  pub bytes-eight : (t : List ℕ) → length t ≡ 8 →
+  pub bytes_eight : (t : List ℕ) → length t ≡ 8 →
       bytes (map f t) ≡
       (f (get_or t 0 0) * 8 + f (get_or t 1 0) / 4) ∷ (f (get_or t 1 0) % 4 * 64 + f (get_or t 2 0) * 2 + f (get_or t 3 0) / 16) ∷
       (f (get_or t 3 0) % 16 * 16 + f (get_or t 4 0) / 2) ∷ (f (get_or t 4 0) % 2 * 128 + f (get_or t 5 0) * 4 + f (get_or t 6 0) / 8) ∷
       (f (get_or t 6 0) % 8 * 32 + f (get_or t 7 0)) ∷ []
   unfolding bytes
-  bytes-eight t h = ap (λ l. bytes (map f l)) (whole 8 t h)
+  bytes_eight t h = ap (λ l. bytes (map f l)) (whole 8 t h)
 
 -- the symbols of no byte, of one, .. of five
 pub symbols_none : (t : List ℕ) → length t ≡ 0 → symbols t ≡ []
@@ -193,7 +193,7 @@ module _ (g j : ℕ) (F : List ℕ → List ℕ) (append : (n : ℕ) (s t : List
       let k = g * i in
       let a : length (take k t) ≡ k = length-take-le k t h in
       let d : F (take (k + n) t) ≡ F (take k t) ++ F (take n (drop k t)) = ap F (take-add k n t) ∙ append i (take k t) (take n (drop k t)) a in
-      put_rest (j * i) o part ∙ rw (p, part-rest (j * i) o) (overwrite-part o o₀ (F (take k t)) (F (take n (drop k t))) (j * i) e (size i (take k t) a) ∙ rw d)
+      put_rest (j * i) o part ∙ rw (p, part_rest (j * i) o) (overwrite_part o o₀ (F (take k t)) (F (take n (drop k t))) (j * i) e (size i (take k t) a) ∙ rw d)
 
   -- one group more
   turn : (t o o₀ part : List ℕ) (i : ℕ) → g * i + g ≤ length t → o ≡ F (take (g * i) t) ++ drop (j * i) o₀ →
@@ -216,21 +216,21 @@ module _ (g j : ℕ) (F : List ℕ → List ℕ) (append : (n : ℕ) (s t : List
 -- eight characters make five bytes: a group more, and what is left
 module _ (f : ℕ → ℕ) where
   -- the laws of bytes, of the characters' symbols
-  mapped-append : (n : ℕ) (s t : List ℕ) → length s ≡ 8 * n → bytes (map f (s ++ t)) ≡ bytes (map f s) ++ bytes (map f t)
-  mapped-append n s t h = ap bytes (map-append f s t) ∙ bytes_append n (map f s) (map f t) (length-map s f ∙ h)
+  mapped_append : (n : ℕ) (s t : List ℕ) → length s ≡ 8 * n → bytes (map f (s ++ t)) ≡ bytes (map f s) ++ bytes (map f t)
+  mapped_append n s t h = ap bytes (map-append f s t) ∙ bytes_append n (map f s) (map f t) (length-map s f ∙ h)
 
-  mapped-size : (n : ℕ) (s : List ℕ) → length s ≡ 8 * n → length (bytes (map f s)) ≡ 5 * n
-  mapped-size n s h = bytes_length (map f s) ∙ rw (length-map s f, h) (omega arith)
+  mapped_size : (n : ℕ) (s : List ℕ) → length s ≡ 8 * n → length (bytes (map f s)) ≡ 5 * n
+  mapped_size n s h = bytes_length (map f s) ∙ rw (length-map s f, h) (omega arith)
 
-  pub bytes-turn : (t o o₀ part : List ℕ) (i : ℕ) → 8 * i + 8 ≤ length t → o ≡ bytes (map f (take (8 * i) t)) ++ drop (5 * i) o₀ →
+  pub bytes_turn : (t o o₀ part : List ℕ) (i : ℕ) → 8 * i + 8 ≤ length t → o ≡ bytes (map f (take (8 * i) t)) ++ drop (5 * i) o₀ →
       part ≡ bytes (map f (take (8 * i + 8 - 8 * i) (drop (8 * i) t))) ++ drop 5 (take (length o - 5 * i) (drop (5 * i) o)) →
       take (5 * i) o ++ (part ++ drop (length o - 5 * i) (drop (5 * i) o)) ≡ bytes (map f (take (8 * (i + 1)) t)) ++ drop (5 * (i + 1)) o₀
-  bytes-turn = turn 8 5 (λ t. bytes (map f t)) mapped-append mapped-size
+  bytes_turn = turn 8 5 (λ t. bytes (map f t)) mapped_append mapped_size
 
-  pub bytes-ended : (t o o₀ part : List ℕ) (n : ℕ) → 8 * n ≤ length t → o ≡ bytes (map f (take (8 * n) t)) ++ drop (5 * n) o₀ →
+  pub bytes_ended : (t o o₀ part : List ℕ) (n : ℕ) → 8 * n ≤ length t → o ≡ bytes (map f (take (8 * n) t)) ++ drop (5 * n) o₀ →
       part ≡ bytes (map f (take (length t - 8 * n) (drop (8 * n) t))) ++ drop (length (bytes (map f (take (length t - 8 * n) (drop (8 * n) t))))) (take (length o - 5 * n) (drop (5 * n) o)) →
       take (5 * n) o ++ (part ++ drop (length o - 5 * n) (drop (5 * n) o)) ≡ bytes (map f t) ++ drop (length (bytes (map f t))) o₀
-  bytes-ended = ended 8 5 (λ t. bytes (map f t)) mapped-append mapped-size
+  bytes_ended = ended 8 5 (λ t. bytes (map f t)) mapped_append mapped_size
 
 -- five bytes make eight symbols: the same
 symbols_size_lem : (n : ℕ) (s : List ℕ) → length s ≡ 5 * n → length (symbols s) ≡ 8 * n

@@ -79,27 +79,27 @@ bytes_symbols (a ∷ b ∷ c ∷ d ∷ e ∷ t) h =
 
 -- the symbols of two bytes, each equation once
 module _ (p q r s : ℕ) (hp : p < 32) (hq : q < 32) (hr : r < 32) (hs : s < 32) where
-  first-symbol : (p * 8 + q / 4) / 8 ≡ p
-  first-symbol = omega arith
+  first_symbol : (p * 8 + q / 4) / 8 ≡ p
+  first_symbol = omega arith
 
-  second-symbol : (p * 8 + q / 4) % 8 * 4 + (q % 4 * 64 + r * 2 + s / 16) / 64 ≡ q
-  second-symbol = omega arith
+  second_symbol : (p * 8 + q / 4) % 8 * 4 + (q % 4 * 64 + r * 2 + s / 16) / 64 ≡ q
+  second_symbol = omega arith
 
-  third-symbol : (q % 4 * 64 + r * 2 + s / 16) / 2 % 32 ≡ r
-  third-symbol = omega arith
+  third_symbol : (q % 4 * 64 + r * 2 + s / 16) / 2 % 32 ≡ r
+  third_symbol = omega arith
 
-  fourth-symbol : (t : ℕ) → t < 32 → (q % 4 * 64 + r * 2 + s / 16) % 2 * 16 + (s % 16 * 16 + t / 2) / 16 ≡ s
-  fourth-symbol t ht = omega arith
+  fourth_symbol : (t : ℕ) → t < 32 → (q % 4 * 64 + r * 2 + s / 16) % 2 * 16 + (s % 16 * 16 + t / 2) / 16 ≡ s
+  fourth_symbol t ht = omega arith
 
 module _ (s t u v : ℕ) (hs : s < 32) (ht : t < 32) (hu : u < 32) (hv : v < 32) where
-  fifth-symbol : (s % 16 * 16 + t / 2) % 16 * 2 + (t % 2 * 128 + u * 4 + v / 8) / 128 ≡ t
-  fifth-symbol = omega arith
+  fifth_symbol : (s % 16 * 16 + t / 2) % 16 * 2 + (t % 2 * 128 + u * 4 + v / 8) / 128 ≡ t
+  fifth_symbol = omega arith
 
-  sixth-symbol : (t % 2 * 128 + u * 4 + v / 8) / 4 % 32 ≡ u
-  sixth-symbol = omega arith
+  sixth_symbol : (t % 2 * 128 + u * 4 + v / 8) / 4 % 32 ≡ u
+  sixth_symbol = omega arith
 
-  seventh-symbol : (w : ℕ) → w < 32 → (t % 2 * 128 + u * 4 + v / 8) % 4 * 8 + (v % 8 * 32 + w) / 32 ≡ v
-  seventh-symbol w hw = omega arith
+  seventh_symbol : (w : ℕ) → w < 32 → (t % 2 * 128 + u * 4 + v / 8) % 4 * 8 + (v % 8 * 32 + w) / 32 ≡ v
+  seventh_symbol w hw = omega arith
 
 eighth_symbol : (v w : ℕ) → w < 32 → (v % 8 * 32 + w) % 32 ≡ w
 eighth_symbol v w hw = omega arith
@@ -136,7 +136,7 @@ symbols_bytes (p ∷ q ∷ r ∷ s ∷ []) a h =
     let hs = symbol s [] hr.1 in
     let z = eqb-true (s % 16) 0 h in
     let f : (q % 4 * 64 + r * 2 + s / 16) % 2 * 16 ≡ s = omega arith in
-    rw (first-symbol p q r s hp.0 hq.0 hr.0 hs.0, second-symbol p q r s hp.0 hq.0 hr.0 hs.0, third-symbol p q r s hp.0 hq.0 hr.0 hs.0, f)
+    rw (first_symbol p q r s hp.0 hq.0 hr.0 hs.0, second_symbol p q r s hp.0 hq.0 hr.0 hs.0, third_symbol p q r s hp.0 hq.0 hr.0 hs.0, f)
 symbols_bytes (p ∷ q ∷ r ∷ s ∷ t ∷ []) a h =
     let hp = symbol p (q ∷ r ∷ s ∷ t ∷ []) a in
     let hq = symbol q (r ∷ s ∷ t ∷ []) hp.1 in
@@ -145,7 +145,7 @@ symbols_bytes (p ∷ q ∷ r ∷ s ∷ t ∷ []) a h =
     let ht = symbol t [] hs.1 in
     let z = eqb-true (t % 2) 0 h in
     let f : (s % 16 * 16 + t / 2) % 16 * 2 ≡ t = omega arith in
-    rw (first-symbol p q r s hp.0 hq.0 hr.0 hs.0, second-symbol p q r s hp.0 hq.0 hr.0 hs.0, third-symbol p q r s hp.0 hq.0 hr.0 hs.0, fourth-symbol p q r s hp.0 hq.0 hr.0 hs.0 t ht.0, f)
+    rw (first_symbol p q r s hp.0 hq.0 hr.0 hs.0, second_symbol p q r s hp.0 hq.0 hr.0 hs.0, third_symbol p q r s hp.0 hq.0 hr.0 hs.0, fourth_symbol p q r s hp.0 hq.0 hr.0 hs.0 t ht.0, f)
 symbols_bytes (p ∷ q ∷ r ∷ s ∷ t ∷ u ∷ []) a h = absurd (false≢true h)
 symbols_bytes (p ∷ q ∷ r ∷ s ∷ t ∷ u ∷ v ∷ []) a h =
     let hp = symbol p (q ∷ r ∷ s ∷ t ∷ u ∷ v ∷ []) a in
@@ -157,7 +157,7 @@ symbols_bytes (p ∷ q ∷ r ∷ s ∷ t ∷ u ∷ v ∷ []) a h =
     let hv = symbol v [] hu.1 in
     let z = eqb-true (v % 8) 0 h in
     let f : (t % 2 * 128 + u * 4 + v / 8) % 4 * 8 ≡ v = omega arith in
-    rw (first-symbol p q r s hp.0 hq.0 hr.0 hs.0, second-symbol p q r s hp.0 hq.0 hr.0 hs.0, third-symbol p q r s hp.0 hq.0 hr.0 hs.0, fourth-symbol p q r s hp.0 hq.0 hr.0 hs.0 t ht.0, fifth-symbol s t u v hs.0 ht.0 hu.0 hv.0, sixth-symbol s t u v hs.0 ht.0 hu.0 hv.0, f)
+    rw (first_symbol p q r s hp.0 hq.0 hr.0 hs.0, second_symbol p q r s hp.0 hq.0 hr.0 hs.0, third_symbol p q r s hp.0 hq.0 hr.0 hs.0, fourth_symbol p q r s hp.0 hq.0 hr.0 hs.0 t ht.0, fifth_symbol s t u v hs.0 ht.0 hu.0 hv.0, sixth_symbol s t u v hs.0 ht.0 hu.0 hv.0, f)
 symbols_bytes (p ∷ q ∷ r ∷ s ∷ t ∷ u ∷ v ∷ w ∷ l) a h =
     let hp = symbol p (q ∷ r ∷ s ∷ t ∷ u ∷ v ∷ w ∷ l) a in
     let hq = symbol q (r ∷ s ∷ t ∷ u ∷ v ∷ w ∷ l) hp.1 in
@@ -167,7 +167,7 @@ symbols_bytes (p ∷ q ∷ r ∷ s ∷ t ∷ u ∷ v ∷ w ∷ l) a h =
     let hu = symbol u (v ∷ w ∷ l) ht.1 in
     let hv = symbol v (w ∷ l) hu.1 in
     let hw = symbol w l hv.1 in
-    rw (first-symbol p q r s hp.0 hq.0 hr.0 hs.0, second-symbol p q r s hp.0 hq.0 hr.0 hs.0, third-symbol p q r s hp.0 hq.0 hr.0 hs.0, fourth-symbol p q r s hp.0 hq.0 hr.0 hs.0 t ht.0, fifth-symbol s t u v hs.0 ht.0 hu.0 hv.0, sixth-symbol s t u v hs.0 ht.0 hu.0 hv.0, seventh-symbol s t u v hs.0 ht.0 hu.0 hv.0 w hw.0, eighth_symbol v w hw.0, symbols_bytes l hw.1 (sym (whole_group p q r s t u v w l) ∙ h))
+    rw (first_symbol p q r s hp.0 hq.0 hr.0 hs.0, second_symbol p q r s hp.0 hq.0 hr.0 hs.0, third_symbol p q r s hp.0 hq.0 hr.0 hs.0, fourth_symbol p q r s hp.0 hq.0 hr.0 hs.0 t ht.0, fifth_symbol s t u v hs.0 ht.0 hu.0 hv.0, sixth_symbol s t u v hs.0 ht.0 hu.0 hv.0, seventh_symbol s t u v hs.0 ht.0 hu.0 hv.0 w hw.0, eighth_symbol v w hw.0, symbols_bytes l hw.1 (sym (whole_group p q r s t u v w l) ∙ h))
 
 -- symbols are below 32
 pub symbols_small : (t : List ℕ) → are_bytes t ≡ true → are_symbols (symbols t) ≡ true

@@ -18,11 +18,11 @@ module _ (t : Table) (n : ℕ) where
   pub find_none : t.count ≤ n → nothing ≡ found t n
   find_none h = rw (le-ltb n t.count h)
 
-  pub find-beyond : n < t.count → t.width ≤ n → nothing ≡ found t n
-  find-beyond h g = rw (lt-ltb n t.count h, le-ltb n t.width g)
+  pub find_beyond : n < t.count → t.width ≤ n → nothing ≡ found t n
+  find_beyond h g = rw (lt-ltb n t.count h, le-ltb n t.width g)
 
-  pub find-there : n < t.count → n < t.width → entry (get_or t.slots n empty) ≡ found t n
-  find-there h g = rw (lt-ltb n t.count h, lt-ltb n t.width g)
+  pub find_there : n < t.count → n < t.width → entry (get_or t.slots n empty) ≡ found t n
+  find_there h g = rw (lt-ltb n t.count h, lt-ltb n t.width g)
 
 -- ---- its part of the buffer
 
@@ -50,7 +50,7 @@ some_at (e ∷ es) (suc n) a h = some_at es n a.1 (omega arith)
 
 -- below the count there is an entry, and its row is the view's of that number
 pub there : (t : Table) (n : ℕ) → Kept t → n < t.count → found t n ≡ entry (slot_of t n)
-there t n k h = sym (find-there t n h (omega (arith, k.counted)))
+there t n k h = sym (find_there t n h (omega (arith, k.counted)))
 
 row_at : (t : Table) (buffer : List ℕ) (n : ℕ) (d : Row) → Kept t → n < t.count → get_or (view t buffer) n d ≡ row_of buffer (slot_of t n)
 row_at t buffer n d k h =

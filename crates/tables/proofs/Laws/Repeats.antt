@@ -12,7 +12,7 @@ use native.Mathlib.Omega.{arith}
 use borrow.Author.Tests.{le-leb, lt-leb, leb-true}
 use Rattle.refusal.specs.Same.{same}
 use Rattle.refusal.proofs.Laws.Booleans.{and_true, true_and, cases}
-use Rattle.refusal.proofs.Laws.Lists.{drop-one}
+use Rattle.refusal.proofs.Laws.Lists.{drop_one}
 use Rattle.refusal.proofs.Laws.Same.{same_refl, same_eq, same_length}
 use Rattle.tables.specs.Slots.{entry_of, slots_of}
 use Rattle.tables.specs.Tables.{Table, empty, found, shown, end_of}
@@ -48,33 +48,33 @@ module _ (start n : ℕ) (buffer : List ℕ) (h : start + n ≤ length buffer) w
   part_length = simp (length-take, length-drop) (omega arith)
 
   module _ (text : List ℕ) (l : n ≡ length text) (k : ℕ) where
-    pub byte-back : k ≤ n → 0 < k → same part text ≡ same (take k part) (take k text) →
+    pub byte_back : k ≤ n → 0 < k → same part text ≡ same (take k part) (take k text) →
         same part text ≡ (eqb (get_or buffer (start + (k - 1)) 0) (get_or text (k - 1) 0) && same (take (k - 1) part) (take (k - 1) text))
-    byte-back s z inv =
+    byte_back s z inv =
         let m : suc (k - 1) ≡ k = omega arith in
         let e : get_or part (k - 1) 0 ≡ get_or buffer (start + (k - 1)) 0 = get_or-take n (drop start buffer) (k - 1) 0 (omega arith) ∙ get_or-drop start buffer (k - 1) 0 in
         inv ∙ ap (λ j. same (take j part) (take j text)) (sym m) ∙ same_last part text (k - 1) (omega (arith, part_length)) (omega arith)
         ∙ ap (λ b. eqb b (get_or text (k - 1) 0) && same (take (k - 1) part) (take (k - 1) text)) e
 
-    pub bytes-none : k ≡ 0 → same part text ≡ same (take k part) (take k text) → same part text ≡ true
+    pub bytes_none : k ≡ 0 → same part text ≡ same (take k part) (take k text) → same part text ≡ true
     unfolding same
-    bytes-none z inv = inv ∙ ap (λ j. same (take j part) (take j text)) z
+    bytes_none z inv = inv ∙ ap (λ j. same (take j part) (take j text)) z
 
-  pub bytes-all : (text : List ℕ) → n ≡ length text → same part text ≡ same (take n part) (take n text)
-  bytes-all text l = sym (ap₂ same (take_all n part (omega (arith, part_length))) (take_all n text (omega arith)))
+  pub bytes_all : (text : List ℕ) → n ≡ length text → same part text ≡ same (take n part) (take n text)
+  bytes_all text l = sym (ap₂ same (take_all n part (omega (arith, part_length))) (take_all n text (omega arith)))
 
 module _ (e : Entry) (buffer text : List ℕ) where
-  pub shows-held : e.start + e.length ≤ length buffer → shows e buffer text ≡ same (take e.length (drop e.start buffer)) text
-  shows-held h = rw (le-leb (e.start + e.length) (length buffer) h)
+  pub shows_held : e.start + e.length ≤ length buffer → shows e buffer text ≡ same (take e.length (drop e.start buffer)) text
+  shows_held h = rw (le-leb (e.start + e.length) (length buffer) h)
 
-  pub shows-short : length buffer < e.start + e.length → shows e buffer text ≡ false
-  shows-short h = rw (lt-leb (e.start + e.length) (length buffer) h)
+  pub shows_short : length buffer < e.start + e.length → shows e buffer text ≡ false
+  shows_short h = rw (lt-leb (e.start + e.length) (length buffer) h)
 
-  pub shows-other : (e.length ≡ length text → ⊥) → shows e buffer text ≡ false
-  shows-other n =
+  pub shows_other : (e.length ≡ length text → ⊥) → shows e buffer text ≡ false
+  shows_other n =
       cases (leb (e.start + e.length) (length buffer))
       (λ f. let h = leb-true (e.start + e.length) (length buffer) f in
-      shows-held h ∙ same_length (take e.length (drop e.start buffer)) text (λ q. n (sym (part_length e.start e.length buffer h) ∙ q)))
+      shows_held h ∙ same_length (take e.length (drop e.start buffer)) text (λ q. n (sym (part_length e.start e.length buffer h) ∙ q)))
       (λ f. rw f)
 
 -- ---- one entry on, among the first `count` of `there` slots from `first` on
@@ -87,42 +87,42 @@ module _ (count first there : ℕ) (slots : List (List ℕ)) where
   abbrev pub slot_at : ℕ → Entry
   slot_at i = entry_of (get_or slots (first + i) [])
 
-  among-length : (i : ℕ) → i < count → i < there → first + i < length slots → i < length among
-  among-length i c t l = simp (length-take, length-map, length-drop) (omega arith)
+  among_length : (i : ℕ) → i < count → i < there → first + i < length slots → i < length among
+  among_length i c t l = simp (length-take, length-map, length-drop) (omega arith)
 
-  among-on : (i : ℕ) → i < count → i < there → first + i < length slots → drop i among ≡ slot_at i ∷ drop (i + 1) among
-  among-on i c t l =
+  among_on : (i : ℕ) → i < count → i < there → first + i < length slots → drop i among ≡ slot_at i ∷ drop (i + 1) among
+  among_on i c t l =
       let e : get_or among i empty ≡ slot_at i =
       get_or-take count (map entry_of (take there (drop first slots))) i empty c ∙ get_or-map entry_of (take there (drop first slots)) i []
       ∙ ap entry_of (get_or-take there (drop first slots) i [] t ∙ get_or-drop first slots i []) in
-      drop-one among i empty (among-length i c t l) ∙ ap (λ e. e ∷ drop (i + 1) among) e
+      drop_one among i empty (among_length i c t l) ∙ ap (λ e. e ∷ drop (i + 1) among) e
 
-  among-end : (i : ℕ) → (count ≤ i) ⊎ (there ≤ i) → drop i among ≡ []
-  among-end i (inl h) = drop_of_length-le among {i = i} (simp (length-take, length-map, length-drop) (omega arith))
-  among-end i (inr h) = drop_of_length-le among {i = i} (simp (length-take, length-map, length-drop) (omega arith))
+  among_end : (i : ℕ) → (count ≤ i) ⊎ (there ≤ i) → drop i among ≡ []
+  among_end i (inl h) = drop_of_length-le among {i = i} (simp (length-take, length-map, length-drop) (omega arith))
+  among_end i (inr h) = drop_of_length-le among {i = i} (simp (length-take, length-map, length-drop) (omega arith))
 
   module _ (buffer text : List ℕ) (i : ℕ) (inv : any_shows among buffer text ≡ any_shows (drop i among) buffer text) where
-    any-on : i < count → i < there → first + i < length slots → any_shows among buffer text ≡ (shows (slot_at i) buffer text || any_shows (drop (i + 1) among) buffer text)
+    any_on : i < count → i < there → first + i < length slots → any_shows among buffer text ≡ (shows (slot_at i) buffer text || any_shows (drop (i + 1) among) buffer text)
     unfolding any_shows
-    any-on c t l = inv ∙ ap (λ es. any_shows es buffer text) (among-on i c t l)
+    any_on c t l = inv ∙ ap (λ es. any_shows es buffer text) (among_on i c t l)
 
     pub missed : i < count → i < there → first + i < length slots → shows (slot_at i) buffer text ≡ false → any_shows among buffer text ≡ any_shows (drop (i + 1) among) buffer text
-    missed c t l e = any-on c t l ∙ ap (λ b. b || any_shows (drop (i + 1) among) buffer text) e
+    missed c t l e = any_on c t l ∙ ap (λ b. b || any_shows (drop (i + 1) among) buffer text) e
 
     pub met : i < count → i < there → first + i < length slots → shows (slot_at i) buffer text ≡ true → any_shows among buffer text ≡ true
-    met c t l e = any-on c t l ∙ ap (λ b. b || any_shows (drop (i + 1) among) buffer text) e
+    met c t l e = any_on c t l ∙ ap (λ b. b || any_shows (drop (i + 1) among) buffer text) e
 
     pub none_left : (count ≤ i) ⊎ (there ≤ i) → any_shows among buffer text ≡ false
     unfolding any_shows
-    none_left h = inv ∙ ap (λ es. any_shows es buffer text) (among-end i h)
+    none_left h = inv ∙ ap (λ es. any_shows es buffer text) (among_end i h)
 
 -- all slots of a span
 pub among_all : (h : Span) (count : ℕ) (slots : List (List ℕ)) → among count h.first (length (slots_of h slots)) slots ≡ take count (slots_of h slots)
 among_all h count slots =
-    ap (λ l. take count (map entry_of l)) (ap (λ n. take n (drop h.first slots)) (slots_length h slots) ∙ take-most h.width (drop h.first slots))
+    ap (λ l. take count (map entry_of l)) (ap (λ n. take n (drop h.first slots)) (slots_length h slots) ∙ take_most h.width (drop h.first slots))
   where
-    take-most : (n : ℕ) (l : List (List ℕ)) → take (length (take n l)) l ≡ take n l
-    take-most n l = elim (dec_lt n (length l)) [
+    take_most : (n : ℕ) (l : List (List ℕ)) → take (length (take n l)) l ≡ take n l
+    take_most n l = elim (dec_lt n (length l)) [
       | yes q ↦ let m : length (take n l) ≡ n = simp length-take (omega arith) in ap (λ k. take k l) m
       | no q ↦ let m : length (take n l) ≡ length l = simp length-take (omega arith) in ap (λ k. take k l) m ∙ take-length l ∙ sym (take_all n l (omega arith))
     ]
@@ -151,18 +151,18 @@ module _ (t : Table) (buffer text : List ℕ) (k : Kept t) where
   entries_length : length entries ≡ t.count
   entries_length = length-take-le t.count t.slots (omega (arith, k.counted, k.wide))
 
-  entry-is : (n : ℕ) → n < t.count → get_or entries n empty ≡ slot_of t n
-  entry-is n h = get_or-take t.count t.slots n empty h
+  entry_is : (n : ℕ) → n < t.count → get_or entries n empty ≡ slot_of t n
+  entry_is n h = get_or-take t.count t.slots n empty h
 
-  pub repeats-iff : (repeats t buffer text ≡ true) ↔ ((n : ℕ) × (n < t.count) × (end_of t n ≤ length buffer) × (shown (found t n) buffer ≡ text))
-  repeats-iff = (
+  pub repeats_iff : (repeats t buffer text ≡ true) ↔ ((n : ℕ) × (n < t.count) × (end_of t n ≤ length buffer) × (shown (found t n) buffer ≡ text))
+  repeats_iff = (
     λ e. let r = any_some entries buffer text e in
         let h : r.0 < t.count = omega (arith, r.1, entries_length) in
-        let a = and_true _ _ (subst (λ x. shows x buffer text ≡ true) (entry-is r.0 h) r.2) in
+        let a = and_true _ _ (subst (λ x. shows x buffer text ≡ true) (entry_is r.0 h) r.2) in
         (r.0, h, leb-true (end_of t r.0) (length buffer) a.0, ap (λ x. shown x buffer) (there t r.0 k h) ∙ rw a.0 (same_eq _ text a.1)),
     λ x. let n = x.0 in
         let u = le-leb (end_of t n) (length buffer) x.2 in
         let q : take (slot_of t n).length (drop (slot_of t n).start buffer) ≡ text = sym (ap (λ y. shown y buffer) (there t n k x.1) ∙ rw u) ∙ x.3 in
         some_any entries buffer text n (omega (arith, x.1, entries_length))
-        (subst (λ y. shows y buffer text ≡ true) (sym (entry-is n x.1)) (true_and _ _ u (subst (λ p. same p text ≡ true) (sym q) (same_refl text)))),
+        (subst (λ y. shows y buffer text ≡ true) (sym (entry_is n x.1)) (true_and _ _ u (subst (λ p. same p text ≡ true) (sym q) (same_refl text)))),
   )

@@ -30,36 +30,36 @@ module _ (h : Span) (xs : List (List ℕ)) where
   slots_length = length-map (take h.width (drop h.first xs)) entry_of
 
   -- none beyond the last
-  pub slot-none : (n : ℕ) → length (slots_of h xs) ≤ n → get_or (slots_of h xs) n empty ≡ empty
-  slot-none n l = get_or-eq_default (slots_of h xs) empty l
+  pub slot_none : (n : ℕ) → length (slots_of h xs) ≤ n → get_or (slots_of h xs) n empty ≡ empty
+  slot_none n l = get_or-eq_default (slots_of h xs) empty l
 
   -- none where the array ends before the span; as many as there are behind its start; or all
-  pub slots-before : length xs < h.first → 0 ≡ length (slots_of h xs)
-  slots-before l = let d = length-drop h.first xs in let k = length-take h.width (drop h.first xs) in omega (arith, slots_length, d, k)
+  pub slots_before : length xs < h.first → 0 ≡ length (slots_of h xs)
+  slots_before l = let d = length-drop h.first xs in let k = length-take h.width (drop h.first xs) in omega (arith, slots_length, d, k)
 
-  pub slots-behind : h.first ≤ length xs → length xs - h.first < h.width → length xs - h.first ≡ length (slots_of h xs)
-  slots-behind f l = let d = length-drop h.first xs in let k = length-take h.width (drop h.first xs) in omega (arith, slots_length, d, k)
+  pub slots_behind : h.first ≤ length xs → length xs - h.first < h.width → length xs - h.first ≡ length (slots_of h xs)
+  slots_behind f l = let d = length-drop h.first xs in let k = length-take h.width (drop h.first xs) in omega (arith, slots_length, d, k)
 
-  pub slots-all : h.first ≤ length xs → h.width ≤ length xs - h.first → h.width ≡ length (slots_of h xs)
-  slots-all f l = let d = length-drop h.first xs in let k = length-take h.width (drop h.first xs) in omega (arith, slots_length, d, k)
+  pub slots_all : h.first ≤ length xs → h.width ≤ length xs - h.first → h.width ≡ length (slots_of h xs)
+  slots_all f l = let d = length-drop h.first xs in let k = length-take h.width (drop h.first xs) in omega (arith, slots_length, d, k)
 
   -- a number that is there
-  pub slot-there : (n : ℕ) → n < length (slots_of h xs) → (n < h.width) × (h.first + n < length xs)
-  slot-there n l = let d = length-drop h.first xs in let k = length-take h.width (drop h.first xs) in (omega (arith, slots_length, d, k), omega (arith, slots_length, d, k))
+  pub slot_there : (n : ℕ) → n < length (slots_of h xs) → (n < h.width) × (h.first + n < length xs)
+  slot_there n l = let d = length-drop h.first xs in let k = length-take h.width (drop h.first xs) in (omega (arith, slots_length, d, k), omega (arith, slots_length, d, k))
 
   -- one put in
-  pub slot-set : (n : ℕ) (v : List ℕ) → n < h.width → slots_of h (set xs (h.first + n) v) ≡ set (slots_of h xs) n (entry_of v)
-  slot-set n v l =
+  pub slot_set : (n : ℕ) (v : List ℕ) → n < h.width → slots_of h (set xs (h.first + n) v) ≡ set (slots_of h xs) n (entry_of v)
+  slot_set n v l =
       ap (λ d. map entry_of (take h.width d)) (drop-set-add h.first xs n v)
       ∙ ap (map entry_of) (take-set-lt h.width (drop h.first xs) n v l)
       ∙ map_set (take h.width (drop h.first xs)) n v
 
   -- one put in behind them, or before them
-  slot-before : (i : ℕ) (v : List ℕ) → i < h.first → slots_of h (set xs i v) ≡ slots_of h xs
-  slot-before i v l = ap (λ d. map entry_of (take h.width d)) (drop-set-lt h.first xs i v l)
+  slot_before : (i : ℕ) (v : List ℕ) → i < h.first → slots_of h (set xs i v) ≡ slots_of h xs
+  slot_before i v l = ap (λ d. map entry_of (take h.width d)) (drop-set-lt h.first xs i v l)
 
-  slot-behind : (n : ℕ) (v : List ℕ) → h.width ≤ n → slots_of h (set xs (h.first + n) v) ≡ slots_of h xs
-  slot-behind n v l =
+  slot_behind : (n : ℕ) (v : List ℕ) → h.width ≤ n → slots_of h (set xs (h.first + n) v) ≡ slots_of h xs
+  slot_behind n v l =
       ap (λ d. map entry_of (take h.width d)) (drop-set-add h.first xs n v)
       ∙ ap (map entry_of) (take-set-le h.width (drop h.first xs) n v l)
 
@@ -67,9 +67,9 @@ module _ (h : Span) (xs : List (List ℕ)) where
 pub slot_other : (h k : Span) (xs : List (List ℕ)) (n : ℕ) (v : List ℕ) → n < h.width → are_apart h k ≡ true → slots_of k (set xs (h.first + n) v) ≡ slots_of k xs
 slot_other h k xs n v l a =
     cases (leb (h.first + h.width) k.first)
-    (λ e. let g = leb-true (h.first + h.width) k.first e in slot-before k xs (h.first + n) v (omega (arith, g)))
+    (λ e. let g = leb-true (h.first + h.width) k.first e in slot_before k xs (h.first + n) v (omega (arith, g)))
     (λ e.
     let f : leb (k.first + k.width) h.first ≡ true = sym (ap (λ b. b || leb (k.first + k.width) h.first) e) ∙ a in
     let g = leb-true (k.first + k.width) h.first f in
     let m : h.first + n ≡ k.first + (h.first + n - k.first) = omega (arith, g) in
-    ap (λ i. slots_of k (set xs i v)) m ∙ slot-behind k xs (h.first + n - k.first) v (omega (arith, g)))
+    ap (λ i. slots_of k (set xs i v)) m ∙ slot_behind k xs (h.first + n - k.first) v (omega (arith, g)))

@@ -11,7 +11,7 @@ use native.Mathlib.Omega.{arith}
 use borrow.Author.Tests.{ltb-true, leb-true, leb-false, lt-ltb, le-ltb, le-leb, lt-leb}
 use Rattle.refusal.specs.Pick.{pick}
 use Rattle.refusal.proofs.Laws.Booleans.{and_true, and_false_right, cases}
-use Rattle.refusal.proofs.Laws.Lists.{drop-take}
+use Rattle.refusal.proofs.Laws.Lists.{drop_take}
 use Rattle.tables.specs.Tables.{Table, empty, opened, fits, storing, appended, entered, row_of, view, placed, kept}
 use Rattle.tables.specs.declared.slots.Entry.{Entry}
 
@@ -21,11 +21,11 @@ module _ (count width used n capacity : ℕ) where
   pub no_slot : width ≤ count → false ≡ (ltb count width && leb (used + n) capacity)
   no_slot h = rw (le-ltb count width h)
 
-  pub no-capacity : capacity < used + n → false ≡ (ltb count width && leb (used + n) capacity)
-  no-capacity h = sym (ap (λ b. ltb count width && b) (lt-leb (used + n) capacity h) ∙ and_false_right (ltb count width))
+  pub no_capacity : capacity < used + n → false ≡ (ltb count width && leb (used + n) capacity)
+  no_capacity h = sym (ap (λ b. ltb count width && b) (lt-leb (used + n) capacity h) ∙ and_false_right (ltb count width))
 
-  pub space-is : count < width → used ≤ capacity → leb n (capacity - used) ≡ (ltb count width && leb (used + n) capacity)
-  space-is h g =
+  pub space_is : count < width → used ≤ capacity → leb n (capacity - used) ≡ (ltb count width && leb (used + n) capacity)
+  space_is h g =
       rw (lt-ltb count width h)
       (cases (leb n (capacity - used))
       (λ e. let l = leb-true n (capacity - used) e in e ∙ sym (le-leb (used + n) capacity (omega arith)))
@@ -35,19 +35,19 @@ module _ (count width used n capacity : ℕ) where
 
 module _ (t : Table) (n capacity late : ℕ) where
   -- 8 first
-  pub storing-full : fits t n capacity ≡ false → 8 ≡ storing t n capacity late
-  storing-full f = rw f
+  pub storing_full : fits t n capacity ≡ false → 8 ≡ storing t n capacity late
+  storing_full f = rw f
 
-  pub storing-late : fits t n capacity ≡ true → late ≡ storing t n capacity late
-  storing-late f = rw f
+  pub storing_late : fits t n capacity ≡ true → late ≡ storing t n capacity late
+  storing_late f = rw f
 
   -- nothing is refused only if it fits
-  pub storing-fits : storing t n capacity late ≡ 0 → fits t n capacity ≡ true
-  storing-fits z = cases (fits t n capacity) (λ f. f) (λ f. absurd (let e = storing-full f in omega (arith, e, z)))
+  pub storing_fits : storing t n capacity late ≡ 0 → fits t n capacity ≡ true
+  storing_fits z = cases (fits t n capacity) (λ f. f) (λ f. absurd (let e = storing_full f in omega (arith, e, z)))
 
   -- and then the payload lies within the buffer
-  pub storing-within : storing t n capacity late ≡ 0 → t.used + n ≤ capacity
-  storing-within z = leb-true (t.used + n) capacity (and_true (ltb t.count t.width) (leb (t.used + n) capacity) (storing-fits z)).1
+  pub storing_within : storing t n capacity late ≡ 0 → t.used + n ≤ capacity
+  storing_within z = leb-true (t.used + n) capacity (and_true (ltb t.count t.width) (leb (t.used + n) capacity) (storing_fits z)).1
 
 -- ---- tables that an opening and calls can reach: entries one behind the other, the rest of the slots as opened
 
@@ -128,7 +128,7 @@ part_same : (s l u : ℕ) (b x : List ℕ) → s + l ≤ u → u ≤ length b �
 part_same s l u b x h g =
     let n : length (take u b) ≡ u = length-take-le u b g in
     let m : length (drop s (take u b)) ≡ u - s = length-drop s (take u b) ∙ ap (λ j. j - s) n in
-    ap (take l) (drop-append-le s (take u b) x (omega arith)) ∙ take-append-le l (drop s (take u b)) x (omega arith) ∙ ap (take l) (drop-take s u b) ∙ take-take l (u - s) (drop s b) (omega arith)
+    ap (take l) (drop-append-le s (take u b) x (omega arith)) ∙ take-append-le l (drop s (take u b)) x (omega arith) ∙ ap (take l) (drop_take s u b) ∙ take-take l (u - s) (drop s b) (omega arith)
 
 -- so earlier entries keep their payloads
 rows_same : (es : List Entry) (s u : ℕ) (b x : List ℕ) → Chained s es u → u ≤ length b → map (row_of (take u b ++ x)) es ≡ map (row_of b) es

@@ -8,7 +8,7 @@ use lib.Seq.{length-take-le}
 use native.Mathlib.Omega.{arith}
 use borrow.Author.Tests.{not-true, not-false}
 use Rattle.refusal.specs.Same.{same}
-use Rattle.refusal.proofs.Laws.Lists.{part-rest}
+use Rattle.refusal.proofs.Laws.Lists.{part_rest}
 use Rattle.symbols.specs.Charset.{lower}
 use Rattle.bech32.specs.Text.{is_name}
 use Rattle.bech32.specs.Calls.{padded}
@@ -55,7 +55,7 @@ returns-then-not-is_lowered-2 c = let f = c.args.front.now in
     let b = c.args.back.now in
     let h = c.args.human.now in
     let t : same (map lower (take (length f) h)) f ≡ true = sym c.is_lowered.ensures ∙ not-false _ c.if-not-is_lowered.false-raw in
-    let u : same (map lower (drop (length h - length b) h)) b ≡ false = rw (part-rest (length h - length b) h) at (sym c.is_lowered-2.ensures ∙ not-true _ c.if-not-is_lowered-2.true-raw) in
+    let u : same (map lower (drop (length h - length b) h)) b ≡ false = rw (part_rest (length h - length b) h) at (sym c.is_lowered-2.ensures ∙ not-true _ c.if-not-is_lowered-2.true-raw) in
     let z : name_between f b (map lower h) ≡ [] = name_is f b h (omega arith) ∙ rw (t, u) in
     record {
       bytes = c.nameless-then-not-is_lowered-2.ensures.bytes ∙ ap padded (sym z);
@@ -82,7 +82,7 @@ returns-then-not-is_name c = let f = c.args.front.now in
     let h = c.args.human.now in
     let s = shortened (map lower (between f b h)) in
     let t : same (map lower (take (length f) h)) f ≡ true = sym c.is_lowered.ensures ∙ not-false _ c.if-not-is_lowered.false-raw in
-    let u : same (map lower (drop (length h - length b) h)) b ≡ true = rw (part-rest (length h - length b) h) at (sym c.is_lowered-2.ensures ∙ not-false _ c.if-not-is_lowered-2.false-raw) in
+    let u : same (map lower (drop (length h - length b) h)) b ≡ true = rw (part_rest (length h - length b) h) at (sym c.is_lowered-2.ensures ∙ not-false _ c.if-not-is_lowered-2.false-raw) in
     let n : length h - length b - length f ≡ length h - length f - length b = omega arith in
     let p : c.lower_name-name.result.bytes ≡ padded s = rw n at c.lower_name-name.ensures.bytes in
     let q : c.lower_name-name.result.length ≡ length s = rw n at c.lower_name-name.ensures.length in
@@ -99,7 +99,7 @@ returns c = let f = c.args.front.now in
     let h = c.args.human.now in
     let s = shortened (map lower (between f b h)) in
     let t : same (map lower (take (length f) h)) f ≡ true = sym c.is_lowered.ensures ∙ not-false _ c.if-not-is_lowered.false-raw in
-    let u : same (map lower (drop (length h - length b) h)) b ≡ true = rw (part-rest (length h - length b) h) at (sym c.is_lowered-2.ensures ∙ not-false _ c.if-not-is_lowered-2.false-raw) in
+    let u : same (map lower (drop (length h - length b) h)) b ≡ true = rw (part_rest (length h - length b) h) at (sym c.is_lowered-2.ensures ∙ not-false _ c.if-not-is_lowered-2.false-raw) in
     let n : length h - length b - length f ≡ length h - length f - length b = omega arith in
     let p : c.lower_name-name.result.bytes ≡ padded s = rw n at c.lower_name-name.ensures.bytes in
     let q : c.lower_name-name.result.length ≡ length s = rw n at c.lower_name-name.ensures.length in

@@ -11,7 +11,7 @@ use Rattle.refusal.specs.Same.{same}
 use Rattle.symbols.specs.Charset.{lower}
 use Rattle.bech32.specs.Calls.{form_of}
 use Rattle.bech32.specs.Steps.{name_at, tail_number}
-use Rattle.bech32.proofs.Laws.Parsing.{is_head, no_head, head_long, mark_none, mark-is}
+use Rattle.bech32.proofs.Laws.Parsing.{is_head, no_head, head_long, mark_none, mark_is}
 use Rattle.bech32.proofs.parsing.mark.Goals as goal
 
 pub returns-then-length-eq0 : goal.returns-then-length-eq0
@@ -36,7 +36,7 @@ returns-then-not-is_lowered c = let t = c.args.text.now in
     let r = c.name_at-name.result in
     let n : take r.length r.bytes ≡ name_at k t = ap₂ take c.name_at-name.ensures.length c.name_at-name.ensures.bytes ∙ take-append_seam (name_at k t) (replicate (32 - length (name_at k t)) 0) in
     let m : same (map lower g) (name_at k t) ≡ c.is_lowered.result = ap (same (map lower g)) (sym n) ∙ sym c.is_lowered.ensures in
-    c.number-then-not-is_lowered.ensures ∙ sym (mark-is k t e g ∙ ap (λ b. pick b (tail_number (map lower t)) 16) (m ∙ not-true c.is_lowered.result c.if-not-is_lowered.true-raw))
+    c.number-then-not-is_lowered.ensures ∙ sym (mark_is k t e g ∙ ap (λ b. pick b (tail_number (map lower t)) 16) (m ∙ not-true c.is_lowered.result c.if-not-is_lowered.true-raw))
 
 pub judge_tail-requires : goal.judge_tail-requires
 judge_tail-requires c = let t = c.args.text.now in
@@ -56,4 +56,4 @@ returns c = let t = c.args.text.now in
     let r = c.name_at-name.result in
     let n : take r.length r.bytes ≡ name_at k t = ap₂ take c.name_at-name.ensures.length c.name_at-name.ensures.bytes ∙ take-append_seam (name_at k t) (replicate (32 - length (name_at k t)) 0) in
     let m : same (map lower g) (name_at k t) ≡ c.is_lowered.result = ap (same (map lower g)) (sym n) ∙ sym c.is_lowered.ensures in
-    c.verdict_number.ensures ∙ c.judge_tail.ensures ∙ sym (mark-is k t e g ∙ ap (λ b. pick b (tail_number (map lower t)) 16) (m ∙ not-false c.is_lowered.result c.if-not-is_lowered.false-raw))
+    c.verdict_number.ensures ∙ c.judge_tail.ensures ∙ sym (mark_is k t e g ∙ ap (λ b. pick b (tail_number (map lower t)) 16) (m ∙ not-false c.is_lowered.result c.if-not-is_lowered.false-raw))

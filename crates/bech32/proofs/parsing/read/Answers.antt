@@ -18,7 +18,7 @@ use Rattle.bech32.specs.Calls.{form_of, padded, text_number}
 use Rattle.bech32.specs.Steps.{name_at, tail_number}
 use Rattle.symbols.specs.Calls.{value_at, bytes_size}
 use Rattle.symbols.specs.Steps.{symbol_in}
-use Rattle.symbols.proofs.Laws.Charset.{symbols-by}
+use Rattle.symbols.proofs.Laws.Charset.{symbols_by}
 use Rattle.symbols.proofs.Laws.Groups.{bytes_length, symbols_same}
 use Rattle.bech32.proofs.Laws.Text.{payload_symbols}
 use Rattle.bech32.proofs.Laws.Parsing.{is_head, no_head, head_long, payload_lower, number_none, number_is, tail_whole, text_is, refuses, reads_short, reads}
@@ -121,7 +121,7 @@ returns-else-out-n c = let t = c.args.text.now in
     let x : parse k t ≡ parsed (name_at k t) p = text_is k t e z ∙ ap (λ vs. parsed (name_at k t) (bytes vs)) y in
     let o = c.args.out.now in
     let f : filled (bytes (map (symbol_in c.values-table.result) d)) o ≡ p ++ drop (length p) o =
-    ap (λ x. filled (bytes x) o) (symbols-by c.values-table.result c.values-table.ensures (length t - 6 - (at + 1)) (at + 1) t (λ i. (c.shared_slice_known-1.given i).fits) ∙ symbols_same value_at d (ap are_symbols (sym y) ∙ payload_symbols (map lower t) (tail_whole t l z))) ∙ rw (le-ltb (length o) (length p) (omega arith)) in
+    ap (λ x. filled (bytes x) o) (symbols_by c.values-table.result c.values-table.ensures (length t - 6 - (at + 1)) (at + 1) t (λ i. (c.shared_slice_known-1.given i).fits) ∙ symbols_same value_at d (ap are_symbols (sym y) ∙ payload_symbols (map lower t) (tail_whole t l z))) ∙ rw (le-ltb (length o) (length p) (omega arith)) in
     let q = reads k t o (name_at k t) p x (omega arith) in
     record {
       answer = ap accepted (sym v) ∙ q.0;

@@ -11,7 +11,7 @@ use Rattle.bech32.specs.Text.{in_case}
 use Rattle.bech32.specs.Calls.{form_of}
 use Rattle.bech32.proofs.Laws.Writing.{front_next, translated}
 use Rattle.bech32.proofs.Laws.Human.{case_length}
-use Rattle.symbols.proofs.Laws.Groups.{symbol-at}
+use Rattle.symbols.proofs.Laws.Groups.{symbol_at}
 use Rattle.symbols.proofs.Laws.Maps.{map_id}
 use Rattle.symbols.specs.Checksum.{are_symbols}
 use Rattle.bech32.proofs.writing.translate.Goals as goal
@@ -25,7 +25,7 @@ character-requires c = let out₀ = c.args.out.now in
     let e = front_next (in_case k (map character_of out₀)) c.loop-i.out out₀ c.loop-i.i c.loop-i.invariant.2 (omega (arith, case_length k (map character_of out₀), length-map out₀ character_of)) in
     record {
       characters = c.requires.characters;
-      v_bound = rw e (symbol-at (λ v. v) out₀ c.loop-i.i (ap are_symbols (map_id out₀) ∙ c.requires.out_value) (omega arith));
+      v_bound = rw e (symbol_at (λ v. v) out₀ c.loop-i.i (ap are_symbols (map_id out₀) ∙ c.requires.out_value) (omega arith));
     }
 
 pub loop-i-preserved : goal.loop-i-preserved

@@ -6,7 +6,7 @@ use native.Mathlib.Omega.{arith}
 use borrow.Author.Tests.{not-true, not-false}
 use Rattle.bech32.specs.Text.{text_of}
 use Rattle.bech32.specs.Calls.{form_of}
-use Rattle.bech32.proofs.Laws.Writing.{name_short, form_short, human_size, text_length, writes-not, writes_short, writes, writable, nameless, too_long}
+use Rattle.bech32.proofs.Laws.Writing.{name_short, form_short, human_size, text_length, writes_not, writes_short, writes, writable, nameless, too_long}
 use Rattle.bech32.proofs.writing.write.Goals as goal
 
 pub returns-then-not-is_name : goal.returns-then-not-is_name
@@ -14,7 +14,7 @@ returns-then-not-is_name c = let whole = let k = form_of c.args.kind in
     let name = c.args.name.now in
     let payload = c.args.payload.now in
     let o = c.args.out.now in
-    writes-not k name payload o (nameless k name payload o (sym c.is_name.ensures ∙ not-true c.is_name.result c.if-not-is_name.true-raw)) in
+    writes_not k name payload o (nameless k name payload o (sym c.is_name.ensures ∙ not-true c.is_name.result c.if-not-is_name.true-raw)) in
     record { answer = whole.0; buffer = whole.1 }
 
 pub returns-then-payload-gt-LONGEST : goal.returns-then-payload-gt-LONGEST
@@ -22,7 +22,7 @@ returns-then-payload-gt-LONGEST c = let whole = let k = form_of c.args.kind in
     let name = c.args.name.now in
     let payload = c.args.payload.now in
     let o = c.args.out.now in
-    writes-not k name payload o (too_long k name payload o (omega (arith, text_length k name payload))) in
+    writes_not k name payload o (too_long k name payload o (omega (arith, text_length k name payload))) in
     record { answer = whole.0; buffer = whole.1 }
 
 pub human_length-requires : goal.human_length-requires
@@ -43,7 +43,7 @@ returns-then-n-gt-LONGEST c = let whole = let k = form_of c.args.kind in
     let o = c.args.out.now in
     let n : length (text_of k name payload) ≡ c.human_length.result + c.symbols_length.result + 7 =
     text_length k name payload ∙ ap₂ (λ x y. x + y + 7) (human_size k name ∙ sym c.human_length.ensures) (sym c.symbols_length.ensures) in
-    writes-not k name payload o (too_long k name payload o (omega arith)) in
+    writes_not k name payload o (too_long k name payload o (omega arith)) in
     record { answer = whole.0; buffer = whole.1 }
 
 pub returns-then-out-n : goal.returns-then-out-n

@@ -5,7 +5,7 @@ use lib.ListN.{length, set, length-set, length-drop}
 use native.Mathlib.Omega.{arith}
 use lib.Seq.{length-take-le}
 use borrow.Rule.Slice.PartMut.{same_len_mid}
-use Rattle.refusal.proofs.Laws.Lists.{part-rest}
+use Rattle.refusal.proofs.Laws.Lists.{part_rest}
 use Rattle.bech32.specs.Text.{human_part}
 use Rattle.bech32.specs.Calls.{form_of}
 use Rattle.bech32.proofs.Laws.Text.{form_plain}
@@ -68,7 +68,7 @@ put_characters-requires c = let k = form_of c.args.kind in
     let b = set c.put_human.new.out c.human_length-h.result 49 in
     record {
       payload_len_bound = c.requires.payload_len_bound;
-      payload_in_bounds = rw (part-rest (c.human_length-h.result + 1) b) (simp (length-drop, length-set) (omega (arith, c.put_human.auto.out, c.requires.payload_in_bounds)));
+      payload_in_bounds = rw (part_rest (c.human_length-h.result + 1) b) (simp (length-drop, length-set) (omega (arith, c.put_human.auto.out, c.requires.payload_in_bounds)));
     }
 
 pub shape_of-out : goal.shape_of-out

@@ -17,7 +17,7 @@ use Rattle.intake.specs.Fronts.{input_behind, OneByteSays, Answered}
 use Rattle.intake.specs.Intake.{intake_of, stored_in}
 use Rattle.client_receiving.specs.Texts.{lent, Answers}
 use Rattle.client_receiving.proofs.Laws.Texts.{none_lent}
-use Rattle.client_receiving.proofs.Laws.Receiving.{out-of-turn, no_room, with-room, untaken_input}
+use Rattle.client_receiving.proofs.Laws.Receiving.{out_of_turn, no_room, with_room, untaken_input}
 use borrow.Author.Rules.{rules}
 use Rattle.client_receiving.proofs.receiving.receive.Statement.{statement}
 use Rattle.client_receiving.proofs.receiving.receive.Tie as tie
@@ -38,7 +38,7 @@ returns c =
     let n = sym (ap verdict_said q.1) ∙ c.before.before.before.before.turn_two.ensures in
     let i = intake_of client a.session a.slots.now a.header-slots.now a.input.now in
     let f = c.leave.ensures.0 client a.slots.now a.header-slots.now a.input.now in (
-      (λ b. let l = lent b a.errors.now a.stanzas.now a.returned.now in f l a.out.now ∙ out-of-turn i l a.chunk.now a.out.now (number_of q.0.0) n (number_not_zero q.0.0)),
+      (λ b. let l = lent b a.errors.now a.stanzas.now a.returned.now in f l a.out.now ∙ out_of_turn i l a.chunk.now a.out.now (number_of q.0.0) n (number_not_zero q.0.0)),
       (
         untaken_input a.session a.slots.now a.header-slots.now a.input.now (number_of q.0.0) _ a.out.now c.leave.result (f (lent none_lent [] [] []) a.out.now),
         c.leave.ensures.1,
@@ -239,7 +239,7 @@ returns-6 c =
     let m = h.new in
     let answers : (b : BuffersOne) → Answers h.result m.1.1.1.1.0 hs o m.1.1.1.0 (lent b m.1.1.1.1.1.1.0 m.1.1.1.1.1.1.1.0 m.1.1.1.1.1.1.1.1.0) out m.1.1.1.1.1.1.1.1.1.0 (taken client (intake_of client a.session xs hs o) (lent b a.errors.now a.stanzas.now a.returned.now) x) = λ b. subst (λ i. Answers h.result m.1.1.1.1.0 hs i m.1.1.1.0 (lent b m.1.1.1.1.1.1.0 m.1.1.1.1.1.1.1.0 m.1.1.1.1.1.1.1.1.0) out m.1.1.1.1.1.1.1.1.1.0 (taken client (intake_of client a.session xs hs i) (lent b a.errors.now a.stanzas.now a.returned.now) x)) (input ∙ same) (h.ensures.0 b) in (
       λ b. let l = lent b a.errors.now a.stanzas.now a.returned.now in
-          with-room (intake_of client a.session xs hs o) l x out n (ap (λ i. is_held (taken client (intake_of client a.session xs hs i) l x) out) (sym (input ∙ same)) ∙ sym (c.before.before.before.before.before.before.before.before.before.before.before.before.before.before.before.before.has_room.ensures l (record { errors = refl; stanzas = refl; returned = refl }) (sym n)) ∙ not-false c.before.before.before.before.before.before.before.before.before.before.before.before.before.before.before.before.has_room.result c.before.before.before.before.before.before.before.before.before.before.before.before.before.before.before.if1.false) h.result m.1.1.1.1.0 hs o m.1.1.1.0 (lent b m.1.1.1.1.1.1.0 m.1.1.1.1.1.1.1.0 m.1.1.1.1.1.1.1.1.0) m.1.1.1.1.1.1.1.1.1.0 (answers b),
+          with_room (intake_of client a.session xs hs o) l x out n (ap (λ i. is_held (taken client (intake_of client a.session xs hs i) l x) out) (sym (input ∙ same)) ∙ sym (c.before.before.before.before.before.before.before.before.before.before.before.before.before.before.before.before.has_room.ensures l (record { errors = refl; stanzas = refl; returned = refl }) (sym n)) ∙ not-false c.before.before.before.before.before.before.before.before.before.before.before.before.before.before.before.before.has_room.result c.before.before.before.before.before.before.before.before.before.before.before.before.before.before.before.if1.false) h.result m.1.1.1.1.0 hs o m.1.1.1.0 (lent b m.1.1.1.1.1.1.0 m.1.1.1.1.1.1.1.0 m.1.1.1.1.1.1.1.1.0) m.1.1.1.1.1.1.1.1.1.0 (answers b),
       ((answers none_lent).says.input, h.ensures.1),
     )
 

@@ -4,7 +4,7 @@ use mathlib.Core.Path.{sym, ap, ap₂, ◌∙◌, subst}
 use lib.ListN.{length, take, length-append}
 use lib.Seq.{length-take-le}
 use native.Mathlib.Omega.{arith}
-use Rattle.refusal.proofs.Laws.Lists.{part-rest}
+use Rattle.refusal.proofs.Laws.Lists.{part_rest}
 use Rattle.session.specs.Session.{session_of}
 use Rattle.chunks.specs.Chunks.{is_held}
 use Rattle.client_room.specs.Room.{stanza_ahead}
@@ -58,7 +58,7 @@ take-front-requires c κs =
     let e = joined_front a.input.now r _ _ a.kept a.k i k (c.before.before.before.before.before.before.before.before.before.put-together.ensures i (omega (arith, p.0.2, k))) in (
       (p.0.0, omega (arith, ap length e ∙ length-append (take a.kept a.input.now) r ∙ ap₂ ◌+◌ (length-take-le a.kept a.input.now i) k, p.0.2), p.0.3),
       λ b.
-          ap₂ (λ t x. is_held (stanza_ahead (session_of a.session a.slots.now a.header-slots.now) (lent b a.errors.now a.stanzas.now a.returned.now) t x) a.out.now) e (part-rest a.k a.chunk.now)
+          ap₂ (λ t x. is_held (stanza_ahead (session_of a.session a.slots.now a.header-slots.now) (lent b a.errors.now a.stanzas.now a.returned.now) t x) a.out.now) e (part_rest a.k a.chunk.now)
           ∙ p.1 b,
     )
 
@@ -87,7 +87,7 @@ returns c =
     let e = joined_front a.input.now r _ _ a.kept a.k i k (c.before.before.before.before.before.before.before.before.before.before.before.before.before.before.before.before.before.before.before.before.put-together.ensures i (omega (arith, p.0.2, k))) in
     let f = c.before.before.before.before.before.before.before.before.before.before.take-front in (
       (λ b. subst (λ t. Answers f.result f.new.1.1.1.1.0 a.header-slots.now a.input.now f.new.1.1.1.0 (lent b f.new.1.1.1.1.1.1.0 f.new.1.1.1.1.1.1.1.0 f.new.1.1.1.1.1.1.1.1.0) a.out.now f.new.1.1.1.1.1.1.1.1.1.0 t)
-          (ap₂ (λ t x. stanza_ahead (session_of a.session a.slots.now a.header-slots.now) (lent b a.errors.now a.stanzas.now a.returned.now) t x) e (part-rest a.k a.chunk.now)) (f.ensures.0 b)),
+          (ap₂ (λ t x. stanza_ahead (session_of a.session a.slots.now a.header-slots.now) (lent b a.errors.now a.stanzas.now a.returned.now) t x) e (part_rest a.k a.chunk.now)) (f.ensures.0 b)),
       f.ensures.1,
     )
 

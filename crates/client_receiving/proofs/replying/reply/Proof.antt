@@ -12,7 +12,7 @@ use Rattle.client_receiving.specs.Replying.{answered_with}
 use Rattle.client_receiving.specs.Texts.{lent}
 use Rattle.client_receiving.proofs.Laws.Texts.{none_lent}
 use Rattle.client_receiving.proofs.Laws.Receiving.{untaken_input}
-use Rattle.client_receiving.proofs.Laws.Replying.{reply-refused, reply-fits, back_none}
+use Rattle.client_receiving.proofs.Laws.Replying.{reply_refused, reply_fits, back_none}
 use borrow.Author.Rules.{rules}
 use Rattle.client_receiving.proofs.replying.reply.Statement.{statement}
 use Rattle.client_receiving.proofs.replying.reply.Tie as tie
@@ -36,7 +36,7 @@ reply-ahead-requires : tie.Need-reply-ahead-requires
 reply-ahead-requires c κs =
     let a = c.before.before.before.before.before.before.before.before.before.before.before.before.before.before.before.before.before.before.args in
     let n = c.before.before.before.before.before.before.before.before.before.before.sized2.given.0.0 in
-    let z = reply-fits (intake_of client a.session a.slots.now a.header-slots.now a.input.now) (lent none_lent [] [] []) a.response a.body.now a.out.now n
+    let z = reply_fits (intake_of client a.session a.slots.now a.header-slots.now a.input.now) (lent none_lent [] [] []) a.response a.body.now a.out.now n
     (sym (ap said c.before.before.before.before.before.before.before.before.before.before.sized2.given.1) ∙ c.before.before.before.before.before.before.before.before.before.before.before.before.reply-size.ensures) in
     (z.writable, z.size, search rules)
 
@@ -62,7 +62,7 @@ returns c =
     let h = sym (ap said c.before.before.before.before.before.before.before.before.before.before.before.before.before.before.before.before.before.before.before.sized2.given.1) ∙ c.before.before.before.before.before.before.before.before.before.before.before.before.before.before.before.before.before.before.before.before.before.reply-size.ensures in
     let f = c.before.before.before.before.before.before.before.before.reply-ahead in (
       (λ b. let l = lent b a.errors.now a.stanzas.now a.returned.now in
-          let z = reply-fits i l a.response a.body.now a.out.now n h in
+          let z = reply_fits i l a.response a.body.now a.out.now n h in
           f.ensures.0 b
           ∙ ap (λ x. judged i l a.out.now (answered_with (session_of a.session xs hs) l a.response a.body.now x)) (sym (back_none a.session xs hs a.input.now z.waits (omega (arith, c.before.before.before.before.before.before.before.before.before.before.before.before.before.before.before.before.if1.true))))
           ∙ z.same),
@@ -73,7 +73,7 @@ reply-back-requires : tie.Need-reply-back-requires
 reply-back-requires c κs =
     let a = c.before.before.before.before.before.before.before.before.before.before.before.before.before.before.before.before.before.args in
     let n = c.before.before.before.before.before.before.before.before.before.sized2.given.0.0 in
-    let z = reply-fits (intake_of client a.session a.slots.now a.header-slots.now a.input.now) (lent none_lent [] [] []) a.response a.body.now a.out.now n
+    let z = reply_fits (intake_of client a.session a.slots.now a.header-slots.now a.input.now) (lent none_lent [] [] []) a.response a.body.now a.out.now n
     (sym (ap said c.before.before.before.before.before.before.before.before.before.sized2.given.1) ∙ c.before.before.before.before.before.before.before.before.before.before.before.reply-size.ensures) in
     (z.writable, z.size, search rules, z.waits)
 
@@ -86,7 +86,7 @@ returns-2 c =
     let f = c.leave.ensures.0 client xs hs a.input.now in (
       (λ b. let l = lent b a.errors.now a.stanzas.now a.returned.now in
           f l a.out.now
-          ∙ reply-refused (intake_of client a.session xs hs a.input.now) l a.response a.body.now a.out.now (number_of q.0.0) (sym (ap said q.1) ∙ c.before.before.before.before.reply-size.ensures)),
+          ∙ reply_refused (intake_of client a.session xs hs a.input.now) l a.response a.body.now a.out.now (number_of q.0.0) (sym (ap said q.1) ∙ c.before.before.before.before.reply-size.ensures)),
       (untaken_input a.session xs hs a.input.now (number_of q.0.0) _ a.out.now c.leave.result (f (lent none_lent [] [] []) a.out.now), c.leave.ensures.1),
     )
 
@@ -109,7 +109,7 @@ returns-3 c =
     let i = intake_of client a.session a.slots.now a.header-slots.now a.input.now in
     let h = sym (ap said c.before.before.before.before.before.before.before.before.before.before.before.before.before.before.before.before.before.before.sized2.given.1) ∙ c.before.before.before.before.before.before.before.before.before.before.before.before.before.before.before.before.before.before.before.before.reply-size.ensures in
     let f = c.before.before.before.before.before.before.before.before.reply-back in (
-      (λ b. f.ensures.0 b ∙ (reply-fits i (lent b a.errors.now a.stanzas.now a.returned.now) a.response a.body.now a.out.now n h).same),
+      (λ b. f.ensures.0 b ∙ (reply_fits i (lent b a.errors.now a.stanzas.now a.returned.now) a.response a.body.now a.out.now n h).same),
       f.ensures.1,
     )
 

@@ -1,4 +1,4 @@
--- Without room everything stays; else the text is received behind the response (`reply-takes`, `reply-taken`).
+-- Without room everything stays; else the text is received behind the response (`reply_takes`, `reply_taken`).
 use mathlib.Core.Path.{◌≡◌, refl, sym, ap, ◌∙◌}
 use mathlib.Core.Bool.{true, false}
 use mathlib.Core.List.{[]}
@@ -13,8 +13,8 @@ use Rattle.intake.specs.Intake.{intake_of}
 use Rattle.client_receiving.specs.Replying.{answered_with}
 use Rattle.client_receiving.specs.Texts.{lent}
 use Rattle.client_receiving.proofs.Laws.Texts.{none_lent}
-use Rattle.client_receiving.proofs.Laws.Receiving.{judged-short, judged_held, untaken_input}
-use Rattle.client_receiving.proofs.Laws.Replying.{begun_with, given_room, reply-takes, reply-taken}
+use Rattle.client_receiving.proofs.Laws.Receiving.{judged_short, judged_held, untaken_input}
+use Rattle.client_receiving.proofs.Laws.Replying.{begun_with, given_room, reply_takes, reply_taken}
 use borrow.Author.Rules.{rules}
 use Rattle.client_receiving.proofs.replying.reply_ahead.Statement.{statement}
 use Rattle.client_receiving.proofs.replying.reply_ahead.Tie as tie
@@ -38,7 +38,7 @@ returns c =
     let f = c.leave.ensures.0 client xs hs a.input.now in (
       (λ b. let l = lent b a.errors.now a.stanzas.now a.returned.now in
           f l a.out.now
-          ∙ judged-short (intake_of client a.session xs hs a.input.now) l a.out.now (answered_with (session_of a.session xs hs) l a.response a.body.now a.back.now)
+          ∙ judged_short (intake_of client a.session xs hs a.input.now) l a.out.now (answered_with (session_of a.session xs hs) l a.response a.body.now a.back.now)
           (given_room a.session c.before.before.before.before.moved.result xs hs l a.response a.body.now a.back.now a.out.now y.result false c.before.before.before.before.moved.ensures
           (y.ensures (stanza_text (response_line a.response) a.body.now) [] l (sym p.1) (record { errors = refl; stanzas = refl; returned = refl })) (not-true y.result c.before.if1.true))),
       (untaken_input a.session xs hs a.input.now 15 _ a.out.now c.leave.result (f (lent none_lent [] [] []) a.out.now), c.leave.ensures.1),
@@ -61,7 +61,7 @@ take-text-requires c κs =
     let l = lent b a.errors.now a.stanzas.now a.returned.now in
     given_room a.session c.before.before.before.before.before.before.before.before.before.before.before.before.before.before.moved.result xs hs l a.response a.body.now a.back.now a.out.now y.result true c.before.before.before.before.before.before.before.before.before.before.before.before.before.before.moved.ensures
     (y.ensures (stanza_text (response_line a.response) a.body.now) [] l (sym p.1) (record { errors = refl; stanzas = refl; returned = refl })) (not-false y.result c.before.before.before.before.before.before.before.before.before.before.before.if1.false) in
-    reply-takes a.session xs hs a.response a.body.now a.back.now a.out.now _ a.size p.0 p.1 c.before.before.before.before.before.before.begin.result
+    reply_takes a.session xs hs a.response a.body.now a.back.now a.out.now _ a.size p.0 p.1 c.before.before.before.before.before.before.begin.result
     (c.before.before.before.before.before.before.begin.ensures ∙ ap (begun_with a.size) c.before.before.before.before.before.before.before.before.before.before.before.before.before.before.moved.ensures) c.before.before.before.before.before.before.before.before.before.write.ensures.1 a.errors.now a.stanzas.now a.returned.now held a.input.now p.2
 
 same_length : tie.Need-same-length
@@ -95,7 +95,7 @@ returns-2 c =
       (λ b. let l = lent b a.errors.now a.stanzas.now a.returned.now in
           judged_held (intake_of client a.session xs hs a.input.now) l a.out.now (answered_with (session_of a.session xs hs) l a.response a.body.now a.back.now) (held b)
           f.result f.new.1.1.1.0 hs a.input.now f.new.1.1.0 _ f.new.1.1.1.1.1.1.1.1.0
-          (reply-taken a.session xs hs a.response a.body.now a.back.now a.out.now _ a.size p.0 p.1 c.before.before.before.before.before.before.before.before.before.before.before.before.before.before.before.before.before.begin.result begun c.before.before.before.before.before.before.before.before.before.before.before.before.before.before.before.before.before.before.before.before.write.ensures.1
+          (reply_taken a.session xs hs a.response a.body.now a.back.now a.out.now _ a.size p.0 p.1 c.before.before.before.before.before.before.before.before.before.before.before.before.before.before.before.before.before.begin.result begun c.before.before.before.before.before.before.before.before.before.before.before.before.before.before.before.before.before.before.before.before.write.ensures.1
           a.errors.now a.stanzas.now a.returned.now held b f.result f.new.1.1.1.0 a.input.now f.new.1.1.0 _ _ _ f.new.1.1.1.1.1.1.1.1.0 (f.ensures.0 b))),
       ((f.ensures.0 none_lent).says.input, f.ensures.1 ∙ ap (λ r. r.session.name) begun),
     )

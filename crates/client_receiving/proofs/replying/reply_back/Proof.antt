@@ -1,4 +1,4 @@
--- The store has the bytes that were kept back (`back-copied`).
+-- The store has the bytes that were kept back (`back_copied`).
 use Prim.Native.Nat.{ℕ, ◌+◌, ◌-◌}
 use mathlib.Core.Path.{sym, ap, ap₂, ◌∙◌}
 use lib.ListN.{take, drop, replicate, length-replicate}
@@ -9,7 +9,7 @@ use Rattle.chunks.specs.Chunks.{judged}
 use Rattle.intake.specs.Intake.{intake_of}
 use Rattle.client_receiving.specs.Replying.{answered_with}
 use Rattle.client_receiving.specs.Texts.{lent}
-use Rattle.client_receiving.proofs.Laws.Replying.{back_is, back-copied, back_long}
+use Rattle.client_receiving.proofs.Laws.Replying.{back_is, back_copied, back_long}
 use borrow.Author.Rules.{rules}
 use Rattle.client_receiving.proofs.replying.reply_back.Statement.{statement}
 use Rattle.client_receiving.proofs.replying.reply_back.Tie as tie
@@ -76,7 +76,7 @@ returns c =
     let kept = c.before.before.before.before.before.before.before.before.before.before.before.before.before.before.before.before.before.before.before.before.before.before.before.at-most-longest2 in
     let f = c.before.before.before.before.before.before.before.before.before.before.reply-ahead in
     let back =
-    back-copied a.input.now (replicate 8192 0) c.before.before.before.before.before.before.before.before.before.before.before.before.before.before.before.before.before.before.before.copy.new.1.0 at.result kept.result (at.result + kept.result - at.result) (omega arith) (omega (arith, at.ensures, kept.ensures, p.2))
+    back_copied a.input.now (replicate 8192 0) c.before.before.before.before.before.before.before.before.before.before.before.before.before.before.before.before.before.before.before.copy.new.1.0 at.result kept.result (at.result + kept.result - at.result) (omega arith) (omega (arith, at.ensures, kept.ensures, p.2))
     c.before.before.before.before.before.before.before.before.before.before.before.before.before.before.before.before.before.before.before.copy.ensures (omega (arith, kept.ensures, length-replicate {A = ℕ} 8192 0))
     ∙ ap₂ (λ k i. take k (drop i a.input.now)) kept.ensures at.ensures ∙ sym (back_is a.session xs hs a.input.now p.3) in (
       (λ b. let l = lent b a.errors.now a.stanzas.now a.returned.now in

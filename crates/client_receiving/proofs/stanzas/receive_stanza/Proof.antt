@@ -1,4 +1,4 @@
--- Each step of the code is a part of the definition (`received-from`), over the text's own arguments and body.
+-- Each step of the code is a part of the definition (`received_from`), over the text's own arguments and body.
 use mathlib.Core.Path.{ap, ap₂, ◌∙◌}
 use borrow.Author.Rules.{rules}
 use Rattle.refusal.specs.Verdict.{verdict_said}
@@ -8,7 +8,7 @@ use Rattle.session.specs.Tables.{tables_in}
 use Rattle.session.specs.Session.{session_of, carried_by}
 use Rattle.conversation.specs.PhaseTwo.{buffers_of}
 use Rattle.conversation.specs.ReceivingTwo.{received_stanza}
-use Rattle.conversation.proofs.Laws.ReceivingTwo.{received-from}
+use Rattle.conversation.proofs.Laws.ReceivingTwo.{received_from}
 use Rattle.phase_two.specs.AtOnce.{at_once_said}
 use Rattle.phase_two_commands.specs.Commands.{command_said, command_of}
 use Rattle.client_room.specs.Stanzas.{taking_said}
@@ -55,7 +55,7 @@ moved-requires : tie.Need-moved-requires
 moved-requires c κs = search rules
 
 same_length : tie.Need-same-length
-same_length c = c.before.before.before.before.before.before.before.before.before.before.before.before.before.before.before.step-two.auto.1.1.1.1.1.1.1.0
+same_length c = c.before.before.before.before.before.before.before.before.before.before.before.before.before.before.before.step_two.auto.1.1.1.1.1.1.1.0
 
 same-length-2 : tie.Need-same-length-2
 same-length-2 c = search rules
@@ -78,10 +78,10 @@ returns c =
     let b = buffers_of a.errors.now a.stanzas.now a.returned.now in
     let l = c.before.before.before.before.before.before.before.before.before.before.before.before.before.before.before.before.before.before.before.before.before.before.before.before.before.before.before.before.arguments-of.result.now in
     let y = body_of c.before.before.before.before.before.before.before.before.before.before.before.before.before.before.before.before.before.before.before.before.before.before.before.before.before.before.before.lines_of.result.now in
-    let e = c.before.before.before.before.before.before.before.before.before.before.before.before.before.before.before.step-two.ensures in (
+    let e = c.before.before.before.before.before.before.before.before.before.before.before.before.before.before.before.step_two.ensures in (
       rw c.moved.ensures
-          (received-from s.machine (name_of s.name) s.screen s.phase t b a.out.now l y a.s.taken
-          (command_said c.before.before.before.before.before.before.before.before.before.before.before.before.before.before.before.before.before.before.before.before.before.before.before.before.before.parse-two.result) (verdict_said c.before.before.before.before.before.before.before.before.before.before.before.before.before.before.before.before.before.before.before.before.before.before.before.rule-two.result) (at_once_said c.before.before.before.before.before.before.before.before.before.before.before.before.before.before.before.before.before.before.before.before.before.before.answer-at-once.result) c.before.before.before.before.before.before.before.before.before.before.before.before.before.before.before.before.before.before.before.before.before.at-once-size.result (verdict_said c.before.before.before.before.before.before.before.before.before.before.before.before.before.before.before.before.before.before.before.before.check-output.result) (verdict_said c.before.before.before.before.before.before.before.before.before.before.before.before.before.before.before.step-two.result.verdict) (taking_said c.before.before.answer-to.result) c.before.phase-received-two.result _ _ _
+          (received_from s.machine (name_of s.name) s.screen s.phase t b a.out.now l y a.s.taken
+          (command_said c.before.before.before.before.before.before.before.before.before.before.before.before.before.before.before.before.before.before.before.before.before.before.before.before.before.parse-two.result) (verdict_said c.before.before.before.before.before.before.before.before.before.before.before.before.before.before.before.before.before.before.before.before.before.before.before.rule-two.result) (at_once_said c.before.before.before.before.before.before.before.before.before.before.before.before.before.before.before.before.before.before.before.before.before.before.answer-at-once.result) c.before.before.before.before.before.before.before.before.before.before.before.before.before.before.before.before.before.before.before.before.before.at-once-size.result (verdict_said c.before.before.before.before.before.before.before.before.before.before.before.before.before.before.before.before.before.before.before.before.check-output.result) (verdict_said c.before.before.before.before.before.before.before.before.before.before.before.before.before.before.before.step_two.result.verdict) (taking_said c.before.before.answer-to.result) c.before.phase-received-two.result _ _ _
           (c.before.before.before.before.before.before.before.before.before.before.before.before.before.before.before.before.before.before.before.before.before.before.before.before.before.parse-two.ensures ∙ ap (command_of s.machine l) c.before.before.before.before.before.before.before.before.before.before.before.before.before.before.before.before.before.before.before.before.before.before.before.before.before.before.body-size.ensures.0) c.before.before.before.before.before.before.before.before.before.before.before.before.before.before.before.before.before.before.before.before.before.before.before.rule-two.ensures c.before.before.before.before.before.before.before.before.before.before.before.before.before.before.before.before.before.before.before.before.before.before.answer-at-once.ensures c.before.before.before.before.before.before.before.before.before.before.before.before.before.before.before.before.before.before.before.before.before.at-once-size.ensures c.before.before.before.before.before.before.before.before.before.before.before.before.before.before.before.before.before.before.before.before.check-output.ensures
           (e.0 hs) c.before.before.answer-to.ensures c.before.phase-received-two.ensures (rw (e.0 hs) (e.1.0 hs)) (rw (e.0 hs) (e.1.1 hs)) c.before.before.before.before.before.write-answer.ensures
           ∙ ap₂ (λ l y. received_stanza (session_of s a.slots.now hs) b a.out.now l y a.s.taken) c.before.before.before.before.before.before.before.before.before.before.before.before.before.before.before.before.before.before.before.before.before.before.before.before.before.before.before.before.arguments-of.ensures (ap body_of c.before.before.before.before.before.before.before.before.before.before.before.before.before.before.before.before.before.before.before.before.before.before.before.before.before.before.before.lines_of.ensures)),

@@ -12,7 +12,7 @@ use Rattle.chunks.specs.Taking.{client, ample}
 use Rattle.chunks.specs.Uncut.{is_waiting}
 use Rattle.client_room.specs.Stanzas.{taking_said}
 use Rattle.client_receiving.specs.Texts.{lent}
-use Rattle.client_receiving.proofs.Laws.Front.{stopped_at, front-fault, front_refused, front_fits, front-settles, front-settled, front-takes, front-taken}
+use Rattle.client_receiving.proofs.Laws.Front.{stopped_at, front_fault, front_refused, front_fits, front_settles, front_settled, front_takes, front_taken}
 use borrow.Author.Rules.{rules}
 use Rattle.client_receiving.proofs.texts.take_front.Statement.{statement}
 use Rattle.client_receiving.proofs.texts.take_front.Tie as tie
@@ -98,8 +98,8 @@ returns c =
     let v = ap (λ s. is_waiting client s.phase) session ∙ sym c.before.before.before.before.before.is-waiting.ensures ∙ c.before.before.before.before.if1.true in
     let r = c.before.before.settle in (
       (λ b.
-          let may = front-settles a.session a.slots.now a.header-slots.now a.errors.now a.stanzas.now a.returned.now a.front.now a.text.now a.out.now pre.0.0 f.0.0.line f.0.0.body f.0.0.taken h y.result y.new.1.1.1.0 y.new.1.1.1.1.1.0 y.new.1.1.1.1.1.1.0 y.new.1.1.1.1.1.1.1.0 y.new.1.1.1.1.1.1.1.1.0 y.ensures.0 pre.1 _ _ _ (ap taking_said c.before.before.before.before.before.before.before.before.answer2.given.1) g.result count last written session b a.input.now v pre.0.1 pre.0.2 in
-          front-settled a.session a.slots.now a.header-slots.now a.errors.now a.stanzas.now a.returned.now a.front.now a.text.now a.out.now pre.0.0 f.0.0.line f.0.0.body f.0.0.taken h y.result y.new.1.1.1.0 y.new.1.1.1.1.1.0 y.new.1.1.1.1.1.1.0 y.new.1.1.1.1.1.1.1.0 y.new.1.1.1.1.1.1.1.1.0 y.ensures.0 pre.1 _ _ _ (ap taking_said c.before.before.before.before.before.before.before.before.answer2.given.1) g.result count last written session b r.result a.input.now r.new.1.1.1.1.0 v
+          let may = front_settles a.session a.slots.now a.header-slots.now a.errors.now a.stanzas.now a.returned.now a.front.now a.text.now a.out.now pre.0.0 f.0.0.line f.0.0.body f.0.0.taken h y.result y.new.1.1.1.0 y.new.1.1.1.1.1.0 y.new.1.1.1.1.1.1.0 y.new.1.1.1.1.1.1.1.0 y.new.1.1.1.1.1.1.1.1.0 y.ensures.0 pre.1 _ _ _ (ap taking_said c.before.before.before.before.before.before.before.before.answer2.given.1) g.result count last written session b a.input.now v pre.0.1 pre.0.2 in
+          front_settled a.session a.slots.now a.header-slots.now a.errors.now a.stanzas.now a.returned.now a.front.now a.text.now a.out.now pre.0.0 f.0.0.line f.0.0.body f.0.0.taken h y.result y.new.1.1.1.0 y.new.1.1.1.1.1.0 y.new.1.1.1.1.1.1.0 y.new.1.1.1.1.1.1.1.0 y.new.1.1.1.1.1.1.1.1.0 y.ensures.0 pre.1 _ _ _ (ap taking_said c.before.before.before.before.before.before.before.before.answer2.given.1) g.result count last written session b r.result a.input.now r.new.1.1.1.1.0 v
           (r.ensures.0 client y.new.1.1.1.0 a.header-slots.now (take g.result.written y.new.1.1.1.1.1.1.1.1.0) (lent b y.new.1.1.1.1.1.0 y.new.1.1.1.1.1.1.0 y.new.1.1.1.1.1.1.1.0) may) r.ensures.1.0),
       r.ensures.1.1 ∙ ap (λ s. s.name) session ∙ ap (λ s. s.name) y.ensures.1,
     )
@@ -118,14 +118,14 @@ take-text-requires c κs =
     let written : g.result.written ≡ c.before.before.before.before.before.before.before.before.before.before.answer2.given.0.1.1.0 = omega (arith, ap (λ r. r.written) g.ensures, ap (λ r. r.written) begun) in
     let session = ap (λ r. r.session) g.ensures in
     let v = ap (λ s. is_waiting client s.phase) session ∙ sym c.before.before.before.before.before.before.before.is-waiting.ensures ∙ c.before.before.before.before.before.before.if1.false in
-    front-takes a.session a.slots.now a.header-slots.now a.errors.now a.stanzas.now a.returned.now a.front.now a.text.now a.out.now pre.0.0 f.0.0.line f.0.0.body f.0.0.taken h y.result y.new.1.1.1.0 y.new.1.1.1.1.1.0 y.new.1.1.1.1.1.1.0 y.new.1.1.1.1.1.1.1.0 y.new.1.1.1.1.1.1.1.1.0 y.ensures.0 pre.1 _ _ _ (ap taking_said c.before.before.before.before.before.before.before.before.before.before.answer2.given.1) g.result count last written session a.input.now v pre.0.2
+    front_takes a.session a.slots.now a.header-slots.now a.errors.now a.stanzas.now a.returned.now a.front.now a.text.now a.out.now pre.0.0 f.0.0.line f.0.0.body f.0.0.taken h y.result y.new.1.1.1.0 y.new.1.1.1.1.1.0 y.new.1.1.1.1.1.1.0 y.new.1.1.1.1.1.1.1.0 y.new.1.1.1.1.1.1.1.1.0 y.ensures.0 pre.1 _ _ _ (ap taking_said c.before.before.before.before.before.before.before.before.before.before.answer2.given.1) g.result count last written session a.input.now v pre.0.2
 
 returns-2 : tie.Need-returns-2
 returns-2 c =
     let a = c.before.before.before.before.before.before.before.before.before.before.before.before.before.before.before.args in
     let n = c.before.before.before.before.first.given in
     let s = a.session in (
-      (λ b. front-fault a.session a.slots.now a.header-slots.now a.errors.now a.stanzas.now a.returned.now a.front.now a.text.now a.out.now c.before.before.before.before.before.before.before.before.before.before.before.before.before.before.before.requires.0.0 b n.0.0 c.before.moved.result c.stop.result a.input.now
+      (λ b. front_fault a.session a.slots.now a.header-slots.now a.errors.now a.stanzas.now a.returned.now a.front.now a.text.now a.out.now c.before.before.before.before.before.before.before.before.before.before.before.before.before.before.before.requires.0.0 b n.0.0 c.before.moved.result c.stop.result a.input.now
           (sym c.before.before.before.before.before.before.read.ensures ∙ ap read_said n.1)
           (rw (c.before.moved.ensures, c.before.before.phase-refused.ensures) (ap (λ r. r.session) (refusal_is s.machine (name_of s.name) s.screen s.phase (tables_in s.tables a.slots.now a.header-slots.now) (two.buffers_of a.errors.now a.stanzas.now a.returned.now) ample (number_of n.0.0))))
           (c.stop.ensures ∙ ap (stopped_at n.0.0 c.before.moved.result) c.before.before.before.before.before.before.before.begin.ensures)),
@@ -187,7 +187,7 @@ returns-4 c =
     let session = ap (λ r. r.session) g.ensures in
     let v = ap (λ s. is_waiting client s.phase) session ∙ sym c.before.before.before.before.before.before.before.before.before.before.before.before.before.before.before.before.before.before.is-waiting.ensures ∙ c.before.before.before.before.before.before.before.before.before.before.before.before.before.before.before.before.before.if1.false in
     let r = c.before.before.before.before.before.before.before.before.before.before.take-text in (
-      (λ b. front-taken a.session a.slots.now a.header-slots.now a.errors.now a.stanzas.now a.returned.now a.front.now a.text.now a.out.now pre.0.0 f.0.0.line f.0.0.body f.0.0.taken h y.result y.new.1.1.1.0 y.new.1.1.1.1.1.0 y.new.1.1.1.1.1.1.0 y.new.1.1.1.1.1.1.1.0 y.new.1.1.1.1.1.1.1.1.0 y.ensures.0 pre.1 _ _ _ (ap taking_said c.before.before.before.before.before.before.before.before.before.before.before.before.before.before.before.before.before.before.before.before.before.answer2.given.1) g.result count last written session b r.result r.new.1.1.1.0 a.input.now r.new.1.1.0 r.new.1.1.1.1.1.0 r.new.1.1.1.1.1.1.0 r.new.1.1.1.1.1.1.1.0 r.new.1.1.1.1.1.1.1.1.0 v (r.ensures.0 b)),
+      (λ b. front_taken a.session a.slots.now a.header-slots.now a.errors.now a.stanzas.now a.returned.now a.front.now a.text.now a.out.now pre.0.0 f.0.0.line f.0.0.body f.0.0.taken h y.result y.new.1.1.1.0 y.new.1.1.1.1.1.0 y.new.1.1.1.1.1.1.0 y.new.1.1.1.1.1.1.1.0 y.new.1.1.1.1.1.1.1.1.0 y.ensures.0 pre.1 _ _ _ (ap taking_said c.before.before.before.before.before.before.before.before.before.before.before.before.before.before.before.before.before.before.before.before.before.answer2.given.1) g.result count last written session b r.result r.new.1.1.1.0 a.input.now r.new.1.1.0 r.new.1.1.1.1.1.0 r.new.1.1.1.1.1.1.0 r.new.1.1.1.1.1.1.1.0 r.new.1.1.1.1.1.1.1.1.0 v (r.ensures.0 b)),
       r.ensures.1 ∙ ap (λ s. s.name) session ∙ ap (λ s. s.name) y.ensures.1,
     )
 

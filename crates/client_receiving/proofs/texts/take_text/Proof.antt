@@ -17,7 +17,7 @@ use mathlib.Core.Path.{◌≡◌, refl, sym, ap, ◌∙◌}
 use lib.ListN.{length, drop}
 use native.Mathlib.Omega.{arith}
 use borrow.Author.Rules.{rules}
-use Rattle.client_receiving.proofs.Laws.Texts.{Going, going-first, going-settles, going_settled, going-fits, going-few, going-size, going_on, going-refused}
+use Rattle.client_receiving.proofs.Laws.Texts.{Going, going_first, going_settles, going_settled, going_fits, going_few, going_size, going_on, going_refused}
 use Rattle.client_receiving.proofs.texts.take_text.Statement.{statement}
 use Rattle.client_receiving.proofs.texts.take_text.Tie as tie
 
@@ -32,7 +32,7 @@ decreases-loop text input₀ slots₀ header-slots errors₀ stanzas₀ returned
 loop-holds : tie.Need-loop-init invariant-loop decreases-loop
 loop-holds c =
     let a = c.before.before.before.before.before.before.args in
-    (refl, going-first a.so_far a.slots.now a.header-slots.now a.errors.now a.stanzas.now a.returned.now a.text.now a.out.now c.before.before.before.before.before.before.requires.few c.before.before.before.before.before.before.requires.within)
+    (refl, going_first a.so_far a.slots.now a.header-slots.now a.errors.now a.stanzas.now a.returned.now a.text.now a.out.now c.before.before.before.before.before.before.requires.few c.before.before.before.before.before.before.requires.within)
 
 sub-next-stanza : tie.Need-overflow-sub-next-stanza invariant-loop decreases-loop
 sub-next-stanza c = search rules
@@ -100,7 +100,7 @@ returns c =
     let h = sym (ap read_said c.before.before.before.before.before.before.before.before.enum_told.given.1) ∙ c.before.before.before.before.before.before.before.before.before.before.next_stanza.ensures in
     let y = c.before.before.settle in (
       (λ b.
-          let may = going-settles a.so_far a.slots.now a.header-slots.now a.errors.now a.stanzas.now a.returned.now a.text.now a.out.now q.done q.slots q.errors q.stanzas q.returned q.out q.begun q.at q.invariant.1 held b (turn_said c.before.before.before.before.before.before.before.turn-client.result) q.input (number_of c.before.before.before.before.before.before.before.before.enum_told.given.0.0) c.before.before.before.before.before.before.before.turn-client.ensures h (omega (arith, c.before.before.before.before.before.before.before.before.before.before.before.before.before.before.before.before.before.before.before.before.requires.long, ap length q.invariant.0)) in
+          let may = going_settles a.so_far a.slots.now a.header-slots.now a.errors.now a.stanzas.now a.returned.now a.text.now a.out.now q.done q.slots q.errors q.stanzas q.returned q.out q.begun q.at q.invariant.1 held b (turn_said c.before.before.before.before.before.before.before.turn-client.result) q.input (number_of c.before.before.before.before.before.before.before.before.enum_told.given.0.0) c.before.before.before.before.before.before.before.turn-client.ensures h (omega (arith, c.before.before.before.before.before.before.before.before.before.before.before.before.before.before.before.before.before.before.before.before.requires.long, ap length q.invariant.0)) in
           let says = y.ensures.0 client q.slots a.header-slots.now (take q.done.written q.out) (lent b q.errors q.stanzas q.returned)
           (subst (λ v. MaySettle client q.done.session.phase (turn_said c.before.before.before.before.before.before.before.turn-client.result) v (take (length a.text.now - q.at) (drop q.at a.text.now)) q.input) (sym aw) may) in
           subst (λ i. Answers y.result q.slots a.header-slots.now i y.new.1.1.1.1.0 (lent b q.errors q.stanzas q.returned) a.out.now q.out
@@ -161,7 +161,7 @@ same-length-10 c =
     let x = c.before.before.before.before.before.before.before.before.before.before.before.before.before.before.before.before.before.before.before.before.before.before.first.given.0.0 in
     let h = sym (ap read_said c.before.before.before.before.before.before.before.before.before.before.before.before.before.before.before.before.before.before.before.before.before.before.first.given.1) ∙ c.before.before.before.before.before.before.before.before.before.before.before.before.before.before.before.before.before.before.before.before.before.before.before.before.next_stanza.ensures in
     let y = c.before.before.before.before.before.before.before.before.before.before.before.before.before.receive-stanza in
-    going-size a.so_far a.slots.now a.header-slots.now a.errors.now a.stanzas.now a.returned.now a.text.now a.out.now q.done q.slots q.errors q.stanzas q.returned q.out q.begun q.at q.invariant.1 held x.line x.body x.taken h y.result y.new.1.1.1.0 y.new.1.1.1.1.1.0 y.new.1.1.1.1.1.1.0 y.new.1.1.1.1.1.1.1.0 y.new.1.1.1.1.1.1.1.1.0 y.ensures.0 y.auto.1.1.1.1.1.1.1.1.0
+    going_size a.so_far a.slots.now a.header-slots.now a.errors.now a.stanzas.now a.returned.now a.text.now a.out.now q.done q.slots q.errors q.stanzas q.returned q.out q.begun q.at q.invariant.1 held x.line x.body x.taken h y.result y.new.1.1.1.0 y.new.1.1.1.1.1.0 y.new.1.1.1.1.1.1.0 y.new.1.1.1.1.1.1.1.0 y.new.1.1.1.1.1.1.1.1.0 y.ensures.0 y.auto.1.1.1.1.1.1.1.1.0
 
 returns-2 : tie.Need-returns-2 invariant-loop decreases-loop
 returns-2 c =
@@ -174,7 +174,7 @@ returns-2 c =
       (λ b.
           subst (λ i. Answers c.stop.result y.new.1.1.1.0 a.header-slots.now i q.input (lent b y.new.1.1.1.1.1.0 y.new.1.1.1.1.1.1.0 y.new.1.1.1.1.1.1.1.0) a.out.now (take q.done.written q.out ++ (y.new.1.1.1.1.1.1.1.1.0 ++ drop (length q.out - q.done.written) (drop q.done.written q.out)))
           (behind_answer a.so_far a.slots.now a.header-slots.now (lent b a.errors.now a.stanzas.now a.returned.now) [] a.text.now a.out.now)) q.invariant.0
-          (going-refused a.so_far a.slots.now a.header-slots.now a.errors.now a.stanzas.now a.returned.now a.text.now a.out.now q.done q.slots q.errors q.stanzas q.returned q.out q.begun q.at q.invariant.1 held x.line x.body x.taken h y.result y.new.1.1.1.0 y.new.1.1.1.1.1.0 y.new.1.1.1.1.1.1.0 y.new.1.1.1.1.1.1.1.0 y.new.1.1.1.1.1.1.1.1.0 y.ensures.0 b c.before.before.answer.given.0.0 c.stop.result q.input (ap taking_said c.before.before.answer.given.1) c.stop.ensures)),
+          (going_refused a.so_far a.slots.now a.header-slots.now a.errors.now a.stanzas.now a.returned.now a.text.now a.out.now q.done q.slots q.errors q.stanzas q.returned q.out q.begun q.at q.invariant.1 held x.line x.body x.taken h y.result y.new.1.1.1.0 y.new.1.1.1.1.1.0 y.new.1.1.1.1.1.1.0 y.new.1.1.1.1.1.1.1.0 y.new.1.1.1.1.1.1.1.1.0 y.ensures.0 b c.before.before.answer.given.0.0 c.stop.result q.input (ap taking_said c.before.before.answer.given.1) c.stop.ensures)),
       ap (λ r. r.session.name) c.stop.ensures ∙ ap (λ s. s.name) y.ensures.1 ∙ q.invariant.1.name,
     )
 
@@ -189,8 +189,8 @@ go-on-requires c κs =
     let x = c.before.before.before.before.before.before.before.before.before.before.before.before.before.before.before.before.before.before.before.before.before.first.given.0.0 in
     let h = sym (ap read_said c.before.before.before.before.before.before.before.before.before.before.before.before.before.before.before.before.before.before.before.before.before.first.given.1) ∙ c.before.before.before.before.before.before.before.before.before.before.before.before.before.before.before.before.before.before.before.before.before.before.before.next_stanza.ensures in
     let y = c.before.before.before.before.before.before.before.before.before.before.before.before.receive-stanza in
-    let f = going-few a.so_far a.slots.now a.header-slots.now a.errors.now a.stanzas.now a.returned.now a.text.now a.out.now q.done q.slots q.errors q.stanzas q.returned q.out q.begun q.at q.invariant.1 held x.line x.body x.taken h y.result y.new.1.1.1.0 y.new.1.1.1.1.1.0 y.new.1.1.1.1.1.1.0 y.new.1.1.1.1.1.1.1.0 y.new.1.1.1.1.1.1.1.1.0 y.ensures.0 in
-    let w = going-fits a.so_far a.slots.now a.header-slots.now a.errors.now a.stanzas.now a.returned.now a.text.now a.out.now q.done q.slots q.errors q.stanzas q.returned q.out q.begun q.at q.invariant.1 held x.line x.body x.taken h y.result y.new.1.1.1.0 y.new.1.1.1.1.1.0 y.new.1.1.1.1.1.1.0 y.new.1.1.1.1.1.1.1.0 y.new.1.1.1.1.1.1.1.1.0 y.ensures.0 _ _ _ (ap taking_said c.before.answer2.given.1) in
+    let f = going_few a.so_far a.slots.now a.header-slots.now a.errors.now a.stanzas.now a.returned.now a.text.now a.out.now q.done q.slots q.errors q.stanzas q.returned q.out q.begun q.at q.invariant.1 held x.line x.body x.taken h y.result y.new.1.1.1.0 y.new.1.1.1.1.1.0 y.new.1.1.1.1.1.1.0 y.new.1.1.1.1.1.1.1.0 y.new.1.1.1.1.1.1.1.1.0 y.ensures.0 in
+    let w = going_fits a.so_far a.slots.now a.header-slots.now a.errors.now a.stanzas.now a.returned.now a.text.now a.out.now q.done q.slots q.errors q.stanzas q.returned q.out q.begun q.at q.invariant.1 held x.line x.body x.taken h y.result y.new.1.1.1.0 y.new.1.1.1.1.1.0 y.new.1.1.1.1.1.1.0 y.new.1.1.1.1.1.1.1.0 y.new.1.1.1.1.1.1.1.1.0 y.ensures.0 _ _ _ (ap taking_said c.before.answer2.given.1) in
     (omega (arith, f, c.before.before.before.before.before.before.before.before.before.before.before.before.before.before.before.before.before.before.before.before.before.before.before.before.before.before.before.before.before.before.before.before.before.well-formed.1.0), omega (arith, w, q.invariant.1.size, c.before.before.before.before.before.before.before.before.before.before.before.before.before.before.before.before.before.before.before.before.before.before.before.before.before.before.before.before.before.before.before.before.before.well-formed.1.1.1.1.1.1.1.1.0))
 
 add_at : tie.Need-overflow-add-at invariant-loop decreases-loop

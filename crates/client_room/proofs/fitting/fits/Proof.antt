@@ -2,7 +2,7 @@
 use Rattle.refusal.specs.Number.{number_of}
 use Rattle.stanza.specs.Reading.{read_said}
 use Rattle.client_room.specs.Stanzas.{taking_said}
-use Rattle.client_room.proofs.Laws.Room.{turn_rest, turn-refused, turn-short, turn-long, turn_on, next_within, on_turn}
+use Rattle.client_room.proofs.Laws.Room.{turn_rest, turn_refused, turn_short, turn_long, turn_on, next_within, on_turn}
 use Prim.Native.Nat.{ℕ, ◌≤◌, ◌-◌}
 use mathlib.Core.Path.{refl, sym, ap, ◌∙◌}
 use mathlib.Core.List.{List}
@@ -88,7 +88,7 @@ returns-2 c = λ aw b long.
     let y = c.before.before.try-stanza.result in
     let h = sym (ap read_said c.before.before.before.before.before.before.before.first.given.1) ∙ c.before.before.before.before.before.before.before.before.before.next_stanza.ensures in
     let tried = c.before.before.try-stanza.ensures z.buffers.second z.long in
-    turn-refused (session_of q.so_far q.slots hs) z.buffers z.awaited a.text.now q.at x.line x.body x.taken (taking_said y.answer) (session_of y.session c.before.before.try-stanza.new.1.1.1.0 hs) q.left h tried (number_of c.enum-told2.given.0.0) (ap taking_said c.enum-told2.given.1) ∙ sym z.same
+    turn_refused (session_of q.so_far q.slots hs) z.buffers z.awaited a.text.now q.at x.line x.body x.taken (taking_said y.answer) (session_of y.session c.before.before.try-stanza.new.1.1.1.0 hs) q.left h tried (number_of c.enum-told2.given.0.0) (ap taking_said c.enum-told2.given.1) ∙ sym z.same
 
 enum-known-answer : tie.Need-enum-known-answer invariant-loop decreases-loop
 enum-known-answer c = search rules
@@ -103,7 +103,7 @@ returns-3 c = λ aw b long.
     let y = c.before.before.before.before.try-stanza.result in
     let h = sym (ap read_said c.before.before.before.before.before.before.before.before.before.first.given.1) ∙ c.before.before.before.before.before.before.before.before.before.before.before.next_stanza.ensures in
     let tried = c.before.before.before.before.try-stanza.ensures z.buffers.second z.long in
-    turn-short (session_of q.so_far q.slots hs) z.buffers z.awaited a.text.now q.at x.line x.body x.taken (taking_said y.answer) (session_of y.session c.before.before.before.before.try-stanza.new.1.1.1.0 hs) q.left h tried _ _ _ (ap taking_said c.before.before.answer.given.1) c.if1.true ∙ sym z.same
+    turn_short (session_of q.so_far q.slots hs) z.buffers z.awaited a.text.now q.at x.line x.body x.taken (taking_said y.answer) (session_of y.session c.before.before.before.before.try-stanza.new.1.1.1.0 hs) q.left h tried _ _ _ (ap taking_said c.before.before.answer.given.1) c.if1.true ∙ sym z.same
 
 add_at : tie.Need-overflow-add-at invariant-loop decreases-loop
 add_at c =
@@ -141,7 +141,7 @@ loop-again c =
           record {
             awaited = _;
             buffers = on_turn s z.buffers z.awaited a.text.now q.at x.line x.body x.taken (taking_said y.answer) after q.left h tried;
-            long = turn-long s z.buffers z.awaited a.text.now q.at x.line x.body x.taken (taking_said y.answer) after q.left h tried a.errors a.stanzas a.returned z.long;
+            long = turn_long s z.buffers z.awaited a.text.now q.at x.line x.body x.taken (taking_said y.answer) after q.left h tried a.errors a.stanzas a.returned z.long;
             same = z.same ∙ turn_on s z.buffers z.awaited a.text.now q.at x.line x.body x.taken (taking_said y.answer) after q.left h tried _ _ _ (ap taking_said c.before.before.before.before.answer.given.1) (search rules);
           },
     )

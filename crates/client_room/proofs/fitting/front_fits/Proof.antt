@@ -5,7 +5,7 @@ use Rattle.session.specs.Session.{session_of}
 use Rattle.conversation.proofs.Laws.ReceivingTwo.{turn_second}
 use Rattle.chunks.specs.Taking.{client, turn_at, awaited_behind}
 use Rattle.client_room.specs.Stanzas.{taking_said}
-use Rattle.client_room.proofs.Laws.Room.{ahead_fault_room, ahead-refused-room, ahead-short-room, ahead_buffers, ahead-long, ahead-on-room}
+use Rattle.client_room.proofs.Laws.Room.{ahead_fault_room, ahead_refused_room, ahead_short_room, ahead_buffers, ahead_long, ahead_on_room}
 use borrow.Author.Rules.{rules}
 use Rattle.client_room.proofs.fitting.front_fits.Statement.{statement}
 use Rattle.client_room.proofs.fitting.front_fits.Tie as tie
@@ -39,7 +39,7 @@ returns c = λ b long two.
     let tried = c.before.before.before.before.try-stanza.ensures b.second long in
     let turn = ap (turn_at client) (turn_second a.session.phase two) in
     let after = session_of y.session c.before.before.before.before.try-stanza.new.1.1.1.0 hs in
-    ahead-short-room s b a.front.now a.text.now x.line x.body x.taken (taking_said y.answer) after a.room turn h tried _ _ _ (ap taking_said c.before.before.answer.given.1) c.if1.true
+    ahead_short_room s b a.front.now a.text.now x.line x.body x.taken (taking_said y.answer) after a.room turn h tried _ _ _ (ap taking_said c.before.before.answer.given.1) c.if1.true
 
 fits-requires : tie.Need-fits-requires
 fits-requires c κs = search rules
@@ -61,7 +61,7 @@ returns-3 c = λ b long two.
     let tried = c.before.before.try-stanza.ensures b.second long in
     let turn = ap (turn_at client) (turn_second a.session.phase two) in
     let after = session_of y.session c.before.before.try-stanza.new.1.1.1.0 hs in
-    ahead-refused-room s b a.front.now a.text.now x.line x.body x.taken (taking_said y.answer) after a.room turn h tried _ (ap taking_said c.enum-told2.given.1)
+    ahead_refused_room s b a.front.now a.text.now x.line x.body x.taken (taking_said y.answer) after a.room turn h tried _ (ap taking_said c.enum-told2.given.1)
 
 returns-4 : tie.Need-returns-4
 returns-4 c = λ b long two.
@@ -74,8 +74,8 @@ returns-4 c = λ b long two.
     let tried = c.before.before.before.before.before.before.try-stanza.ensures b.second long in
     let turn = ap (turn_at client) (turn_second a.session.phase two) in
     let after = session_of y.session c.before.before.before.before.before.before.try-stanza.new.1.1.1.0 hs in
-    c.fits2.ensures (awaited_behind client after.phase a.front.now) (ahead_buffers s b a.front.now a.text.now x.line x.body x.taken (taking_said y.answer) after a.room turn h tried) (ahead-long s b a.front.now a.text.now x.line x.body x.taken (taking_said y.answer) after a.room turn h tried a.errors a.stanzas a.returned long)
-    ∙ ahead-on-room s b a.front.now a.text.now x.line x.body x.taken (taking_said y.answer) after a.room turn h tried _ _ _ (ap taking_said c.before.before.before.before.answer.given.1) (search rules)
+    c.fits2.ensures (awaited_behind client after.phase a.front.now) (ahead_buffers s b a.front.now a.text.now x.line x.body x.taken (taking_said y.answer) after a.room turn h tried) (ahead_long s b a.front.now a.text.now x.line x.body x.taken (taking_said y.answer) after a.room turn h tried a.errors a.stanzas a.returned long)
+    ∙ ahead_on_room s b a.front.now a.text.now x.line x.body x.taken (taking_said y.answer) after a.room turn h tried _ _ _ (ap taking_said c.before.before.before.before.answer.given.1) (search rules)
 
 pub front-fits-spec : {M : Type 1} → statement M
 front-fits-spec =

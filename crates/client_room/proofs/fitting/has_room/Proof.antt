@@ -10,9 +10,9 @@ use Rattle.session.specs.Session.{session_of}
 use Rattle.conversation.proofs.Laws.ReceivingTwo.{turn_second}
 use Rattle.chunks.specs.Taking.{client, turn_at, keeping}
 use Rattle.chunks.specs.Chunks.{taken}
-use Rattle.intake.proofs.Laws.Fronts.{intake-reads, chunk-begins, chunk-ends, front_within}
+use Rattle.intake.proofs.Laws.Fronts.{intake_reads, chunk_begins, chunk_ends, front_within}
 use Rattle.client_room.specs.Room.{has_room, stanza_ahead}
-use Rattle.client_room.proofs.Laws.Room.{front-ample}
+use Rattle.client_room.proofs.Laws.Room.{front_ample}
 use borrow.Author.Rules.{rules}
 use Rattle.client_room.proofs.fitting.has_room.Statement.{statement}
 use Rattle.client_room.proofs.fitting.has_room.Tie as tie
@@ -32,9 +32,9 @@ returns c = λ b long two.
     let p = c.before.before.before.before.before.before.requires in
     let i = keeping (session_of a.session a.slots.now a.header-slots.now) (place_said a.session.reading) (take (min a.session.kept 8191) a.input.now) [] in
     let turn = ap (turn_at client) (turn_second a.session.phase two) in
-    let z = ap (λ i. has_room (taken client i b a.chunk.now) a.room) (sym (intake-reads client a.session a.slots.now a.header-slots.now a.input.now turn)) in
+    let z = ap (λ i. has_room (taken client i b a.chunk.now) a.room) (sym (intake_reads client a.session a.slots.now a.header-slots.now a.input.now turn)) in
     let l : length (take (min a.session.kept 8191) a.input.now) ≡ min a.session.kept 8191 = length-take-le (min a.session.kept 8191) a.input.now (omega (arith, p.1)) in
-    front-ample i b a.chunk.now a.room turn (omega arith) (omega arith) (omega (arith, c.before.is-ample.ensures c.if2.true, c.before.before.before.kept_of.ensures)) ∙ z
+    front_ample i b a.chunk.now a.room turn (omega arith) (omega arith) (omega (arith, c.before.is-ample.ensures c.if2.true, c.before.before.before.kept_of.ensures)) ∙ z
 
 text-has-room-requires : tie.Need-text-has-room-requires
 text-has-room-requires c κs = search rules
@@ -45,7 +45,7 @@ returns-2 c = λ b long two.
     let p = c.before.before.before.before.before.before.requires in
     let turn = ap (turn_at client) (turn_second a.session.phase two) in
     c.text-has-room.ensures [] b long
-    ∙ sym (ap (λ t. has_room t a.room) (chunk-begins client a.session a.slots.now a.header-slots.now a.input.now turn p.1 a.chunk.now b (p.0 ∙ ap whole c.before.if3.true)))
+    ∙ sym (ap (λ t. has_room t a.room) (chunk_begins client a.session a.slots.now a.header-slots.now a.input.now turn p.1 a.chunk.now b (p.0 ∙ ap whole c.before.if3.true)))
 
 joined-fits-requires : tie.Need-joined-fits-requires
 joined-fits-requires c κs =
@@ -62,7 +62,7 @@ returns-3 c = λ b long two.
     let turn = ap (turn_at client) (turn_second a.session.phase two) in
     c.joined-fits.ensures b long two
     ∙ ap (λ n. has_room (stanza_ahead s b (take n a.input.now ++ take a.k a.chunk.now) (drop a.k a.chunk.now)) a.room) c.before.before.before.kept_of.ensures
-    ∙ ap (λ t. has_room t a.room) (sym (chunk-ends client a.session a.slots.now a.header-slots.now a.input.now turn p.1 a.chunk.now b a.k p.0 c.before.if3.false))
+    ∙ ap (λ t. has_room t a.room) (sym (chunk_ends client a.session a.slots.now a.header-slots.now a.input.now turn p.1 a.chunk.now b a.k p.0 c.before.if3.false))
 
 pub has-room-spec : {M : Type 1} → statement M
 has-room-spec =

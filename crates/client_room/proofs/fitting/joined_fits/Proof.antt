@@ -1,5 +1,5 @@
 -- The store has the front that was kept and its rest: one text (`joined_front`).
-use Rattle.refusal.proofs.Laws.Lists.{part-rest}
+use Rattle.refusal.proofs.Laws.Lists.{part_rest}
 use Rattle.session.specs.Session.{session_of}
 use Rattle.client_room.specs.Room.{has_room, stanza_ahead}
 use Prim.Native.Nat.{◌+◌}
@@ -54,7 +54,7 @@ returns c = λ b long two.
     let p = c.before.before.before.before.before.before.before.before.before.before.before.requires in
     let e = joined_front a.input.now (take a.k a.chunk.now) _ _ a.kept a.k p.0 (length-take-le a.k a.chunk.now p.1) (c.before.before.before.before.before.before.put-together.ensures p.0 (omega (arith, p.2, length-take-le a.k a.chunk.now p.1))) in
     c.front_fits.ensures b long two
-    ∙ ap₂ (λ t x. has_room (stanza_ahead (session_of a.session a.slots.now a.header-slots.now) b t x) a.room) e (part-rest a.k a.chunk.now)
+    ∙ ap₂ (λ t x. has_room (stanza_ahead (session_of a.session a.slots.now a.header-slots.now) b t x) a.room) e (part_rest a.k a.chunk.now)
 
 pub joined-fits-spec : {M : Type 1} → statement M
 joined-fits-spec =

@@ -1,4 +1,4 @@
--- The composed line stands at the store's front and is judged as itself (`sent-from`); one that cannot be written is 17.
+-- The composed line stands at the store's front and is judged as itself (`sent_from`); one that cannot be written is 17.
 use mathlib.Core.Path.{◌≡◌, refl, sym, ap, ◌∙◌}
 use borrow.Author.Rules.{rules}
 use lib.Dec.{ltb}
@@ -8,16 +8,16 @@ use Rattle.refusal.specs.Output.{said}
 use Rattle.refusal.specs.Pick.{pick}
 use Rattle.refusal.specs.Verdict.{verdict_said}
 use Rattle.stanza.specs.Writing.{sized}
-use Rattle.stanza.proofs.Laws.Writing.{size-bytes}
+use Rattle.stanza.proofs.Laws.Writing.{size_bytes}
 use Rattle.session.specs.Opening.{name_of}
 use Rattle.session.specs.Tables.{tables_in}
 use Rattle.session.specs.Session.{session_of, carried_by}
 use Rattle.session.specs.Composing.{composed_said}
-use Rattle.session.proofs.Laws.Composing.{composed-line, composed-not}
+use Rattle.session.proofs.Laws.Composing.{composed_line, composed_not}
 use Rattle.phase_one.specs.Commands.{word_said, line_sent, command_said}
 use Rattle.phase_one.specs.PhaseOne.{buffers_of}
 use Rattle.conversation.specs.Sending.{sent_line}
-use Rattle.conversation.proofs.Laws.Sending.{sent-from, sent_unwritable}
+use Rattle.conversation.proofs.Laws.Sending.{sent_from, sent_unwritable}
 use Rattle.client_sending.proofs.sending.send_in.Statement.{statement}
 use Rattle.client_sending.proofs.sending.send_in.Tie as tie
 
@@ -65,7 +65,7 @@ returns c =
     let a = c.before.before.before.before.before.before.before.before.before.before.before.before.before.before.before.before.before.args in
     let l = line_sent (word_said a.word) a.arguments.now in
     let p = c.before.before.before.before.before.before.before.put-line.ensures in
-    let e = composed-not l a.store.now _ a.body.now (said c.before.before.before.before.before.before.before.put-line.result) p.0 p.1 (number_of c.before.composed.given.0.0) c.before.before.before.before.before.before.before.before.before.before.before.before.before.before.before.before.before.requires (sym (ap composed_said c.before.composed.given.1) ∙ c.before.before.before.compose.ensures) in (
+    let e = composed_not l a.store.now _ a.body.now (said c.before.before.before.before.before.before.before.put-line.result) p.0 p.1 (number_of c.before.composed.given.0.0) c.before.before.before.before.before.before.before.before.before.before.before.before.before.before.before.before.before.requires (sym (ap composed_said c.before.composed.given.1) ∙ c.before.before.before.compose.ensures) in (
       rw e.1
           (sent_unwritable (session_of a.session a.slots.now a.header-slots.now) (buffers_of a.recipients.now a.identities.now a.keys.now a.headers.now) l a.body.now a.out.now e.0),
       refl,
@@ -106,14 +106,14 @@ returns-2 c =
     let b = buffers_of a.recipients.now a.identities.now a.keys.now a.headers.now in
     let p = c.before.before.before.before.before.before.before.before.before.before.before.before.before.before.before.before.before.before.before.before.before.before.before.before.before.before.before.before.before.before.before.before.before.before.before.before.before.before.put-line.ensures in
     let k = c.before.before.before.before.before.before.before.before.before.before.before.before.before.before.before.before.before.before.before.before.before.before.before.before.before.before.before.before.before.before.before.before.composed2.given.0 in
-    let d = composed-line l a.store.now _ y (said c.before.before.before.before.before.before.before.before.before.before.before.before.before.before.before.before.before.before.before.before.before.before.before.before.before.before.before.before.before.before.before.before.before.before.before.before.before.before.put-line.result) p.0 p.1 k.0 k.1.0 (sym (ap composed_said c.before.before.before.before.before.before.before.before.before.before.before.before.before.before.before.before.before.before.before.before.before.before.before.before.before.before.before.before.before.before.before.before.composed2.given.1) ∙ c.before.before.before.before.before.before.before.before.before.before.before.before.before.before.before.before.before.before.before.before.before.before.before.before.before.before.before.before.before.before.before.before.before.before.compose.ensures) in
+    let d = composed_line l a.store.now _ y (said c.before.before.before.before.before.before.before.before.before.before.before.before.before.before.before.before.before.before.before.before.before.before.before.before.before.before.before.before.before.before.before.before.before.before.before.before.before.before.put-line.result) p.0 p.1 k.0 k.1.0 (sym (ap composed_said c.before.before.before.before.before.before.before.before.before.before.before.before.before.before.before.before.before.before.before.before.before.before.before.before.before.before.before.before.before.before.before.before.composed2.given.1) ∙ c.before.before.before.before.before.before.before.before.before.before.before.before.before.before.before.before.before.before.before.before.before.before.before.before.before.before.before.before.before.before.before.before.before.before.compose.ensures) in
     let line = c.before.before.before.before.before.before.before.before.before.before.before.before.before.before.before.before.before.before.before.before.before.before.before.before.before.before.before.before.before.front.result.now in
     let same : line ≡ l = c.before.before.before.before.before.before.before.before.before.before.before.before.before.before.before.before.before.before.before.before.before.before.before.before.before.before.before.before.before.front.ensures ∙ d.0 in
-    let w = size-bytes line y o k.1.0 (d.1 ∙ ap (λ x. sized x y) (sym same)) in
+    let w = size_bytes line y o k.1.0 (d.1 ∙ ap (λ x. sized x y) (sym same)) in
     let g = c.before.before.before.before.before.before.before.before.before.before.before.before.before.before.before.before.before.before.before.before.before.before.before.before.front2.result.now in
     let e = c.before.before.before.before.before.before.before.before.before.before.before.before.before.before.before.before.before.step-one.ensures in (
       rw c.moved.ensures
-          (sent-from s.machine (name_of s.name) s.screen s.phase t b line y o w.0
+          (sent_from s.machine (name_of s.name) s.screen s.phase t b line y o w.0
           g (verdict_said c.before.before.before.before.before.before.before.before.before.before.before.before.before.before.before.before.before.before.before.before.before.before.before.before.before.before.check-output.result) (verdict_said c.before.before.before.before.before.before.before.before.before.before.before.before.before.before.before.before.before.step-one.result.verdict) (command_said g line (length y) c.before.before.before.before.before.before.before.before.before.before.before.before.before.before.before.before.before.step-one.result.command) (said c.before.before.before.before.write_judged.result) c.before.phase-sent.result _ _ _
           c.before.before.before.before.before.before.before.before.before.before.before.before.before.before.before.before.before.before.before.before.before.before.before.before.front2.ensures (c.before.before.before.before.before.before.before.before.before.before.before.before.before.before.before.before.before.before.before.before.before.before.before.before.before.before.check-output.ensures ∙ ap (λ n. pick (ltb (length o) n) 15 0) w.1) e.1.0 e.0 c.before.before.before.before.write_judged.ensures.0 (c.before.phase-sent.ensures g line (length y)) e.1.1.0 e.1.1.1 c.before.before.before.before.write_judged.ensures.1
           ∙ ap (λ x. sent_line (session_of s a.slots.now a.header-slots.now) b x y o) same),

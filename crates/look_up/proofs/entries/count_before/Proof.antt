@@ -7,7 +7,7 @@ use lib.ListN.{length}
 use native.Mathlib.Omega.{arith}
 use Rattle.tables.specs.Tables.{table_in}
 use Rattle.conversation.specs.PhaseTwo.{is_file, how_many, labels, label_of}
-use Rattle.look_up.proofs.Laws.Labels.{passed, passed-one, passed_none, passed-least}
+use Rattle.look_up.proofs.Laws.Labels.{passed, passed_one, passed_none, passed_least}
 use Rattle.look_up.proofs.entries.count_before.Statement.{statement}
 use Rattle.look_up.proofs.entries.count_before.Tie as tie
 
@@ -49,7 +49,7 @@ loop-again c =
     let y = c.before.before.before.before.least.ensures in
     let e = ap (λ x. f (label_of x)) (sym c.before.before.entry_at.ensures) in
     ⊎_elim
-    (λ w. let p = passed-one f t i (omega (arith, z, y)) (e ∙ eq-eqb _ _ w.0.taken) in (omega (arith, p), omega (arith, z, y), omega arith))
+    (λ w. let p = passed_one f t i (omega (arith, z, y)) (e ∙ eq-eqb _ _ w.0.taken) in (omega (arith, p), omega (arith, z, y), omega arith))
     (λ w. let p = passed_none f t i (omega (arith, z, y)) (e ∙ ne_eqb _ _ w.0.left) in (omega (arith, p), omega (arith, z, y), omega arith))
     c.if2.branch
 
@@ -58,7 +58,7 @@ returns c =
     let a = c.before.before.before.before.args in
     let t = table_in a.span a.table a.slots.now in
     let e : c.before.before.before.loop.i ≡ min a.n (length (labels t)) = omega (arith, c.before.before.count_entries.ensures, c.before.least.ensures) in
-    c.before.before.before.loop.invariant.0 ∙ ap (passed (is_file a.file) t) e ∙ passed-least (is_file a.file) t a.n
+    c.before.before.before.loop.invariant.0 ∙ ap (passed (is_file a.file) t) e ∙ passed_least (is_file a.file) t a.n
 
 pub count-before-spec : {M : Type 1} → statement M
 count-before-spec =

@@ -8,7 +8,7 @@ use native.Mathlib.Omega.{arith}
 use Rattle.tables.specs.Tables.{table_in}
 use Rattle.conversation.specs.PhaseTwo.{is_file, labels, label_of}
 use Rattle.look_up.specs.LookUp.{number_of}
-use Rattle.look_up.proofs.Laws.LookUp.{onward, onward-here, onward-one, onward-none, onward-end}
+use Rattle.look_up.proofs.Laws.LookUp.{onward, onward_here, onward_one, onward_none, onward_end}
 use Rattle.look_up.proofs.look_up.number_of.Statement.{statement}
 use Rattle.look_up.proofs.look_up.number_of.Tie as tie
 
@@ -32,7 +32,7 @@ returns c =
     let f = is_file c.before.before.before.before.before.before.before.args.file in
     let t = table_in c.before.before.before.before.before.before.before.args.span c.before.before.before.before.before.before.before.args.table c.before.before.before.before.before.before.before.args.slots.now in
     let e = ap (λ x. f (label_of x)) (sym c.before.before.before.entry_at.ensures) ∙ eq-eqb _ _ c.before.if2.true in
-    sym (onward-here f t c.before.before.before.before.before.before.loop.i c.before.before.before.before.before.before.loop.left (omega (arith, c.before.before.before.before.before.count_entries.ensures)) e c.if3.true) ∙ c.before.before.before.before.before.before.loop.invariant.0
+    sym (onward_here f t c.before.before.before.before.before.before.loop.i c.before.before.before.before.before.before.loop.left (omega (arith, c.before.before.before.before.before.count_entries.ensures)) e c.if3.true) ∙ c.before.before.before.before.before.before.loop.invariant.0
 
 sub-left : tie.Need-overflow-sub-left invariant-loop decreases-loop
 sub-left c = omega arith
@@ -52,12 +52,12 @@ loop-again c =
     let z = c.before.before.before.before.count_entries.ensures in
     let e = ap (λ x. f (label_of x)) (sym c.before.before.entry_at.ensures) in
     ⊎_elim
-    (λ v. (sym (onward-one f t i l c.if2.left (omega (arith, z)) (e ∙ eq-eqb _ _ v.0.taken) (omega arith)) ∙ c.before.before.before.before.before.loop.invariant.0, omega (arith, z)))
-    (λ v. (ap (onward f t (i + 1)) v.1 ∙ sym (onward-none f t i l (omega (arith, z)) (e ∙ ne_eqb _ _ v.0.left)) ∙ c.before.before.before.before.before.loop.invariant.0, omega (arith, z)))
+    (λ v. (sym (onward_one f t i l c.if2.left (omega (arith, z)) (e ∙ eq-eqb _ _ v.0.taken) (omega arith)) ∙ c.before.before.before.before.before.loop.invariant.0, omega (arith, z)))
+    (λ v. (ap (onward f t (i + 1)) v.1 ∙ sym (onward_none f t i l (omega (arith, z)) (e ∙ ne_eqb _ _ v.0.left)) ∙ c.before.before.before.before.before.loop.invariant.0, omega (arith, z)))
     c.if2.branch
 
 returns-2 : tie.Need-returns-2 invariant-loop decreases-loop
-returns-2 c = let a = onward-end (is_file c.before.before.before.args.file) (table_in c.before.before.before.args.span c.before.before.before.args.table c.before.before.before.args.slots.now) c.before.before.loop.i c.before.before.loop.left (omega (arith, c.before.count_entries.ensures)) in omega arith
+returns-2 c = let a = onward_end (is_file c.before.before.before.args.file) (table_in c.before.before.before.args.span c.before.before.before.args.table c.before.before.before.args.slots.now) c.before.before.loop.i c.before.before.loop.left (omega (arith, c.before.count_entries.ensures)) in omega arith
 
 pub number-of-spec : {M : Type 1} → statement M
 number-of-spec =

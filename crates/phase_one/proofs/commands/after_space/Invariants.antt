@@ -5,7 +5,7 @@ use lib.ListN.{length, drop}
 use lib.Seq.{drop-length}
 use native.Mathlib.Omega.{arith}
 use borrow.Author.Rules.{rules}
-use Rattle.refusal.proofs.Laws.Lists.{part-rest}
+use Rattle.refusal.proofs.Laws.Lists.{part_rest}
 use Rattle.phase_one.specs.Commands.{after_space}
 use Rattle.phase_one.proofs.Laws.Commands.{space_here, space_later, space_none}
 use Rattle.phase_one.proofs.commands.after_space.Given as goal

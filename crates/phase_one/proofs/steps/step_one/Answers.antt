@@ -5,10 +5,10 @@ use Rattle.refusal.specs.Verdict.{verdict_said}
 use Rattle.refusal.proofs.Laws.Number.{number_not_zero}
 use Rattle.tables.specs.Bodies.{body_from}
 use Rattle.session.specs.Tables.{tables_in}
-use Rattle.session.proofs.Laws.Putting.{put-recipients, put-identities, put-keys, put_headers}
+use Rattle.session.proofs.Laws.Putting.{put_recipients, put_identities, put_keys, put_headers}
 use Rattle.phase_one.specs.Commands.{command_said}
 use Rattle.phase_one.specs.PhaseOne.{buffers_of}
-use Rattle.phase_one.proofs.Laws.PhaseOne.{step-bad, step-done, step_other, step-recipient, step-identity, step-key, step-header}
+use Rattle.phase_one.proofs.Laws.PhaseOne.{step_bad, step_done, step_other, step_recipient, step_identity, step_key, step_header}
 use borrow.Author.Rules.{rules}
 use Rattle.phase_one.proofs.steps.step_one.Goals as goal
 
@@ -21,11 +21,11 @@ returns-in-Recipient c = let a = c.args in
     let e = rw c.body_size-n.ensures.0 at (c.parse_one-command.ensures a.plugin.now) in
     let z = c.keep_recipient-stored.ensures in
     let k = ap (command_said a.plugin.now a.line.now (length y)) (sym c.in-Recipient.is) ∙ e in
-    let s = step-recipient a.machine a.plugin.now t b (verdict_said a.late) a.line.now y _ _ _ _ k z.number z.table z.buffer in
+    let s = step_recipient a.machine a.plugin.now t b (verdict_said a.late) a.line.now y _ _ _ _ k z.number z.table z.buffer in
     record {
         command = rw c.stepped.ensures e;
         number = rw c.stepped.ensures s.0;
-        tables = rw c.stepped.ensures (put-recipients a.tables a.slots.now _ a.header_slots.now c.keep_recipient-stored.result.table _ refl z.others ∙ s.1.0);
+        tables = rw c.stepped.ensures (put_recipients a.tables a.slots.now _ a.header_slots.now c.keep_recipient-stored.result.table _ refl z.others ∙ s.1.0);
         buffers = s.1.1;
     }
 
@@ -38,11 +38,11 @@ returns-in-Identity c = let a = c.args in
     let e = rw c.body_size-n.ensures.0 at (c.parse_one-command.ensures a.plugin.now) in
     let z = rw c.span_of-span.ensures at c.keep_text-stored.ensures in
     let k = ap (command_said a.plugin.now a.line.now (length y)) (sym c.in-Identity.is) ∙ e in
-    let s = step-identity a.machine a.plugin.now t b (verdict_said a.late) a.line.now y _ _ _ _ k z.number z.table z.buffer in
+    let s = step_identity a.machine a.plugin.now t b (verdict_said a.late) a.line.now y _ _ _ _ k z.number z.table z.buffer in
     record {
         command = rw c.stepped-in-Identity.ensures e;
         number = rw c.stepped-in-Identity.ensures s.0;
-        tables = rw c.stepped-in-Identity.ensures (put-identities a.tables a.slots.now _ a.header_slots.now c.keep_text-stored.result.table _ refl z.others ∙ s.1.0);
+        tables = rw c.stepped-in-Identity.ensures (put_identities a.tables a.slots.now _ a.header_slots.now c.keep_text-stored.result.table _ refl z.others ∙ s.1.0);
         buffers = s.1.1;
     }
 
@@ -55,11 +55,11 @@ returns-in-Key c = let a = c.args in
     let e = rw c.body_size-n.ensures.0 at (c.parse_one-command.ensures a.plugin.now) in
     let z = rw c.span_of-span-in-Key.ensures at c.store-stored.ensures in
     let k = ap (command_said a.plugin.now a.line.now (length y)) (sym c.in-Key.is) ∙ e in
-    let s = step-key a.machine a.plugin.now t b (verdict_said a.late) a.line.now y _ _ _ k z.number (rw (sym z.number) at z.table) (rw (sym z.number) at z.buffer) in
+    let s = step_key a.machine a.plugin.now t b (verdict_said a.late) a.line.now y _ _ _ k z.number (rw (sym z.number) at z.table) (rw (sym z.number) at z.buffer) in
     record {
         command = rw c.stepped-in-Key.ensures e;
         number = rw c.stepped-in-Key.ensures s.0;
-        tables = rw c.stepped-in-Key.ensures (put-keys a.tables a.slots.now _ a.header_slots.now c.store-stored.result.table _ refl z.others ∙ s.1.0);
+        tables = rw c.stepped-in-Key.ensures (put_keys a.tables a.slots.now _ a.header_slots.now c.store-stored.result.table _ refl z.others ∙ s.1.0);
         buffers = s.1.1;
     }
 
@@ -72,7 +72,7 @@ returns-in-Header c = let a = c.args in
     let e = rw c.body_size-n.ensures.0 at (c.parse_one-command.ensures a.plugin.now) in
     let z = rw c.body_size-n.ensures.0 at c.keep_header-stored.ensures in
     let k = ap (command_said a.plugin.now a.line.now (length y)) (sym c.in-Header.is) ∙ e in
-    let s = step-header a.machine a.plugin.now t b (verdict_said a.late) a.line.now y _ _ _ _ _ k z.number z.table z.buffer in
+    let s = step_header a.machine a.plugin.now t b (verdict_said a.late) a.line.now y _ _ _ _ _ k z.number z.table z.buffer in
     record {
         command = rw c.stepped-in-Header.ensures k;
         number = rw c.stepped-in-Header.ensures s.0;
@@ -89,9 +89,9 @@ returns-in-Done c = let a = c.args in
     let e = rw c.body_size-n.ensures.0 at (c.parse_one-command.ensures a.plugin.now) in
     record {
         command = e;
-        number = (step-done a.machine a.plugin.now t b (verdict_said a.late) a.line.now y (ap (command_said a.plugin.now a.line.now (length y)) (sym c.in-Done.is) ∙ e)).0;
-        tables = (step-done a.machine a.plugin.now t b (verdict_said a.late) a.line.now y (ap (command_said a.plugin.now a.line.now (length y)) (sym c.in-Done.is) ∙ e)).1.0;
-        buffers = (step-done a.machine a.plugin.now t b (verdict_said a.late) a.line.now y (ap (command_said a.plugin.now a.line.now (length y)) (sym c.in-Done.is) ∙ e)).1.1;
+        number = (step_done a.machine a.plugin.now t b (verdict_said a.late) a.line.now y (ap (command_said a.plugin.now a.line.now (length y)) (sym c.in-Done.is) ∙ e)).0;
+        tables = (step_done a.machine a.plugin.now t b (verdict_said a.late) a.line.now y (ap (command_said a.plugin.now a.line.now (length y)) (sym c.in-Done.is) ∙ e)).1.0;
+        buffers = (step_done a.machine a.plugin.now t b (verdict_said a.late) a.line.now y (ap (command_said a.plugin.now a.line.now (length y)) (sym c.in-Done.is) ∙ e)).1.1;
     }
 
 
@@ -118,7 +118,7 @@ returns-in-Refused c = let a = c.args in
     let k = ap (command_said a.plugin.now a.line.now (length y)) (sym c.in-Refused.is) ∙ e in
     record {
         command = k;
-        number = (step-bad a.machine a.plugin.now t b (verdict_said a.late) a.line.now y _ k (number_not_zero c.in-Refused.r)).0;
-        tables = (step-bad a.machine a.plugin.now t b (verdict_said a.late) a.line.now y _ k (number_not_zero c.in-Refused.r)).1.0;
-        buffers = (step-bad a.machine a.plugin.now t b (verdict_said a.late) a.line.now y _ k (number_not_zero c.in-Refused.r)).1.1;
+        number = (step_bad a.machine a.plugin.now t b (verdict_said a.late) a.line.now y _ k (number_not_zero c.in-Refused.r)).0;
+        tables = (step_bad a.machine a.plugin.now t b (verdict_said a.late) a.line.now y _ k (number_not_zero c.in-Refused.r)).1.0;
+        buffers = (step_bad a.machine a.plugin.now t b (verdict_said a.late) a.line.now y _ k (number_not_zero c.in-Refused.r)).1.1;
     }

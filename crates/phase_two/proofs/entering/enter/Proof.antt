@@ -3,10 +3,10 @@ use mathlib.Core.Path.{refl, ◌∙◌}
 use Rattle.refusal.specs.Number.{number_of}
 use Rattle.refusal.specs.Verdict.{verdict_said}
 use Rattle.session.specs.Tables.{tables_in}
-use Rattle.session.proofs.Laws.Putting.{put-errors, put-stanzas, put-returned}
+use Rattle.session.proofs.Laws.Putting.{put_errors, put_stanzas, put_returned}
 use Rattle.conversation.specs.CommandsTwo as two
 use Rattle.phase_two_commands.specs.Commands.{named_said}
-use Rattle.phase_two.proofs.Laws.Entering.{enter-none, enter-stanza, enter-key, enter-error}
+use Rattle.phase_two.proofs.Laws.Entering.{enter_none, enter_stanza, enter_key, enter_error}
 use borrow.Author.Rules.{rules}
 use Rattle.phase_two.proofs.entering.enter.Statement.{statement}
 use Rattle.phase_two.proofs.entering.enter.Tie as tie
@@ -80,8 +80,8 @@ returns c =
     let z = rw (c.before.before.before.before.before.Span-of.ensures, c.before.before.before.before.wide.ensures) at c.before.before.enter.ensures in
     rw (c.before.before.before.before.before.before.before.before.command.given.1, c.stepped.ensures)
     (λ hs b p l e.
-    let s = enter-stanza (tables_in a.tables a.slots.now hs) b p (verdict_said a.late) a.errors a.stanzas a.returned a.size l e c.before.before.before.before.before.before.before.before.command.given.0.0 _ _ z.0 z.1.0 in
-    record { number = s.number; tables = put-stanzas a.tables a.slots.now _ hs c.before.before.enter.result.table _ refl z.1.1 ∙ s.tables })
+    let s = enter_stanza (tables_in a.tables a.slots.now hs) b p (verdict_said a.late) a.errors a.stanzas a.returned a.size l e c.before.before.before.before.before.before.before.before.command.given.0.0 _ _ z.0 z.1.0 in
+    record { number = s.number; tables = put_stanzas a.tables a.slots.now _ hs c.before.before.enter.result.table _ refl z.1.1 ∙ s.tables })
 
 same-length-2 : tie.Need-same-length-2
 same-length-2 c = search rules
@@ -92,8 +92,8 @@ returns-2 c =
     let z = rw (c.before.before.before.before.before.span-of2.ensures, c.before.before.before.before.wide2.ensures) at c.before.before.enter2.ensures in
     rw (c.before.before.before.before.before.before.before.before.command2.given.1, c.stepped2.ensures)
     (λ hs b p l e.
-    let s = enter-key (tables_in a.tables a.slots.now hs) b p (verdict_said a.late) a.errors a.stanzas a.returned a.size l e c.before.before.before.before.before.before.before.before.command2.given.0.0 _ _ z.0 z.1.0 in
-    record { number = s.number; tables = put-returned a.tables a.slots.now _ hs c.before.before.enter2.result.table _ refl z.1.1 ∙ s.tables })
+    let s = enter_key (tables_in a.tables a.slots.now hs) b p (verdict_said a.late) a.errors a.stanzas a.returned a.size l e c.before.before.before.before.before.before.before.before.command2.given.0.0 _ _ z.0 z.1.0 in
+    record { number = s.number; tables = put_returned a.tables a.slots.now _ hs c.before.before.enter2.result.table _ refl z.1.1 ∙ s.tables })
 
 same-length-3 : tie.Need-same-length-3
 same-length-3 c = search rules
@@ -104,28 +104,28 @@ returns-3 c =
     let z = rw (c.before.before.before.before.before.before.span-of3.ensures, c.before.before.before.before.before.index_of.ensures, c.before.before.before.before.mark_of.ensures) at c.before.before.enter3.ensures in
     rw (c.before.before.before.before.before.before.before.before.before.command3.given.1, c.stepped3.ensures)
     (λ hs b p l e.
-    let s = enter-error (tables_in a.tables a.slots.now hs) b p (verdict_said a.late) a.errors a.stanzas a.returned a.size l e (named_said c.before.before.before.before.before.before.before.before.before.command3.given.0.0) _ _ z.0 z.1.0 in
-    record { number = s.number; tables = put-errors a.tables a.slots.now _ hs c.before.before.enter3.result.table _ refl z.1.1 ∙ s.tables })
+    let s = enter_error (tables_in a.tables a.slots.now hs) b p (verdict_said a.late) a.errors a.stanzas a.returned a.size l e (named_said c.before.before.before.before.before.before.before.before.before.command3.given.0.0) _ _ z.0 z.1.0 in
+    record { number = s.number; tables = put_errors a.tables a.slots.now _ hs c.before.before.enter3.result.table _ refl z.1.1 ∙ s.tables })
 
 returns-4 : tie.Need-returns-4
 returns-4 c =
     let a = c.before.before.args in
-    rw c.enum_told.given.1 (λ hs b p l e. enter-none (tables_in a.tables a.slots.now hs) b p (verdict_said a.late) (two.ask c.enum_told.given.0.0) refl refl refl)
+    rw c.enum_told.given.1 (λ hs b p l e. enter_none (tables_in a.tables a.slots.now hs) b p (verdict_said a.late) (two.ask c.enum_told.given.0.0) refl refl refl)
 
 returns-5 : tie.Need-returns-5
 returns-5 c =
     let a = c.before.before.args in
-    rw c.enum-told2.given.1 (λ hs b p l e. enter-none (tables_in a.tables a.slots.now hs) b p (verdict_said a.late) two.done refl refl refl)
+    rw c.enum-told2.given.1 (λ hs b p l e. enter_none (tables_in a.tables a.slots.now hs) b p (verdict_said a.late) two.done refl refl refl)
 
 returns-6 : tie.Need-returns-6
 returns-6 c =
     let a = c.before.before.args in
-    rw c.enum-told3.given.1 (λ hs b p l e. enter-none (tables_in a.tables a.slots.now hs) b p (verdict_said a.late) two.other refl refl refl)
+    rw c.enum-told3.given.1 (λ hs b p l e. enter_none (tables_in a.tables a.slots.now hs) b p (verdict_said a.late) two.other refl refl refl)
 
 returns-7 : tie.Need-returns-7
 returns-7 c =
     let a = c.before.before.args in
-    rw c.enum-told4.given.1 (λ hs b p l e. enter-none (tables_in a.tables a.slots.now hs) b p (verdict_said a.late) (two.bad (number_of c.enum-told4.given.0.0)) refl refl refl)
+    rw c.enum-told4.given.1 (λ hs b p l e. enter_none (tables_in a.tables a.slots.now hs) b p (verdict_said a.late) (two.bad (number_of c.enum-told4.given.0.0)) refl refl refl)
 
 pub enter_spec : {M : Type 1} → statement M
 enter_spec =

@@ -4,7 +4,7 @@ use Rattle.refusal.specs.Verdict.{verdict_said}
 use Rattle.refusal.proofs.Laws.Number.{number_not_zero}
 use Rattle.session.specs.Tables.{tables_in}
 use Rattle.phase_two_commands.specs.Commands.{command_said}
-use Rattle.phase_two.proofs.Laws.Entering.{enter-ruled}
+use Rattle.phase_two.proofs.Laws.Entering.{enter_ruled}
 use borrow.Author.Rules.{rules}
 use Rattle.phase_two.proofs.entering.enter_two.Statement.{statement}
 use Rattle.phase_two.proofs.entering.enter_two.Tie as tie
@@ -22,7 +22,7 @@ returns : tie.Need-returns
 returns c =
     let a = c.before.before.args in
     let r = c.enum_told.given.0.0 in
-    rw c.enum_told.given.1 (λ hs b p l e. enter-ruled (tables_in a.tables a.slots.now hs) b p (verdict_said a.late) (number_of r) (command_said a.command) (number_not_zero r))
+    rw c.enum_told.given.1 (λ hs b p l e. enter_ruled (tables_in a.tables a.slots.now hs) b p (verdict_said a.late) (number_of r) (command_said a.command) (number_not_zero r))
 
 same_length : tie.Need-same-length
 same_length c = search rules

@@ -5,12 +5,12 @@ use Rattle.refusal.specs.Number.{number_of}
 use Rattle.refusal.specs.Verdict.{verdict_said}
 use Rattle.tables.specs.Bodies.{body_from}
 use Rattle.session.specs.Tables.{tables_in}
-use Rattle.session.proofs.Laws.Putting.{put-errors, put-stanzas, put-returned}
+use Rattle.session.proofs.Laws.Putting.{put_errors, put_stanzas, put_returned}
 use Rattle.phase_one.specs.Commands.{rest_of}
 use Rattle.conversation.specs.CommandsTwo as two
 use Rattle.conversation.specs.PhaseTwo.{buffers_of}
 use Rattle.phase_two_commands.specs.Commands.{named_said}
-use Rattle.phase_two.proofs.Laws.Steps.{step-none, step-stanza, step-key, step-error}
+use Rattle.phase_two.proofs.Laws.Steps.{step_none, step_stanza, step_key, step_error}
 use borrow.Author.Rules.{rules}
 use Rattle.phase_two.proofs.steps.keep.Statement.{statement}
 use Rattle.phase_two.proofs.steps.keep.Tie as tie
@@ -67,7 +67,7 @@ returns c =
     let y = body_from a.coding a.source.now in
     let z = c.before.before.before.before.keep-stanza.ensures in
     rw (c.before.before.before.before.before.before.before.before.before.command.given.1, c.stepped.ensures)
-    ((λ hs. (step-stanza (tables_in a.tables a.slots.now hs) b (rest_of a.line.now ++ 10 ∷ y) (verdict_said a.late) c.before.before.before.before.before.before.before.before.before.command.given.0.0 _ _ _ z.0 z.1.0 z.1.1.1).0), ((λ hs. put-stanzas a.tables a.slots.now _ hs c.before.before.before.before.keep-stanza.result.table _ refl z.1.1.0 ∙ (step-stanza (tables_in a.tables a.slots.now hs) b (rest_of a.line.now ++ 10 ∷ y) (verdict_said a.late) c.before.before.before.before.before.before.before.before.before.command.given.0.0 _ _ _ z.0 z.1.0 z.1.1.1).1.0), (λ hs. (step-stanza (tables_in a.tables a.slots.now hs) b (rest_of a.line.now ++ 10 ∷ y) (verdict_said a.late) c.before.before.before.before.before.before.before.before.before.command.given.0.0 _ _ _ z.0 z.1.0 z.1.1.1).1.1)))
+    ((λ hs. (step_stanza (tables_in a.tables a.slots.now hs) b (rest_of a.line.now ++ 10 ∷ y) (verdict_said a.late) c.before.before.before.before.before.before.before.before.before.command.given.0.0 _ _ _ z.0 z.1.0 z.1.1.1).0), ((λ hs. put_stanzas a.tables a.slots.now _ hs c.before.before.before.before.keep-stanza.result.table _ refl z.1.1.0 ∙ (step_stanza (tables_in a.tables a.slots.now hs) b (rest_of a.line.now ++ 10 ∷ y) (verdict_said a.late) c.before.before.before.before.before.before.before.before.before.command.given.0.0 _ _ _ z.0 z.1.0 z.1.1.1).1.0), (λ hs. (step_stanza (tables_in a.tables a.slots.now hs) b (rest_of a.line.now ++ 10 ∷ y) (verdict_said a.late) c.before.before.before.before.before.before.before.before.before.command.given.0.0 _ _ _ z.0 z.1.0 z.1.1.1).1.1)))
 
 same-length-3 : tie.Need-same-length-3
 same-length-3 c = search rules
@@ -82,7 +82,7 @@ returns-2 c =
     let y = body_from a.coding a.source.now in
     let z = c.before.before.before.before.keep-key.ensures in
     rw (c.before.before.before.before.before.before.before.before.before.command2.given.1, c.stepped2.ensures)
-    ((λ hs. (step-key (tables_in a.tables a.slots.now hs) b y (verdict_said a.late) c.before.before.before.before.before.before.before.before.before.command2.given.0.0 _ _ _ z.0 z.1.0 z.1.1.1).0), ((λ hs. put-returned a.tables a.slots.now _ hs c.before.before.before.before.keep-key.result.table _ refl z.1.1.0 ∙ (step-key (tables_in a.tables a.slots.now hs) b y (verdict_said a.late) c.before.before.before.before.before.before.before.before.before.command2.given.0.0 _ _ _ z.0 z.1.0 z.1.1.1).1.0), (λ hs. (step-key (tables_in a.tables a.slots.now hs) b y (verdict_said a.late) c.before.before.before.before.before.before.before.before.before.command2.given.0.0 _ _ _ z.0 z.1.0 z.1.1.1).1.1)))
+    ((λ hs. (step_key (tables_in a.tables a.slots.now hs) b y (verdict_said a.late) c.before.before.before.before.before.before.before.before.before.command2.given.0.0 _ _ _ z.0 z.1.0 z.1.1.1).0), ((λ hs. put_returned a.tables a.slots.now _ hs c.before.before.before.before.keep-key.result.table _ refl z.1.1.0 ∙ (step_key (tables_in a.tables a.slots.now hs) b y (verdict_said a.late) c.before.before.before.before.before.before.before.before.before.command2.given.0.0 _ _ _ z.0 z.1.0 z.1.1.1).1.0), (λ hs. (step_key (tables_in a.tables a.slots.now hs) b y (verdict_said a.late) c.before.before.before.before.before.before.before.before.before.command2.given.0.0 _ _ _ z.0 z.1.0 z.1.1.1).1.1)))
 
 same-length-5 : tie.Need-same-length-5
 same-length-5 c = search rules
@@ -97,31 +97,31 @@ returns-3 c =
     let y = body_from a.coding a.source.now in
     let z = c.before.before.before.before.keep-error.ensures in
     rw (c.before.before.before.before.before.before.before.before.before.command3.given.1, c.stepped3.ensures)
-    ((λ hs. (step-error (tables_in a.tables a.slots.now hs) b y (verdict_said a.late) (named_said c.before.before.before.before.before.before.before.before.before.command3.given.0.0) _ _ _ z.0 z.1.0 z.1.1.1).0), ((λ hs. put-errors a.tables a.slots.now _ hs c.before.before.before.before.keep-error.result.table _ refl z.1.1.0 ∙ (step-error (tables_in a.tables a.slots.now hs) b y (verdict_said a.late) (named_said c.before.before.before.before.before.before.before.before.before.command3.given.0.0) _ _ _ z.0 z.1.0 z.1.1.1).1.0), (λ hs. (step-error (tables_in a.tables a.slots.now hs) b y (verdict_said a.late) (named_said c.before.before.before.before.before.before.before.before.before.command3.given.0.0) _ _ _ z.0 z.1.0 z.1.1.1).1.1)))
+    ((λ hs. (step_error (tables_in a.tables a.slots.now hs) b y (verdict_said a.late) (named_said c.before.before.before.before.before.before.before.before.before.command3.given.0.0) _ _ _ z.0 z.1.0 z.1.1.1).0), ((λ hs. put_errors a.tables a.slots.now _ hs c.before.before.before.before.keep-error.result.table _ refl z.1.1.0 ∙ (step_error (tables_in a.tables a.slots.now hs) b y (verdict_said a.late) (named_said c.before.before.before.before.before.before.before.before.before.command3.given.0.0) _ _ _ z.0 z.1.0 z.1.1.1).1.0), (λ hs. (step_error (tables_in a.tables a.slots.now hs) b y (verdict_said a.late) (named_said c.before.before.before.before.before.before.before.before.before.command3.given.0.0) _ _ _ z.0 z.1.0 z.1.1.1).1.1)))
 
 returns-4 : tie.Need-returns-4
 returns-4 c =
     let a = c.before.before.before.before.before.before.before.args in
     let b = buffers_of a.errors.now a.stanzas.now a.returned.now in
-    rw c.enum_told.given.1 ((λ hs. (step-none (tables_in a.tables a.slots.now hs) b [] (verdict_said a.late) (two.ask c.enum_told.given.0.0) refl refl refl).0), ((λ hs. (step-none (tables_in a.tables a.slots.now hs) b [] (verdict_said a.late) (two.ask c.enum_told.given.0.0) refl refl refl).1.0), (λ hs. (step-none (tables_in a.tables a.slots.now hs) b [] (verdict_said a.late) (two.ask c.enum_told.given.0.0) refl refl refl).1.1)))
+    rw c.enum_told.given.1 ((λ hs. (step_none (tables_in a.tables a.slots.now hs) b [] (verdict_said a.late) (two.ask c.enum_told.given.0.0) refl refl refl).0), ((λ hs. (step_none (tables_in a.tables a.slots.now hs) b [] (verdict_said a.late) (two.ask c.enum_told.given.0.0) refl refl refl).1.0), (λ hs. (step_none (tables_in a.tables a.slots.now hs) b [] (verdict_said a.late) (two.ask c.enum_told.given.0.0) refl refl refl).1.1)))
 
 returns-5 : tie.Need-returns-5
 returns-5 c =
     let a = c.before.before.before.before.before.before.before.args in
     let b = buffers_of a.errors.now a.stanzas.now a.returned.now in
-    rw c.enum-told2.given.1 ((λ hs. (step-none (tables_in a.tables a.slots.now hs) b [] (verdict_said a.late) two.done refl refl refl).0), ((λ hs. (step-none (tables_in a.tables a.slots.now hs) b [] (verdict_said a.late) two.done refl refl refl).1.0), (λ hs. (step-none (tables_in a.tables a.slots.now hs) b [] (verdict_said a.late) two.done refl refl refl).1.1)))
+    rw c.enum-told2.given.1 ((λ hs. (step_none (tables_in a.tables a.slots.now hs) b [] (verdict_said a.late) two.done refl refl refl).0), ((λ hs. (step_none (tables_in a.tables a.slots.now hs) b [] (verdict_said a.late) two.done refl refl refl).1.0), (λ hs. (step_none (tables_in a.tables a.slots.now hs) b [] (verdict_said a.late) two.done refl refl refl).1.1)))
 
 returns-6 : tie.Need-returns-6
 returns-6 c =
     let a = c.before.before.before.before.before.before.before.args in
     let b = buffers_of a.errors.now a.stanzas.now a.returned.now in
-    rw c.enum-told3.given.1 ((λ hs. (step-none (tables_in a.tables a.slots.now hs) b [] (verdict_said a.late) two.other refl refl refl).0), ((λ hs. (step-none (tables_in a.tables a.slots.now hs) b [] (verdict_said a.late) two.other refl refl refl).1.0), (λ hs. (step-none (tables_in a.tables a.slots.now hs) b [] (verdict_said a.late) two.other refl refl refl).1.1)))
+    rw c.enum-told3.given.1 ((λ hs. (step_none (tables_in a.tables a.slots.now hs) b [] (verdict_said a.late) two.other refl refl refl).0), ((λ hs. (step_none (tables_in a.tables a.slots.now hs) b [] (verdict_said a.late) two.other refl refl refl).1.0), (λ hs. (step_none (tables_in a.tables a.slots.now hs) b [] (verdict_said a.late) two.other refl refl refl).1.1)))
 
 returns-7 : tie.Need-returns-7
 returns-7 c =
     let a = c.before.before.before.before.before.before.before.args in
     let b = buffers_of a.errors.now a.stanzas.now a.returned.now in
-    rw c.enum-told4.given.1 ((λ hs. (step-none (tables_in a.tables a.slots.now hs) b [] (verdict_said a.late) (two.bad (number_of c.enum-told4.given.0.0)) refl refl refl).0), ((λ hs. (step-none (tables_in a.tables a.slots.now hs) b [] (verdict_said a.late) (two.bad (number_of c.enum-told4.given.0.0)) refl refl refl).1.0), (λ hs. (step-none (tables_in a.tables a.slots.now hs) b [] (verdict_said a.late) (two.bad (number_of c.enum-told4.given.0.0)) refl refl refl).1.1)))
+    rw c.enum-told4.given.1 ((λ hs. (step_none (tables_in a.tables a.slots.now hs) b [] (verdict_said a.late) (two.bad (number_of c.enum-told4.given.0.0)) refl refl refl).0), ((λ hs. (step_none (tables_in a.tables a.slots.now hs) b [] (verdict_said a.late) (two.bad (number_of c.enum-told4.given.0.0)) refl refl refl).1.0), (λ hs. (step_none (tables_in a.tables a.slots.now hs) b [] (verdict_said a.late) (two.bad (number_of c.enum-told4.given.0.0)) refl refl refl).1.1)))
 
 pub keep_spec : {M : Type 1} → statement M
 keep_spec =

@@ -7,7 +7,7 @@ use Rattle.refusal.specs.Verdict.{verdict_said}
 use Rattle.refusal.proofs.Laws.Number.{number_not_zero}
 use Rattle.session.specs.Tables.{tables_in}
 use Rattle.conversation.specs.PhaseTwo.{buffers_of}
-use Rattle.phase_two.proofs.Laws.Steps.{step-ruled}
+use Rattle.phase_two.proofs.Laws.Steps.{step_ruled}
 use borrow.Author.Rules.{rules}
 use Rattle.phase_two.proofs.steps.step_two.Statement.{statement}
 use Rattle.phase_two.proofs.steps.step_two.Tie as tie
@@ -25,7 +25,7 @@ returns : tie.Need-returns
 returns c =
     let a = c.before.before.before.before.before.before.before.args in
     let b = buffers_of a.errors.now a.stanzas.now a.returned.now in
-    rw c.enum_told.given.1 ((λ hs. (step-ruled (tables_in a.tables a.slots.now hs) b (payload_of (command_said a.command) a.line.now (body_from a.coding a.source.now)) (verdict_said a.late) (number_of c.enum_told.given.0.0) (command_said a.command) (number_not_zero c.enum_told.given.0.0)).0), ((λ hs. (step-ruled (tables_in a.tables a.slots.now hs) b (payload_of (command_said a.command) a.line.now (body_from a.coding a.source.now)) (verdict_said a.late) (number_of c.enum_told.given.0.0) (command_said a.command) (number_not_zero c.enum_told.given.0.0)).1.0), (λ hs. (step-ruled (tables_in a.tables a.slots.now hs) b (payload_of (command_said a.command) a.line.now (body_from a.coding a.source.now)) (verdict_said a.late) (number_of c.enum_told.given.0.0) (command_said a.command) (number_not_zero c.enum_told.given.0.0)).1.1)))
+    rw c.enum_told.given.1 ((λ hs. (step_ruled (tables_in a.tables a.slots.now hs) b (payload_of (command_said a.command) a.line.now (body_from a.coding a.source.now)) (verdict_said a.late) (number_of c.enum_told.given.0.0) (command_said a.command) (number_not_zero c.enum_told.given.0.0)).0), ((λ hs. (step_ruled (tables_in a.tables a.slots.now hs) b (payload_of (command_said a.command) a.line.now (body_from a.coding a.source.now)) (verdict_said a.late) (number_of c.enum_told.given.0.0) (command_said a.command) (number_not_zero c.enum_told.given.0.0)).1.0), (λ hs. (step_ruled (tables_in a.tables a.slots.now hs) b (payload_of (command_said a.command) a.line.now (body_from a.coding a.source.now)) (verdict_said a.late) (number_of c.enum_told.given.0.0) (command_said a.command) (number_not_zero c.enum_told.given.0.0)).1.1)))
 
 same_length : tie.Need-same-length
 same_length c = search rules

@@ -23,7 +23,7 @@ error-at-requires : tie.Need-error-at-requires
 error-at-requires c κs = search rules
 
 returns-2 : tie.Need-returns-2
-returns-2 c = rw (sym c.before.before.before.before.before.is-kind.ensures ∙ c.before.before.before.before.if1.false, sym c.before.before.is-kind2.ensures ∙ c.before.if2.true) c.error-at.ensures
+returns-2 c = rw (sym c.before.before.before.before.before.is-kind.ensures ∙ c.before.before.before.before.if1.false, sym c.before.before.is-kind2.ensures ∙ c.before.if2.true) c.error_at_lem.ensures
 
 parse-own-error-requires : tie.Need-parse-own-error-requires
 parse-own-error-requires c κs = search rules

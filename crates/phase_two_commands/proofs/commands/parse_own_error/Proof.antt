@@ -17,7 +17,7 @@ error-at-requires : tie.Need-error-at-requires
 error-at-requires c κs = search rules
 
 returns : tie.Need-returns
-returns c = rw (c.before.before.before.before.enum_told.given.1, sym c.before.before.is-kind.ensures ∙ c.before.if1.true) c.error-at.ensures
+returns c = rw (c.before.before.before.before.enum_told.given.1, sym c.before.before.is-kind.ensures ∙ c.before.if1.true) c.error_at_lem.ensures
 
 enum-told-2 : tie.Need-enum-told-2
 enum-told-2 c = search rules
@@ -32,7 +32,7 @@ header-at-requires : tie.Need-header-at-requires
 header-at-requires c κs = search rules
 
 returns-2 : tie.Need-returns-2
-returns-2 c = rw (c.before.before.before.before.enum-told2.given.1, sym c.before.before.is-kind2.ensures ∙ c.before.if2.true) c.header-at.ensures
+returns-2 c = rw (c.before.before.before.before.enum-told2.given.1, sym c.before.before.is-kind2.ensures ∙ c.before.if2.true) c.header_at_lem.ensures
 
 returns-3 : tie.Need-returns-3
 returns-3 c = rw (c.before.before.before.enum_told.given.1, sym c.before.is-kind.ensures ∙ c.if1.false)

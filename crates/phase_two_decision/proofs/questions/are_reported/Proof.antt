@@ -9,7 +9,7 @@ use Rattle.tables.specs.Tables.{table_in}
 use Rattle.session.specs.Tables.{span_of}
 use Rattle.session.specs.declared.kinds.Kind.TheVariants as the
 use Rattle.conversation.specs.PhaseTwo.{labels, label_of, is_any, is_invalid, is_naming}
-use Rattle.phase_two_decision.proofs.Laws.Questions.{reported, reported-not, reported-on, reported-all}
+use Rattle.phase_two_decision.proofs.Laws.Questions.{reported, reported_not, reported_on, reported_all}
 use Rattle.phase_two_decision.proofs.questions.are_reported.Statement.{statement}
 use Rattle.phase_two_decision.proofs.questions.are_reported.Tie as tie
 
@@ -37,7 +37,7 @@ returns c =
     let t = table_in a.span a.table a.slots.now in
     let es = labels (table_in (span_of the.Errors) a.errors a.slots.now) in
     let i = c.before.before.before.before.before.before.loop.i in
-    reported-not is_invalid a.mark t es i c.before.before.before.before.before.before.loop.invariant.0 (omega (arith, c.before.before.before.before.before.count_entries.ensures)) (ap (λ x. not (is_invalid (label_of x)) || is_any (is_naming a.mark i) es) (sym c.before.before.before.entry_at.ensures) ∙ sym c.before.is-settled.ensures ∙ not-true _ c.if2.true)
+    reported_not is_invalid a.mark t es i c.before.before.before.before.before.before.loop.invariant.0 (omega (arith, c.before.before.before.before.before.count_entries.ensures)) (ap (λ x. not (is_invalid (label_of x)) || is_any (is_naming a.mark i) es) (sym c.before.before.before.entry_at.ensures) ∙ sym c.before.is-settled.ensures ∙ not-true _ c.if2.true)
 
 add-i : tie.Need-overflow-add-i invariant-loop decreases-loop
 add-i c = omega (arith, c.before.before.before.before.before.count_entries.type-inv)
@@ -52,13 +52,13 @@ loop-again c =
     let es = labels (table_in (span_of the.Errors) a.errors a.slots.now) in
     let i = c.before.before.before.before.before.before.loop.i in
     let z = c.before.before.before.before.before.count_entries.ensures in
-    (reported-on is_invalid a.mark t es i c.before.before.before.before.before.before.loop.invariant.0 (omega (arith, z)) (ap (λ x. not (is_invalid (label_of x)) || is_any (is_naming a.mark i) es) (sym c.before.before.before.entry_at.ensures) ∙ sym c.before.is-settled.ensures ∙ not-false _ c.if2.false), omega (arith, z))
+    (reported_on is_invalid a.mark t es i c.before.before.before.before.before.before.loop.invariant.0 (omega (arith, z)) (ap (λ x. not (is_invalid (label_of x)) || is_any (is_naming a.mark i) es) (sym c.before.before.before.entry_at.ensures) ∙ sym c.before.is-settled.ensures ∙ not-false _ c.if2.false), omega (arith, z))
 
 returns-2 : tie.Need-returns-2 invariant-loop decreases-loop
 returns-2 c =
     let a = c.before.before.before.args in
     let t = table_in a.span a.table a.slots.now in
-    reported-all is_invalid a.mark t (labels (table_in (span_of the.Errors) a.errors a.slots.now)) c.before.before.loop.i c.before.before.loop.invariant.0 (omega (arith, c.before.count_entries.ensures))
+    reported_all is_invalid a.mark t (labels (table_in (span_of the.Errors) a.errors a.slots.now)) c.before.before.loop.i c.before.before.loop.invariant.0 (omega (arith, c.before.count_entries.ensures))
 
 pub are-reported-spec : {M : Type 1} → statement M
 are-reported-spec =

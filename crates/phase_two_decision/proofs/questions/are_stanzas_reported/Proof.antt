@@ -8,7 +8,7 @@ use Rattle.tables.specs.Tables.{table_in}
 use Rattle.session.specs.Tables.{span_of}
 use Rattle.session.specs.declared.kinds.Kind.TheVariants as the
 use Rattle.conversation.specs.PhaseTwo.{labels}
-use Rattle.phase_two_decision.proofs.Laws.Questions.{stanzas_reported, stanzas-not, stanzas-on, stanzas-all, settled_is}
+use Rattle.phase_two_decision.proofs.Laws.Questions.{stanzas_reported, stanzas_not, stanzas_on, stanzas_all, settled_is}
 use Rattle.phase_two_decision.proofs.questions.are_stanzas_reported.Statement.{statement}
 use Rattle.phase_two_decision.proofs.questions.are_stanzas_reported.Tie as tie
 
@@ -40,7 +40,7 @@ returns c =
     let es = labels (table_in (span_of the.Errors) a.errors a.slots.now) in
     let i = c.before.before.before.before.before.loop.i in
     let z = rw c.before.before.before.before.before.before.Span-of.ensures at c.before.before.before.before.count_entries.ensures in
-    stanzas-not t es i c.before.before.before.before.before.loop.invariant.0 (omega (arith, z)) (settled_is t es i _ (rw c.before.before.before.before.before.before.Span-of.ensures at c.before.before.entry_at.ensures) ∙ sym c.before.is-stanza-settled.ensures ∙ not-true _ c.if2.true)
+    stanzas_not t es i c.before.before.before.before.before.loop.invariant.0 (omega (arith, z)) (settled_is t es i _ (rw c.before.before.before.before.before.before.Span-of.ensures at c.before.before.entry_at.ensures) ∙ sym c.before.is-stanza-settled.ensures ∙ not-true _ c.if2.true)
 
 add-i : tie.Need-overflow-add-i invariant-loop decreases-loop
 add-i c = omega (arith, c.before.before.before.before.count_entries.type-inv)
@@ -55,14 +55,14 @@ loop-again c =
     let es = labels (table_in (span_of the.Errors) a.errors a.slots.now) in
     let i = c.before.before.before.before.before.loop.i in
     let z = rw c.before.before.before.before.before.before.Span-of.ensures at c.before.before.before.before.count_entries.ensures in
-    (stanzas-on t es i c.before.before.before.before.before.loop.invariant.0 (omega (arith, z)) (settled_is t es i _ (rw c.before.before.before.before.before.before.Span-of.ensures at c.before.before.entry_at.ensures) ∙ sym c.before.is-stanza-settled.ensures ∙ not-false _ c.if2.false), omega (arith, z), c.before.before.before.before.before.before.Span-of.ensures)
+    (stanzas_on t es i c.before.before.before.before.before.loop.invariant.0 (omega (arith, z)) (settled_is t es i _ (rw c.before.before.before.before.before.before.Span-of.ensures at c.before.before.entry_at.ensures) ∙ sym c.before.is-stanza-settled.ensures ∙ not-false _ c.if2.false), omega (arith, z), c.before.before.before.before.before.before.Span-of.ensures)
 
 returns-2 : tie.Need-returns-2 invariant-loop decreases-loop
 returns-2 c =
     let a = c.before.before.before.before.args in
     let t = table_in (span_of the.Headers) a.headers a.header-slots.now in
     let z = rw c.before.before.before.Span-of.ensures at c.before.count_entries.ensures in
-    stanzas-all t (labels (table_in (span_of the.Errors) a.errors a.slots.now)) c.before.before.loop.i c.before.before.loop.invariant.0 (omega (arith, z))
+    stanzas_all t (labels (table_in (span_of the.Errors) a.errors a.slots.now)) c.before.before.loop.i c.before.before.loop.invariant.0 (omega (arith, z))
 
 pub are-stanzas-reported-spec : {M : Type 1} → statement M
 are-stanzas-reported-spec =

@@ -5,7 +5,7 @@ use lib.ListN.{length}
 use native.Mathlib.Omega.{arith}
 use Rattle.tables.specs.Tables.{table_in}
 use Rattle.look_up.proofs.Laws.Labels.{left}
-use Rattle.phase_two_decision.proofs.Laws.Questions.{any_here, any-on, any_none}
+use Rattle.phase_two_decision.proofs.Laws.Questions.{any_here, any_on, any_none}
 use Rattle.conversation.specs.PhaseTwo.{how_many, labels, label_of, is_naming}
 use Rattle.phase_two_decision.proofs.questions.has_labelled.Statement.{statement}
 use Rattle.phase_two_decision.proofs.questions.has_labelled.Tie as tie
@@ -45,7 +45,7 @@ loop-again c =
     let t = table_in c.before.before.before.before.before.before.args.span c.before.before.before.before.before.before.args.table c.before.before.before.before.before.before.args.slots.now in
     let q = is_naming c.before.before.before.before.before.before.args.mark c.before.before.before.before.before.before.args.index in
     let z = c.before.before.before.before.count_entries.ensures in
-    (any-on q t c.before.before.before.before.before.loop.i c.before.before.before.before.before.loop.invariant.0 (omega (arith, z)) (ap (λ x. q (label_of x)) (sym c.before.before.entry_at.ensures) ∙ sym c.before.is-labelled.ensures ∙ c.if2.false), omega (arith, z))
+    (any_on q t c.before.before.before.before.before.loop.i c.before.before.before.before.before.loop.invariant.0 (omega (arith, z)) (ap (λ x. q (label_of x)) (sym c.before.before.entry_at.ensures) ∙ sym c.before.is-labelled.ensures ∙ c.if2.false), omega (arith, z))
 
 returns-2 : tie.Need-returns-2 invariant-loop decreases-loop
 returns-2 c =

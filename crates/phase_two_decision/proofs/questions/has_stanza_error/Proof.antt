@@ -6,7 +6,7 @@ use native.Mathlib.Omega.{arith}
 use Rattle.tables.specs.Tables.{table_in}
 use Rattle.conversation.specs.PhaseTwo.{how_many, labels, label_of, is_naming}
 use Rattle.look_up.proofs.Laws.Labels.{left}
-use Rattle.phase_two_decision.proofs.Laws.Questions.{any_here, any-on, any_none}
+use Rattle.phase_two_decision.proofs.Laws.Questions.{any_here, any_on, any_none}
 use Rattle.phase_two_decision.proofs.questions.has_stanza_error.Statement.{statement}
 use Rattle.phase_two_decision.proofs.questions.has_stanza_error.Tie as tie
 
@@ -48,7 +48,7 @@ loop-again c =
     let t = table_in c.before.before.before.before.before.before.Span-of.result c.before.before.before.before.before.before.before.args.errors c.before.before.before.before.before.before.before.args.slots.now in
     let q = is_naming (3 + c.before.before.before.before.before.before.before.args.file) c.before.before.before.before.before.before.before.args.i in
     let z = c.before.before.before.before.count_entries.ensures in
-    (any-on q t c.before.before.before.before.before.loop.k c.before.before.before.before.before.loop.invariant.0 (omega (arith, z)) (ap (λ x. q (label_of x)) (sym c.before.before.entry_at.ensures) ∙ sym c.before.names-stanza.ensures ∙ c.if2.false), omega (arith, z))
+    (any_on q t c.before.before.before.before.before.loop.k c.before.before.before.before.before.loop.invariant.0 (omega (arith, z)) (ap (λ x. q (label_of x)) (sym c.before.before.entry_at.ensures) ∙ sym c.before.names-stanza.ensures ∙ c.if2.false), omega (arith, z))
 
 returns-2 : tie.Need-returns-2 invariant-loop decreases-loop
 returns-2 c =

@@ -3,7 +3,7 @@ use mathlib.Core.Path.{ap, ◌∙◌}
 use native.Mathlib.Omega.{arith}
 use Rattle.tables.specs.Tables.{table_in}
 use Rattle.conversation.specs.PhaseTwo.{label_of, is_unknown}
-use Rattle.phase_two_decision.proofs.Laws.Questions.{passes_at, passes-out}
+use Rattle.phase_two_decision.proofs.Laws.Questions.{passes_at, passes_out}
 use borrow.Author.Rules.{rules}
 use Rattle.phase_two_decision.proofs.questions.is_unknown_at.Statement.{statement}
 use Rattle.phase_two_decision.proofs.questions.is_unknown_at.Tie as tie
@@ -17,7 +17,7 @@ count-entries-requires c κs = search rules
 returns : tie.Need-returns
 returns c =
     let t = table_in c.before.before.Span-of.result c.before.before.before.args.headers c.before.before.before.args.header-slots.now in
-    rw c.before.before.Span-of.ensures at (passes-out is_unknown t c.before.before.before.args.n (omega (arith, c.before.count_entries.ensures)))
+    rw c.before.before.Span-of.ensures at (passes_out is_unknown t c.before.before.before.args.n (omega (arith, c.before.count_entries.ensures)))
 
 entry-at-requires : tie.Need-entry-at-requires
 entry-at-requires c κs = search rules

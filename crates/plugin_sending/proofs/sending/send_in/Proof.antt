@@ -10,15 +10,15 @@ use Rattle.refusal.specs.Output.{said}
 use Rattle.refusal.specs.Pick.{pick}
 use Rattle.refusal.specs.Verdict.{verdict_said}
 use Rattle.stanza.specs.Writing.{sized}
-use Rattle.stanza.proofs.Laws.Writing.{size-bytes}
+use Rattle.stanza.proofs.Laws.Writing.{size_bytes}
 use Rattle.session.specs.Composing.{composed_said}
 use Rattle.session.specs.Opening.{name_of}
 use Rattle.session.specs.Tables.{tables_in}
 use Rattle.session.specs.Session.{session_of, carried_by}
-use Rattle.session.proofs.Laws.Composing.{composed-line, composed-not}
+use Rattle.session.proofs.Laws.Composing.{composed_line, composed_not}
 use Rattle.conversation.specs.CommandsTwo.{line_sent}
 use Rattle.conversation.specs.PhaseTwo.{buffers_of}
-use Rattle.conversation.proofs.Laws.SendingTwo.{sent-from, sent_unwritable}
+use Rattle.conversation.proofs.Laws.SendingTwo.{sent_from, sent_unwritable}
 use Rattle.phase_two_commands.specs.Commands.{command_said}
 
 put-line-two-requires : tie.Need-put-line-two-requires
@@ -66,7 +66,7 @@ returns c =
     let l = line_sent a.word a.arguments.now in
     let r = number_of c.before.composed.given.0.0 in
     let put = c.before.before.before.before.before.before.before.put-line-two.ensures in
-    let z = composed-not l a.store.now _ a.body.now _ put.0 put.1 r c.before.before.before.before.before.before.before.before.before.before.before.before.before.before.before.before.requires (sym (ap composed_said c.before.composed.given.1) ∙ c.before.before.before.compose.ensures) in (
+    let z = composed_not l a.store.now _ a.body.now _ put.0 put.1 r c.before.before.before.before.before.before.before.before.before.before.before.before.before.before.before.before.requires (sym (ap composed_said c.before.composed.given.1) ∙ c.before.before.before.compose.ensures) in (
       rw z.1 (sent_unwritable (session_of a.session a.slots.now a.header-slots.now) (buffers_of a.errors.now a.stanzas.now a.returned.now) l a.body.now a.out.now z.0),
       refl,
     )
@@ -97,14 +97,14 @@ returns-2 c =
     let o = a.out.now in
     let put = c.before.before.before.before.before.before.before.before.before.before.before.before.before.before.before.before.before.before.before.before.before.before.before.before.before.before.before.before.before.before.before.before.before.put-line-two.ensures in
     let composed = c.before.before.before.before.before.before.before.before.before.before.before.before.before.before.before.before.before.before.before.before.before.before.before.before.before.before.before.composed2.given in
-    let z = composed-line l a.store.now _ y _ put.0 put.1 composed.0.0 composed.0.1.0 (sym (ap composed_said composed.1) ∙ c.before.before.before.before.before.before.before.before.before.before.before.before.before.before.before.before.before.before.before.before.before.before.before.before.before.before.before.before.before.compose.ensures) in
+    let z = composed_line l a.store.now _ y _ put.0 put.1 composed.0.0 composed.0.1.0 (sym (ap composed_said composed.1) ∙ c.before.before.before.before.before.before.before.before.before.before.before.before.before.before.before.before.before.before.before.before.before.before.before.before.before.before.before.before.before.compose.ensures) in
     let f = c.before.before.before.before.before.before.before.before.before.before.before.before.before.before.before.before.before.before.before.before.before.before.before.front.result.now in
     let e : f ≡ l = c.before.before.before.before.before.before.before.before.before.before.before.before.before.before.before.before.before.before.before.before.before.before.before.front.ensures ∙ z.0 in
-    let w = size-bytes f y o composed.0.1.0 (z.1 ∙ ap (λ x. sized x y) (sym e)) in
-    let step = c.before.before.before.before.before.before.before.before.before.before.before.before.before.before.step-two in
+    let w = size_bytes f y o composed.0.1.0 (z.1 ∙ ap (λ x. sized x y) (sym e)) in
+    let step = c.before.before.before.before.before.before.before.before.before.before.before.before.before.before.step_two in
     let hs = a.header-slots.now in (
       rw (sym e, c.moved.ensures)
-          (sent-from a.session.machine (name_of a.session.name) a.session.screen a.session.phase (tables_in a.session.tables a.slots.now hs) (buffers_of a.errors.now a.stanzas.now a.returned.now) f y o w.0
+          (sent_from a.session.machine (name_of a.session.name) a.session.screen a.session.phase (tables_in a.session.tables a.slots.now hs) (buffers_of a.errors.now a.stanzas.now a.returned.now) f y o w.0
           (command_said c.before.before.before.before.before.before.before.before.before.before.before.before.before.before.before.before.before.before.before.before.before.before.parse-two.result) (verdict_said c.before.before.before.before.before.before.before.before.before.before.before.before.before.before.before.before.before.before.before.before.rule-two.result) (verdict_said c.before.before.before.before.before.before.before.before.before.before.before.before.before.before.before.before.before.before.before.check-output.result) (verdict_said step.result.verdict) (said c.before.before.before.before.write_judged.result) c.before.phase-sent-two.result _ _ _
           c.before.before.before.before.before.before.before.before.before.before.before.before.before.before.before.before.before.before.before.before.before.before.parse-two.ensures c.before.before.before.before.before.before.before.before.before.before.before.before.before.before.before.before.before.before.before.before.rule-two.ensures (c.before.before.before.before.before.before.before.before.before.before.before.before.before.before.before.before.before.before.before.check-output.ensures ∙ ap (λ n. pick (ltb (length o) n) 15 0) w.1) (step.ensures.0 hs) c.before.before.before.before.write_judged.ensures.0 c.before.phase-sent-two.ensures (step.ensures.1.0 hs) (step.ensures.1.1 hs) c.before.before.before.before.write_judged.ensures.1),
       ap carried_by c.moved.ensures,

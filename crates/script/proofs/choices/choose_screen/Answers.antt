@@ -1,26 +1,21 @@
 -- `choose_screen` meets its contract: the code's words are those of `screen_words`, and each number has its answer.
 use mathlib.Core.Path.{sym, ◌∙◌}
-use borrow.Author.Rules.{rules}
 use Rattle.stanza.specs.Arguments.{words, before}
 use Rattle.script.proofs.Laws.Choice.{none_below, place_other}
 use Rattle.script.specs.Choice.{screen_words}
 use Rattle.script.proofs.choices.choose_screen.Goals as goal
 
-
 pub returns-in-0 : goal.returns-in-0
 unfolding words before
 returns-in-0 c = sym c.in-0.is ∙ c.find_word-k.ensures
-
 
 pub returns-in-1 : goal.returns-in-1
 unfolding words before
 returns-in-1 c = sym c.in-1.is ∙ c.find_word-k.ensures
 
-
 pub returns-in-2 : goal.returns-in-2
 unfolding words before
 returns-in-2 c = sym c.in-2.is ∙ c.find_word-k.ensures
-
 
 pub returns-in_default : goal.returns-in_default
 unfolding words before

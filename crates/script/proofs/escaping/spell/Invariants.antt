@@ -1,15 +1,10 @@
 -- `spell` meets its contract. Invariant: the n bytes stored print what stands before i; behind them the buffer is as it was, and has space for the rest.
 use Prim.Native.Nat.{◌+◌, ◌-◌, ◌≤◌}
-use mathlib.Core.Path.{◌≡◌, refl, ◌∙◌}
+use mathlib.Core.Path.{◌≡◌}
 use mathlib.Core.List.{◌++◌}
-use lib.ListN.{length, take, drop, get_or}
-use native.Mathlib.Omega.{arith}
-use borrow.Author.Rules.{rules}
-use Rattle.script.specs.Escape.{printed, spelled}
-use Rattle.script.proofs.Laws.Escape.{spell-space, spell-kept, spell-more, spell_whole}
-use lib.Seq.{length-sets}
+use lib.ListN.{length, take, drop}
+use Rattle.script.specs.Escape.{spelled}
 use Rattle.script.proofs.escaping.spell.Given as goal
-
 
 abbrev pub invariant-loop-i : goal.invariant-loop-i
 invariant-loop-i l = (l.i ≤ length l.bytes)
@@ -17,7 +12,6 @@ invariant-loop-i l = (l.i ≤ length l.bytes)
     × (l.n + length (spelled (drop l.i l.bytes)) ≤ length l.out)
     × (drop l.n l.out ≡ drop l.n l.initial.out)
     × (spelled l.bytes ≡ take l.n l.out ++ spelled (drop l.i l.bytes))
-
 
 abbrev pub decreases-loop-i : goal.decreases-loop-i
 decreases-loop-i l = length l.bytes - l.i

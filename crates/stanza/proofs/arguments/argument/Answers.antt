@@ -6,7 +6,7 @@ use native.Mathlib.Omega.{arith}
 use borrow.Author.Rules.{rules}
 use Rattle.refusal.proofs.Laws.Run.{end_le}
 use Rattle.stanza.specs.Arguments.{is_word_byte, argument_of}
-use Rattle.stanza.proofs.Laws.Arguments.{argument-here, argument-none, argument-next}
+use Rattle.stanza.proofs.Laws.Arguments.{argument_here, argument_none, argument_next}
 use Rattle.stanza.proofs.arguments.argument.Goals as goal
 
 
@@ -19,7 +19,7 @@ returns-then-line-end c = let line = c.args.line.now in
     let from = c.loop-left.at in
     let left = c.loop-left.left in
     let r = c.word_end-end.result in
-    sym (c.loop-left.invariant.1 ∙ argument-none line from r c.word_end-end.ensures left (omega arith) (omega arith))
+    sym (c.loop-left.invariant.1 ∙ argument_none line from r c.word_end-end.ensures left (omega arith) (omega arith))
 
 
 pub loop-left-preserved : goal.loop-left-preserved
@@ -27,7 +27,7 @@ loop-left-preserved c = let line = c.args.line.now in
     let from = c.loop-left.at in
     let left = c.loop-left.left in
     let r = c.word_end-end.result in
-    (omega arith, c.loop-left.invariant.1 ∙ argument-next line from r c.word_end-end.ensures left (omega arith) (omega arith))
+    (omega arith, c.loop-left.invariant.1 ∙ argument_next line from r c.word_end-end.ensures left (omega arith) (omega arith))
 
 
 pub slice_bounds-result-end-2 : goal.slice_bounds-result-end-2
@@ -40,4 +40,4 @@ pub returns : goal.returns
 returns c = let line = c.args.line.now in
     let from = c.loop-left.at in
     let r = c.word_end-end-2.result in
-    sym (c.loop-left.invariant.1 ∙ ap (argument_of (drop from line)) (omega arith) ∙ argument-here line from r c.word_end-end-2.ensures)
+    sym (c.loop-left.invariant.1 ∙ ap (argument_of (drop from line)) (omega arith) ∙ argument_here line from r c.word_end-end-2.ensures)

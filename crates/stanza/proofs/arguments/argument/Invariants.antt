@@ -6,7 +6,7 @@ use native.Mathlib.Omega.{arith}
 use borrow.Author.Rules.{rules}
 use Rattle.refusal.proofs.Laws.Run.{end_le}
 use Rattle.stanza.specs.Arguments.{is_word_byte, argument_of}
-use Rattle.stanza.proofs.Laws.Arguments.{argument-here, argument-none, argument-next}
+use Rattle.stanza.proofs.Laws.Arguments.{argument_here, argument_none, argument_next}
 use Rattle.stanza.proofs.arguments.argument.Given as goal
 
 

@@ -5,7 +5,7 @@ use lib.ListN.{length, drop}
 use native.Mathlib.Omega.{arith}
 use borrow.Author.Rules.{rules}
 use Rattle.stanza.specs.Arguments.{count_of}
-use Rattle.stanza.proofs.Laws.Arguments.{count-last, count_next}
+use Rattle.stanza.proofs.Laws.Arguments.{count_last, count_next}
 use Rattle.stanza.proofs.arguments.count.Goals as goal
 
 
@@ -17,7 +17,7 @@ pub returns-then-line-end : goal.returns-then-line-end
 returns-then-line-end c = let line = c.args.line.now in
     let from = c.loop-n.at in
     let r = c.word_end-end.result in
-    omega (arith, count-last line from r c.word_end-end.ensures (omega arith))
+    omega (arith, count_last line from r c.word_end-end.ensures (omega arith))
 
 
 pub loop-n-preserved : goal.loop-n-preserved

@@ -5,7 +5,7 @@ use lib.ListN.{length, drop}
 use native.Mathlib.Omega.{arith}
 use borrow.Author.Rules.{rules}
 use Rattle.stanza.specs.Arguments.{count_of}
-use Rattle.stanza.proofs.Laws.Arguments.{count-last, count_next}
+use Rattle.stanza.proofs.Laws.Arguments.{count_last, count_next}
 use Rattle.stanza.proofs.arguments.count.Given as goal
 
 

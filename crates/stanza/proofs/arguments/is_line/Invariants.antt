@@ -7,7 +7,7 @@ use borrow.Author.Rules.{rules}
 use Rattle.refusal.specs.Run.{is_graphic}
 use Rattle.refusal.proofs.Laws.Run.{end_le}
 use Rattle.stanza.specs.Arguments.{is_line}
-use Rattle.stanza.proofs.Laws.Arguments.{line-empty, line-last, line-bad, line-next}
+use Rattle.stanza.proofs.Laws.Arguments.{line_empty, line_last, line_bad, line_next}
 use Rattle.stanza.proofs.arguments.is_line.Given as goal
 
 

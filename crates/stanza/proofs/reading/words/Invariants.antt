@@ -4,7 +4,7 @@ use mathlib.Core.Path.{◌≡◌, refl, ◌∙◌}
 use lib.ListN.{length, drop}
 use native.Mathlib.Omega.{arith}
 use Rattle.refusal.specs.Run.{is_graphic}
-use Rattle.refusal.proofs.Laws.Run.{run_in, run_out, end_le, run-first, run-stop}
+use Rattle.refusal.proofs.Laws.Run.{run_in, run_out, end_le, run_first, run_stop}
 use Rattle.stanza.specs.Automaton.{scan, gap, word}
 use Rattle.stanza.specs.Reading.{is_not_lf, line_end}
 use Rattle.stanza.proofs.Laws.Automaton.{scan_end, gap_bad, gap_word, word_run, word_lf, word_space, word_bad, graphic_line_end}

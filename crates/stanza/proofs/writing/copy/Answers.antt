@@ -5,7 +5,7 @@ use mathlib.Core.List.{◌++◌}
 use lib.ListN.{length, take, drop, length-set}
 use native.Mathlib.Omega.{arith}
 use borrow.Author.Tests.{lt-ltb, le-ltb}
-use Rattle.refusal.proofs.Laws.Lists.{front-store, front_whole}
+use Rattle.refusal.proofs.Laws.Lists.{front_store, front_whole}
 use borrow.Author.Rules.{rules}
 use Rattle.stanza.proofs.writing.copy.Goals as goal
 
@@ -19,7 +19,7 @@ loop-i-init c = (search rules, refl, refl)
 
 
 pub loop-i-preserved : goal.loop-i-preserved
-loop-i-preserved c = (search rules, simp length-set c.loop-i.invariant.1, front-store c.args.part.now c.loop-i.out c.args.out.now c.loop-i.i 0 c.loop-i.invariant.2 (omega arith) c.if-out-part.false)
+loop-i-preserved c = (search rules, simp length-set c.loop-i.invariant.1, front_store c.args.part.now c.loop-i.out c.args.out.now c.loop-i.i 0 c.loop-i.invariant.2 (omega arith) c.if-out-part.false)
 
 
 pub returns : goal.returns

@@ -5,7 +5,7 @@ use mathlib.Core.List.{◌++◌}
 use lib.ListN.{length, take, drop, length-set}
 use native.Mathlib.Omega.{arith}
 use borrow.Author.Tests.{lt-ltb, le-ltb}
-use Rattle.refusal.proofs.Laws.Lists.{front-store, front_whole}
+use Rattle.refusal.proofs.Laws.Lists.{front_store, front_whole}
 use borrow.Author.Rules.{rules}
 use Rattle.stanza.proofs.writing.copy.Given as goal
 

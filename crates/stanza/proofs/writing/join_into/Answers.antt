@@ -5,7 +5,7 @@ use lib.ListN.{length, take, drop, set, length-set, length-drop}
 use native.Mathlib.Omega.{arith}
 use borrow.Author.Tests.{le-ltb}
 use borrow.Rule.Slice.PartMut.{same_len_mid}
-use Rattle.refusal.proofs.Laws.Lists.{part-rest, parts-joined}
+use Rattle.refusal.proofs.Laws.Lists.{part_rest, parts_joined}
 use borrow.Author.Rules.{rules}
 use Rattle.stanza.proofs.writing.join_into.Goals as goal
 
@@ -32,5 +32,5 @@ returns c = let command = c.args.command.now in
     let b = set a (length command) 32 in
     let f : length command ≤ length o = omega (arith, c.requires) in
     let h : length arguments ≤ length (take (length b - (length command + 1)) (drop (length command + 1) b)) =
-    rw (part-rest (length command + 1) b) (simp (length-drop, length-set) (omega (arith, c.copy.auto.out, c.requires))) in
-    parts-joined command arguments a o c.copy-2.new.out 32 (rw (le-ltb _ _ f) at c.copy.ensures) (omega (arith, c.requires)) (rw (le-ltb _ _ h) at c.copy-2.ensures)
+    rw (part_rest (length command + 1) b) (simp (length-drop, length-set) (omega (arith, c.copy.auto.out, c.requires))) in
+    parts_joined command arguments a o c.copy-2.new.out 32 (rw (le-ltb _ _ f) at c.copy.ensures) (omega (arith, c.requires)) (rw (le-ltb _ _ h) at c.copy-2.ensures)

@@ -6,7 +6,7 @@ use lib.ListN.{length, take, drop, set, length-set, length-drop}
 use native.Mathlib.Omega.{arith}
 use borrow.Author.Tests.{le-ltb}
 use borrow.Rule.Slice.PartMut.{same_len_mid}
-use Rattle.refusal.proofs.Laws.Lists.{part-rest}
+use Rattle.refusal.proofs.Laws.Lists.{part_rest}
 use Rattle.stanza.proofs.Laws.Writing.{line_done}
 use borrow.Author.Rules.{rules}
 use Rattle.stanza.proofs.writing.write_line.Goals as goal
@@ -43,5 +43,5 @@ pub returns : goal.returns
 returns c = let l = c.args.line.now in
     let o = c.args.out.now in
     let b = set (set (set o 0 45) 1 62) 2 32 in
-    let h : length l ≤ length (take (length b - 3) (drop 3 b)) = rw (part-rest 3 b, length-drop 3 b) (simp length-set (omega arith)) in
+    let h : length l ≤ length (take (length b - 3) (drop 3 b)) = rw (part_rest 3 b, length-drop 3 b) (simp length-set (omega arith)) in
     line_done l o c.copy.new.out c.requires (rw (le-ltb _ _ h) at c.copy.ensures)

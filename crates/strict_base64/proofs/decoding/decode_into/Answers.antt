@@ -8,7 +8,7 @@ use lib.ListN.{length, take, drop, get_or, set, length-set, length-drop}
 use native.Mathlib.Omega.{arith}
 use Rattle.strict_base64.specs.Code.{decoded}
 use Rattle.strict_base64.proofs.Laws.Code.{decoded_end, decoded_turn, decoded_groups}
-use Rattle.refusal.proofs.Laws.Lists.{part-rest, store-three, overwrite}
+use Rattle.refusal.proofs.Laws.Lists.{part_rest, store_three, overwrite}
 use borrow.Author.Rules.{rules}
 use Rattle.strict_base64.proofs.decoding.decode_into.Goals as goal
 
@@ -20,7 +20,7 @@ turn : (t o o₀ : List ℕ) (i a b c d : ℕ) → 4 * i + 4 ≤ length t → 3 
     decoded (take (4 * (i + 1)) t) ++ drop (3 * (i + 1)) o₀
 turn t o o₀ i a b c d ht ho e ea eb ec ed =
     let g : 3 * (i + 1) ≡ 3 * i + 3 = omega arith in
-    rw (store-three o (3 * i) (a * 4 + b / 16) (b % 16 * 16 + c / 4) (c % 4 * 64 + d) ho, decoded_turn t i {a = a} {b = b} {c = c} {d = d} ht ea eb ec ed, g)
+    rw (store_three o (3 * i) (a * 4 + b / 16) (b % 16 * 16 + c / 4) (c % 4 * 64 + d) ho, decoded_turn t i {a = a} {b = b} {c = c} {d = d} ht ea eb ec ed, g)
     (overwrite o o₀ (decoded (take (4 * i) t)) ((a * 4 + b / 16) ∷ (b % 16 * 16 + c / 4) ∷ (c % 4 * 64 + d) ∷ []) (3 * i) 3 e (decoded_groups t i (omega arith)) refl)
 
 
@@ -52,8 +52,8 @@ loop-i-preserved c = let i = c.loop-i.i in
 pub decode_rest-requires : goal.decode_rest-requires
 decode_rest-requires c = record {
         values = c.requires.values;
-        text_len_bound = rw (part-rest (4 * (length c.args.text.now / 4)) c.args.text.now) (simp length-drop (omega arith));
-        text_in_bounds = rw (part-rest (4 * (length c.args.text.now / 4)) c.args.text.now, part-rest (3 * (length c.args.text.now / 4)) c.loop-i.out) (simp length-drop (omega arith));
+        text_len_bound = rw (part_rest (4 * (length c.args.text.now / 4)) c.args.text.now) (simp length-drop (omega arith));
+        text_in_bounds = rw (part_rest (4 * (length c.args.text.now / 4)) c.args.text.now, part_rest (3 * (length c.args.text.now / 4)) c.loop-i.out) (simp length-drop (omega arith));
     }
 
 

@@ -8,7 +8,7 @@ use lib.ListN.{length, take, drop, get_or, set, length-set, length-drop}
 use native.Mathlib.Omega.{arith}
 use Rattle.strict_base64.specs.Code.{decoded}
 use Rattle.strict_base64.proofs.Laws.Code.{decoded_end, decoded_turn, decoded_groups}
-use Rattle.refusal.proofs.Laws.Lists.{part-rest, store-three, overwrite}
+use Rattle.refusal.proofs.Laws.Lists.{part_rest, store_three, overwrite}
 use borrow.Author.Rules.{rules}
 use Rattle.strict_base64.proofs.decoding.decode_into.Given as goal
 

@@ -9,7 +9,7 @@ use borrow.Rule.Slice.PartMut.{same_len_mid}
 use Rattle.strict_base64.specs.Alphabet.{character_of}
 use Rattle.strict_base64.specs.Code.{encoded}
 use Rattle.strict_base64.proofs.Laws.Code.{encoded_end, encoded_turn, encoded_groups}
-use Rattle.refusal.proofs.Laws.Lists.{part-rest, store-four, overwrite}
+use Rattle.refusal.proofs.Laws.Lists.{part_rest, store_four, overwrite}
 use Rattle.strict_base64.proofs.encoding.encode_into.Goals as goal
 
 
@@ -20,7 +20,7 @@ turn : (t o o₀ : List ℕ) (i : ℕ) → 3 * i + 3 ≤ length t → 4 * i + 4 
     encoded (take (3 * (i + 1)) t) ++ drop (4 * (i + 1)) o₀
 turn t o o₀ i ht ho e =
     let g : 4 * (i + 1) ≡ 4 * i + 4 = omega arith in
-    rw (store-four o (4 * i) (character_of (get_or t (3 * i) 0 / 4)) (character_of (get_or t (3 * i) 0 % 4 * 16 + get_or t (3 * i + 1) 0 / 16)) (character_of (get_or t (3 * i + 1) 0 % 16 * 4 + get_or t (3 * i + 2) 0 / 64)) (character_of (get_or t (3 * i + 2) 0 % 64)) ho, encoded_turn t i ht, g)
+    rw (store_four o (4 * i) (character_of (get_or t (3 * i) 0 / 4)) (character_of (get_or t (3 * i) 0 % 4 * 16 + get_or t (3 * i + 1) 0 / 16)) (character_of (get_or t (3 * i + 1) 0 % 16 * 4 + get_or t (3 * i + 2) 0 / 64)) (character_of (get_or t (3 * i + 2) 0 % 64)) ho, encoded_turn t i ht, g)
     (overwrite o o₀ (encoded (take (3 * i) t)) (_ ∷ _ ∷ _ ∷ _ ∷ []) (4 * i) 4 e (encoded_groups t i (omega arith)) refl)
 
 
@@ -52,8 +52,8 @@ loop-i-preserved c = let i = c.loop-i.i in
 pub encode_rest-requires : goal.encode_rest-requires
 encode_rest-requires c = record {
         characters = c.requires.characters;
-        bytes_len_bound = rw (part-rest (3 * (length c.args.bytes.now / 3)) c.args.bytes.now) (simp length-drop (omega arith));
-        bytes_in_bounds = rw (part-rest (3 * (length c.args.bytes.now / 3)) c.args.bytes.now, part-rest (4 * (length c.args.bytes.now / 3)) c.loop-i.out) (simp length-drop (omega arith));
+        bytes_len_bound = rw (part_rest (3 * (length c.args.bytes.now / 3)) c.args.bytes.now) (simp length-drop (omega arith));
+        bytes_in_bounds = rw (part_rest (3 * (length c.args.bytes.now / 3)) c.args.bytes.now, part_rest (4 * (length c.args.bytes.now / 3)) c.loop-i.out) (simp length-drop (omega arith));
     }
 
 

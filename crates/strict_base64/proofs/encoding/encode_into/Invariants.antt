@@ -9,7 +9,7 @@ use borrow.Rule.Slice.PartMut.{same_len_mid}
 use Rattle.strict_base64.specs.Alphabet.{character_of}
 use Rattle.strict_base64.specs.Code.{encoded}
 use Rattle.strict_base64.proofs.Laws.Code.{encoded_end, encoded_turn, encoded_groups}
-use Rattle.refusal.proofs.Laws.Lists.{part-rest, store-four, overwrite}
+use Rattle.refusal.proofs.Laws.Lists.{part_rest, store_four, overwrite}
 use Rattle.strict_base64.proofs.encoding.encode_into.Given as goal
 
 

@@ -6,7 +6,7 @@ use lib.ListN.{length, length-map}
 use native.Mathlib.Omega.{arith}
 use borrow.Author.Tests.{eqb-true, eqb-false}
 use Rattle.refusal.proofs.Laws.Booleans.{cases}
-use Rattle.refusal.proofs.Laws.Run.{run-le, run-whole, run-part}
+use Rattle.refusal.proofs.Laws.Run.{run_le, run_whole, run_part}
 use Rattle.symbols.specs.Steps.{value_in}
 use Rattle.symbols.proofs.charset.are_characters.Goals as goal
 
@@ -17,5 +17,5 @@ returns c = let f = value_in c.args.table.now in
     let n = length-map t f in
     let r = c.character_run.result in
     cases (eqb r (length t))
-    (λ e. e ∙ sym (run-whole (λ v. ltb v 32) l (omega (arith, n, eqb-true r (length t) e, c.character_run.ensures))))
-    (λ e. e ∙ sym (run-part (λ v. ltb v 32) l (omega (arith, n, eqb-false r (length t) e, c.character_run.ensures, run-le (λ v. ltb v 32) l))))
+    (λ e. e ∙ sym (run_whole (λ v. ltb v 32) l (omega (arith, n, eqb-true r (length t) e, c.character_run.ensures))))
+    (λ e. e ∙ sym (run_part (λ v. ltb v 32) l (omega (arith, n, eqb-false r (length t) e, c.character_run.ensures, run_le (λ v. ltb v 32) l))))

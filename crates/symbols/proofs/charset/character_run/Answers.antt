@@ -8,11 +8,11 @@ use native.Mathlib.Omega.{arith}
 use borrow.Author.Tests.{lt-ltb, le-ltb}
 use Rattle.refusal.proofs.Laws.Run.{run_in, run_out, run_end}
 use Rattle.symbols.specs.Steps.{value_in}
-use Rattle.symbols.proofs.Laws.Maps.{run-map}
+use Rattle.symbols.proofs.Laws.Maps.{run_map}
 use Rattle.symbols.proofs.charset.character_run.Goals as goal
 
 pub loop-i-init : goal.loop-i-init
-loop-i-init c = omega (arith, run-map (value_in c.args.table.now) (λ v. ltb v 32) c.args.text.now)
+loop-i-init c = omega (arith, run_map (value_in c.args.table.now) (λ v. ltb v 32) c.args.text.now)
 
 pub returns-then-look_up-ge-SYMBOLS : goal.returns-then-look_up-ge-SYMBOLS
 returns-then-look_up-ge-SYMBOLS c = let t = c.args.text.now in

@@ -7,7 +7,7 @@ use borrow.Author.Rules.{rules}
 use borrow.Rule.Slice.PartMut.{same_len_mid}
 use Rattle.symbols.specs.Regroup.{bytes}
 use Rattle.symbols.specs.Steps.{symbol_in}
-use Rattle.symbols.proofs.Laws.Groups.{bytes-turn, bytes-ended}
+use Rattle.symbols.proofs.Laws.Groups.{bytes_turn, bytes_ended}
 use Rattle.symbols.proofs.regroup.decode_into.Goals as goal
 
 pub loop-i-init : goal.loop-i-init
@@ -28,7 +28,7 @@ loop-i-preserved c = let t = c.args.text.now in
     let i = c.loop-i.i in (
       search rules,
       same_len_mid (5 * i) (length out - 5 * i) out c.decode_group.new.out c.decode_group.auto.out ∙ c.loop-i.invariant.1,
-      bytes-turn (symbol_in c.args.table.now) t out c.args.out.now c.decode_group.new.out i (omega arith) c.loop-i.invariant.2 c.decode_group.ensures,
+      bytes_turn (symbol_in c.args.table.now) t out c.args.out.now c.decode_group.new.out i (omega arith) c.loop-i.invariant.2 c.decode_group.ensures,
     )
 
 pub decode_rest-requires : goal.decode_rest-requires
@@ -47,4 +47,4 @@ shape_of-out c = let k = 5 * (length c.args.text.now / 8) in
 pub returns : goal.returns
 returns c = let t = c.args.text.now in
     let n : c.loop-i.i ≡ length t / 8 = omega arith in
-    bytes-ended (symbol_in c.args.table.now) t c.loop-i.out c.args.out.now c.decode_rest.new.out (length t / 8) (omega arith) (rw n at c.loop-i.invariant.2) c.decode_rest.ensures
+    bytes_ended (symbol_in c.args.table.now) t c.loop-i.out c.args.out.now c.decode_rest.new.out (length t / 8) (omega arith) (rw n at c.loop-i.invariant.2) c.decode_rest.ensures

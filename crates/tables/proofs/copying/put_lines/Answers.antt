@@ -5,7 +5,7 @@ use lib.ListN.{length, set, length-set, length-drop}
 use native.Mathlib.Omega.{arith}
 use borrow.Author.Tests.{le-ltb}
 use borrow.Rule.Slice.PartMut.{same_len_mid}
-use Rattle.refusal.proofs.Laws.Lists.{part-rest, parts-joined}
+use Rattle.refusal.proofs.Laws.Lists.{part_rest, parts_joined}
 use Rattle.tables.specs.Bodies.{body_from}
 use borrow.Author.Rules.{rules}
 use Rattle.tables.proofs.copying.put_lines.Goals as goal
@@ -22,7 +22,7 @@ slice_bounds-put_body-start c = simp length-set (omega (arith, c.copy.auto.out, 
 pub put_body-requires : goal.put_body-requires
 put_body-requires c = let n = length c.args.line.now in
     let b = set c.copy.new.out n 10 in
-    rw (part-rest (n + 1) b) (simp (length-drop, length-set) (omega (arith, c.copy.auto.out, c.requires)))
+    rw (part_rest (n + 1) b) (simp (length-drop, length-set) (omega (arith, c.copy.auto.out, c.requires)))
 
 
 pub shape_of-out : goal.shape_of-out
@@ -33,4 +33,4 @@ shape_of-out c = let n = length c.args.line.now in
 
 pub returns : goal.returns
 returns c = let f : length c.args.line.now ≤ length c.args.out.now = omega (arith, c.requires) in
-    parts-joined c.args.line.now (body_from c.args.coding c.args.source.now) c.copy.new.out c.args.out.now c.put_body.new.out 10 (rw (le-ltb _ _ f) at c.copy.ensures) (omega (arith, c.requires)) c.put_body.ensures
+    parts_joined c.args.line.now (body_from c.args.coding c.args.source.now) c.copy.new.out c.args.out.now c.put_body.new.out 10 (rw (le-ltb _ _ f) at c.copy.ensures) (omega (arith, c.requires)) c.put_body.ensures

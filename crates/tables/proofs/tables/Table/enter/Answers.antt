@@ -10,7 +10,7 @@ use Rattle.refusal.proofs.Laws.Booleans.{and_true}
 use Rattle.refusal.proofs.Laws.Number.{number_not_zero}
 use Rattle.tables.specs.Slots.{slots_of}
 use Rattle.tables.specs.Tables.{table_in, fits}
-use Rattle.tables.proofs.Laws.Slots.{slot-set, slot_other}
+use Rattle.tables.proofs.Laws.Slots.{slot_set, slot_other}
 use borrow.Author.Rules.{rules}
 use Rattle.tables.proofs.tables.Table.enter.Goals as goal
 
@@ -61,6 +61,6 @@ returns-in-Accepted c = let h = c.args.span in
     let e = c.put_entry.ensures in
     record {
         number = rw (f, c.in-Accepted.is) refl;
-        table = rw (f, c.in-Accepted.is) (ap (λ x. record { width = h.width; slots = x; count = s.count + 1; used = s.used + n }) (ap (slots_of h) e ∙ slot-set h xs s.count v l));
+        table = rw (f, c.in-Accepted.is) (ap (λ x. record { width = h.width; slots = x; count = s.count + 1; used = s.used + n }) (ap (slots_of h) e ∙ slot_set h xs s.count v l));
         others = (λ k a. ap (slots_of k) e ∙ slot_other h k xs s.count v l a);
     }

@@ -1,7 +1,7 @@
 -- Nothing at or beyond the count or the width; else what stands in the slot.
 use mathlib.Core.Path.{ap, ◌∙◌}
 use Rattle.tables.specs.Tables.{table_in, entry}
-use Rattle.tables.proofs.Laws.LookUp.{find_none, find-beyond, find-there}
+use Rattle.tables.proofs.Laws.LookUp.{find_none, find_beyond, find_there}
 use borrow.Author.Rules.{rules}
 use Rattle.tables.proofs.tables.Table.find.Goals as goal
 
@@ -11,8 +11,8 @@ returns-then-self-n c = find_none (table_in c.args.span c.args.self c.args.slots
 
 
 pub returns-then-span-n : goal.returns-then-span-n
-returns-then-span-n c = find-beyond (table_in c.args.span c.args.self c.args.slots.now) c.args.n c.if-self-n.false c.if-span-n.true
+returns-then-span-n c = find_beyond (table_in c.args.span c.args.self c.args.slots.now) c.args.n c.if-self-n.false c.if-span-n.true
 
 
 pub returns : goal.returns
-returns c = ap entry c.entry_at.ensures ∙ find-there (table_in c.args.span c.args.self c.args.slots.now) c.args.n c.if-self-n.false c.if-span-n.false
+returns c = ap entry c.entry_at.ensures ∙ find_there (table_in c.args.span c.args.self c.args.slots.now) c.args.n c.if-self-n.false c.if-span-n.false

@@ -11,8 +11,8 @@ use Rattle.refusal.specs.Same.{same}
 use Rattle.tables.specs.Tables.{table_in}
 use Rattle.tables.specs.Repeats.{shows, any_shows, repeats}
 use Rattle.tables.specs.declared.slots.Entry.{Entry}
-use Rattle.tables.proofs.Laws.Slots.{slot-there}
-use Rattle.tables.proofs.Laws.Repeats.{among, slot_at, byte-back, bytes-all, bytes-none, shows-held, shows-short, shows-other, missed, met, none_left, among_all}
+use Rattle.tables.proofs.Laws.Slots.{slot_there}
+use Rattle.tables.proofs.Laws.Repeats.{among, slot_at, byte_back, bytes_all, bytes_none, shows_held, shows_short, shows_other, missed, met, none_left, among_all}
 use Rattle.tables.proofs.tables.Table.is_repeated.Given as goal
 
 

@@ -5,11 +5,11 @@ use Prim.Native.Nat.{◌-◌}
 use lib.ListN.{length, length-drop}
 use native.Mathlib.Omega.{arith}
 use Rattle.refusal.specs.Verdict.{verdict_said}
-use Rattle.refusal.proofs.Laws.Lists.{part-rest}
+use Rattle.refusal.proofs.Laws.Lists.{part_rest}
 use Rattle.refusal.proofs.Laws.Number.{number_not_zero}
 use Rattle.tables.specs.Bodies.{body_from}
 use Rattle.tables.specs.Tables.{table_in, storing}
-use Rattle.tables.proofs.Laws.Tables.{storing-within}
+use Rattle.tables.proofs.Laws.Tables.{storing_within}
 use borrow.Author.Rules.{rules}
 use Rattle.tables.proofs.tables.Table.store.Goals as goal
 
@@ -17,14 +17,14 @@ use Rattle.tables.proofs.tables.Table.store.Goals as goal
 pub slice_bounds-put_body-count : goal.slice_bounds-put_body-count
 slice_bounds-put_body-count c = let t = table_in c.args.span c.args.self c.args.slots.now in
     let z : storing t c.body_size-n.result (length c.args.buffer.now) (verdict_said c.args.late) ≡ 0 = sym c.enter-stored.ensures.number ∙ ap verdict_said c.in-Accepted.is in
-    let l = storing-within t c.body_size-n.result (length c.args.buffer.now) (verdict_said c.args.late) z in
+    let l = storing_within t c.body_size-n.result (length c.args.buffer.now) (verdict_said c.args.late) z in
     omega (arith, l)
 
 
 pub slice_bounds-put_body-start : goal.slice_bounds-put_body-start
 slice_bounds-put_body-start c = let t = table_in c.args.span c.args.self c.args.slots.now in
     let z : storing t c.body_size-n.result (length c.args.buffer.now) (verdict_said c.args.late) ≡ 0 = sym c.enter-stored.ensures.number ∙ ap verdict_said c.in-Accepted.is in
-    let l = storing-within t c.body_size-n.result (length c.args.buffer.now) (verdict_said c.args.late) z in
+    let l = storing_within t c.body_size-n.result (length c.args.buffer.now) (verdict_said c.args.late) z in
     omega (arith, l)
 
 
@@ -32,8 +32,8 @@ pub put_body-requires : goal.put_body-requires
 put_body-requires c = let t = table_in c.args.span c.args.self c.args.slots.now in
     let b = c.args.buffer.now in
     let z : storing t c.body_size-n.result (length b) (verdict_said c.args.late) ≡ 0 = sym c.enter-stored.ensures.number ∙ ap verdict_said c.in-Accepted.is in
-    let l = storing-within t c.body_size-n.result (length b) (verdict_said c.args.late) z in
-    rw (part-rest c.args.self.used b) (simp length-drop (omega (arith, l, c.body_size-n.ensures.0)))
+    let l = storing_within t c.body_size-n.result (length b) (verdict_said c.args.late) z in
+    rw (part_rest c.args.self.used b) (simp length-drop (omega (arith, l, c.body_size-n.ensures.0)))
 
 
 pub returns-in-Refused : goal.returns-in-Refused

@@ -5,12 +5,12 @@ use Prim.Native.Nat.{◌+◌, ◌-◌}
 use lib.ListN.{length, length-drop}
 use native.Mathlib.Omega.{arith}
 use Rattle.refusal.specs.Verdict.{verdict_said}
-use Rattle.refusal.proofs.Laws.Lists.{part-rest}
+use Rattle.refusal.proofs.Laws.Lists.{part_rest}
 use Rattle.refusal.proofs.Laws.Number.{number_not_zero}
 use Rattle.tables.specs.Bodies.{body_from}
 use Rattle.tables.specs.Tables.{table_in, storing}
 use Rattle.tables.proofs.Laws.Copying.{placed_is, kept_placed, lines_length}
-use Rattle.tables.proofs.Laws.Tables.{storing-within}
+use Rattle.tables.proofs.Laws.Tables.{storing_within}
 use borrow.Author.Rules.{rules}
 use Rattle.tables.proofs.tables.Table.store_lines.Goals as goal
 
@@ -23,7 +23,7 @@ pub slice_bounds-put_lines-count : goal.slice_bounds-put_lines-count
 slice_bounds-put_lines-count c = let t = table_in c.args.span c.args.self c.args.slots.now in
     let n = length c.args.line.now + 1 + c.body_size.result in
     let z : storing t n (length c.args.buffer.now) (verdict_said c.args.late) ≡ 0 = sym c.enter-stored.ensures.number ∙ ap verdict_said c.in-Accepted.is in
-    let l = storing-within t n (length c.args.buffer.now) (verdict_said c.args.late) z in
+    let l = storing_within t n (length c.args.buffer.now) (verdict_said c.args.late) z in
     omega (arith, l)
 
 
@@ -31,7 +31,7 @@ pub slice_bounds-put_lines-start : goal.slice_bounds-put_lines-start
 slice_bounds-put_lines-start c = let t = table_in c.args.span c.args.self c.args.slots.now in
     let n = length c.args.line.now + 1 + c.body_size.result in
     let z : storing t n (length c.args.buffer.now) (verdict_said c.args.late) ≡ 0 = sym c.enter-stored.ensures.number ∙ ap verdict_said c.in-Accepted.is in
-    let l = storing-within t n (length c.args.buffer.now) (verdict_said c.args.late) z in
+    let l = storing_within t n (length c.args.buffer.now) (verdict_said c.args.late) z in
     omega (arith, l)
 
 
@@ -40,8 +40,8 @@ put_lines-requires c = let t = table_in c.args.span c.args.self c.args.slots.now
     let b = c.args.buffer.now in
     let n = length c.args.line.now + 1 + c.body_size.result in
     let z : storing t n (length b) (verdict_said c.args.late) ≡ 0 = sym c.enter-stored.ensures.number ∙ ap verdict_said c.in-Accepted.is in
-    let l = storing-within t n (length b) (verdict_said c.args.late) z in
-    rw (part-rest c.args.self.used b) (simp length-drop (omega (arith, l, c.body_size.ensures.0)))
+    let l = storing_within t n (length b) (verdict_said c.args.late) z in
+    rw (part_rest c.args.self.used b) (simp length-drop (omega (arith, l, c.body_size.ensures.0)))
 
 
 pub returns-in-Refused : goal.returns-in-Refused
