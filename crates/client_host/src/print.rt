@@ -1,30 +1,28 @@
-// Lines of standard output: a label, and what stands behind it.
+// Lines of standard output: a label, and what stands behind it. What standard output does not take is left out.
 use client::{Verdict, Written};
-use libc::STDOUT_FILENO;
 
-pub fn print(label: &[u8], bytes: &[u8]) {
-    io::write_all(STDOUT_FILENO, label);
-    io::write_all(STDOUT_FILENO, bytes);
-    io::write_all(STDOUT_FILENO, b"\n");
+pub fn print(stdout: &impl Print, label: &[u8], bytes: &[u8]) {
+    let _ = stdout.write_all(label);
+    let _ = stdout.write_all(bytes);
+    let _ = println!(stdout);
 }
 
-pub fn print_number(label: &[u8], n: usize) {
-    io::write_all(STDOUT_FILENO, label);
-    io::print_decimal(STDOUT_FILENO, n as u64);
-    io::write_all(STDOUT_FILENO, b"\n");
+pub fn print_number(stdout: &impl Print, label: &[u8], n: usize) {
+    let _ = stdout.write_all(label);
+    let _ = println!(stdout; "{n}");
 }
 
 // As many of the first bytes as were written, or the refusal.
-pub fn print_written(label: &[u8], written: Written, bytes: &[u8]) {
+pub fn print_written(stdout: &impl Print, label: &[u8], written: Written, bytes: &[u8]) {
     match written {
-        Written::Bytes(n) => print(label, client::front(bytes, n)),
-        Written::Refused(r) => print_number(b"refused: ", client::number(r) as usize),
+        Written::Bytes(n) => print(stdout, label, client::front(bytes, n)),
+        Written::Refused(r) => print_number(stdout, b"refused: ", client::number(r) as usize),
     }
 }
 
-pub fn print_verdict(label: &[u8], verdict: Verdict) {
+pub fn print_verdict(stdout: &impl Print, label: &[u8], verdict: Verdict) {
     match verdict {
-        Verdict::Accepted => print(label, b"accepted"),
-        Verdict::Refused(r) => print_number(label, client::number(r) as usize),
+        Verdict::Accepted => print(stdout, label, b"accepted"),
+        Verdict::Refused(r) => print_number(stdout, label, client::number(r) as usize),
     }
 }

@@ -1,24 +1,25 @@
 // Reads an old identity file from standard input and writes its identities to standard output as commands of phase one, ended by done. What was skipped, and each
 // invalid line with its number and what that means, goes to standard error.
 #![tactic(auto)]
-ghost use Rattle.std.specs.Prelude.{◌≡◌, length};
+
+ghost use Rattle.std.specs.Prelude.{◌≡◌, ◌≤◌, length};
 
 mod report;
 
 use identity_file::{MOST_FAULTS, Reading};
-use libc::{STDERR_FILENO, STDIN_FILENO, STDOUT_FILENO};
 use refusal::Written;
 use report::report;
+use std::io::Read;
 
 // One more byte than a file may have here, and as many as its commands can have: 64 of 1,042 bytes, and done.
 const INPUT: usize = 131073;
 
 const OUTPUT: usize = 66697;
 
-fn main() {
+fn main(rt: HostRuntime) {
     let mut text = input_buffer();
     let mut out = output_buffer();
-    run(&mut text, &mut out);
+    run(&mut rt.stdin(), &rt, &mut text, &mut out);
 }
 
 // Zeros for the file.
@@ -36,40 +37,49 @@ fn output_buffer() -> [u8; OUTPUT]
 }
 
 // Reads the file, and prints what it comes to.
-fn run(text: &mut [u8], out: &mut [u8]) {
+fn run(stdin: &mut impl Read, rt: &(impl Print + Eprint), text: &mut [u8], out: &mut [u8]) {
     let mut faults = [[0usize; 2]; MOST_FAULTS];
-    let n = io::read_full(STDIN_FILENO, text);
+    let n = read_full(stdin, text);
     if n == text.len() {
-        io::write_all(
-            STDERR_FILENO,
-            b"identities: the file has more than 131,072 bytes\n",
-        );
+        let _ = eprintln!(rt; "identities: the file has more than 131,072 bytes");
         return;
     }
     let reading = identity_file::read(&text[..n], &mut faults, out);
-    if print(reading, out) {
-        report(reading.keys, reading.invalid, &faults);
+    if print(rt, reading, out) {
+        report(rt, reading.keys, reading.invalid, &faults);
     }
 }
 
+// Reads until the buffer is full, the input ends or a read fails: how many bytes.
+fn read_full(stdin: &mut impl Read, text: &mut [u8]) -> usize
+    ensures { result ≤ length text.new }
+{
+    let mut done = 0;
+    while done < text.len() {
+        let n = stdin.read(&mut text[done..]).unwrap_or(0);
+        if n == 0 {
+            break;
+        }
+        done += n;
+    }
+    done
+}
+
 // Prints the commands; or the refusal, and false.
-fn print(reading: Reading, out: &[u8]) -> bool {
+fn print(rt: &(impl Print + Eprint), reading: Reading, out: &[u8]) -> bool {
     let answer = reading.answer;
     match answer {
         Written::Bytes(size) => {
             if out.len() < size {
                 return false;
             }
-            if !io::write_all(STDOUT_FILENO, &out[..size]) {
-                io::write_all(STDERR_FILENO, b"identities: standard output failed\n");
+            if rt.write_all(&out[..size]).is_err() {
+                let _ = eprintln!(rt; "identities: standard output failed");
             }
             true
         }
         Written::Refused(_) => {
-            io::write_all(
-                STDERR_FILENO,
-                b"identities: 8, more than 64 identities; nothing written\n",
-            );
+            let _ = eprintln!(rt; "identities: 8, more than 64 identities; nothing written");
             false
         }
     }

@@ -1,15 +1,17 @@
 // Standard input, a chunk at a time.
 ghost use Rattle.std.specs.Prelude.{◌≤◌, length};
 
-use libc::{STDERR_FILENO, STDIN_FILENO};
+use std::io::Read;
 
-// Reads once: how many bytes, 0 at the end of the input.
-pub fn read_chunk(chunk: &mut [u8]) -> usize
+// Reads once: how many bytes, 0 at the end of the input. A read that fails ends the input too, and is told.
+pub fn read_chunk(stdin: &mut impl Read, stderr: &impl Eprint, chunk: &mut [u8]) -> usize
     ensures { result ≤ length chunk.old }
 {
-    let got = libc::read(STDIN_FILENO, chunk);
-    if got < 0 {
-        io::write_all(STDERR_FILENO, b"judge: standard input failed\n");
+    match stdin.read(chunk) {
+        Ok(n) => n,
+        Err(_) => {
+            let _ = eprintln!(stderr; "judge: standard input failed");
+            0
+        }
     }
-    io::count(got, chunk)
 }

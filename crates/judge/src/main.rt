@@ -1,14 +1,15 @@
 // Judges the phase one of recipient-v1 on standard input and writes its five numbers. The input may be of any length: it is read in chunks, up to done or a
 // refusal.
 #![tactic(auto)]
+
 mod input;
 mod output;
 
 use input::read_chunk;
 use judging::{Judged, Judging, Progress};
-use libc::STDERR_FILENO;
 use output::print;
 use session::Session;
+use std::io::Read;
 
 // Where the run stands, and whether it goes on.
 #[derive(Clone, Copy)]
@@ -17,8 +18,10 @@ struct State {
     more: bool,
 }
 
-fn main() {
-    let mut chunk = io::large_buffer();
+fn main(rt: HostRuntime) {
+    let mut stdin = rt.stdin();
+    let stderr = rt.stderr();
+    let mut chunk = [0u8; 65536];
     let mut input = [0u8; Session::PLUGIN_INPUT];
     let mut slots = Session::open_slots();
     let mut header_slots = Session::open_header_slots();
@@ -26,6 +29,8 @@ fn main() {
     let mut identities = [0u8; 16384];
     let mut keys = [0u8; 1024];
     let judged = run(
+        &mut stdin,
+        &stderr,
         &mut chunk,
         &mut input,
         &mut slots,
@@ -34,14 +39,16 @@ fn main() {
         &mut identities,
         &mut keys,
     );
-    if !print(judged) {
-        io::write_all(STDERR_FILENO, b"judge: standard output failed\n");
+    if print(&rt.stdout(), judged).is_err() {
+        let _ = eprintln!(stderr; "judge: standard output failed");
     }
 }
 
 // Reads up to done, a refusal or the end of the input. A proved loop has to end, and nothing says that the input does, so the turns are counted down from a
 // number that no run uses up.
 fn run(
+    stdin: &mut impl Read,
+    stderr: &impl Eprint,
     chunk: &mut [u8],
     input: &mut [u8; Session::PLUGIN_INPUT],
     slots: &mut [[usize; 4]; Session::OTHER_SLOTS],
@@ -58,6 +65,8 @@ fn run(
     while turns > 0 && s.more {
         s = run_turn(
             s.judging,
+            stdin,
+            stderr,
             chunk,
             input,
             slots,
@@ -74,6 +83,8 @@ fn run(
 // Reads once, and judges what came; where nothing came the input has ended.
 fn run_turn(
     judging: Judging,
+    stdin: &mut impl Read,
+    stderr: &impl Eprint,
     chunk: &mut [u8],
     input: &mut [u8; Session::PLUGIN_INPUT],
     slots: &mut [[usize; 4]; Session::OTHER_SLOTS],
@@ -82,7 +93,7 @@ fn run_turn(
     identities: &mut [u8],
     keys: &mut [u8],
 ) -> State {
-    let n = read_chunk(chunk);
+    let n = read_chunk(stdin, stderr, chunk);
     if n == 0 {
         return State {
             judging: judging,

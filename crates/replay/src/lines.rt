@@ -1,7 +1,7 @@
 // The lines of standard input, read in chunks. Answers are written before more input is read.
-use libc::{STDERR_FILENO, STDIN_FILENO};
 use replay_answers::{Output, flush};
 use replay_lines::{Buffer, append, front, part};
+use std::io::Read;
 
 // The line buffer takes a byte more than the longest line, so that a longer one shows.
 pub type Line = [u8; 65537];
@@ -33,13 +33,19 @@ pub fn start() -> State {
 }
 
 // One step: more bytes of the current line, which may end it; or, where the chunk is taken, another chunk.
-pub fn advance(chunk: &mut Buffer, line: &mut Line, out: &Output, s: State) -> State {
+pub fn advance(
+    stdin: &mut impl Read,
+    chunk: &mut Buffer,
+    line: &mut Line,
+    out: &Output,
+    s: State,
+) -> State {
     let kept = kept_length(s.ended, s.length);
     if s.from < s.to {
         return take_piece(front(chunk, s.to), line, kept, s);
     }
     flush(out, s.at);
-    let n = read_some(chunk);
+    let n = read_some(stdin, &out.stderr, chunk);
     next_chunk(n, kept, s)
 }
 
@@ -98,11 +104,13 @@ fn next_chunk(n: usize, kept: usize, s: State) -> State {
     }
 }
 
-// Reads once: how many bytes, 0 at the end of the input.
-fn read_some(chunk: &mut [u8]) -> usize {
-    let got = libc::read(STDIN_FILENO, chunk);
-    if got < 0 {
-        io::write_all(STDERR_FILENO, b"replay: standard input failed\n");
+// Reads once: how many bytes, 0 at the end of the input. A read that fails ends the input too, and is told.
+fn read_some(stdin: &mut impl Read, stderr: &impl Eprint, chunk: &mut [u8]) -> usize {
+    match stdin.read(chunk) {
+        Ok(n) => n,
+        Err(_) => {
+            let _ = eprintln!(stderr; "replay: standard input failed");
+            0
+        }
     }
-    io::count(got, chunk)
 }

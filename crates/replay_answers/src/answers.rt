@@ -150,6 +150,6 @@ fn print_received(
     if refused == 0 {
         return print_row(b"ok", count, word, bytes, b"", out, at);
     }
-    let next = put_number(b"refused", refused as usize, out, at);
+    let next = put_number(b"refused", refused as usize, &mut out.bytes, at);
     print_row(b"", count, word, bytes, b"", out, next)
 }

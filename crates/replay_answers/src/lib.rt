@@ -1,6 +1,7 @@
 // What the replay program answers to a line, and what it prints: the line of an answer, and the tables of a session. It writes to standard output
 // where its buffer is full.
 #![tactic(auto)]
+
 mod answers;
 mod print;
 mod returned;

@@ -1,21 +1,27 @@
 // The output buffer, of which the first `at` bytes are in use, written to standard output before a piece might not fit behind them.
-use libc::{STDERR_FILENO, STDOUT_FILENO};
 use replay_lines::front;
+use std::io::{Stderr, Stdout};
 
-// The longest piece, 65,536 bytes with four for each, fits behind the bytes that may be in use when its line is begun.
-pub type Output = [u8; 524288];
+// The buffer, where it is written to, and where a failure is told. The longest piece, 65,536 bytes with four for each, fits behind the bytes that may be in
+// use when its line is begun.
+#[derive(Drop)]
+pub struct Output {
+    pub bytes: [u8; 524288],
+    pub stdout: Stdout,
+    pub stderr: Stderr,
+}
 
 const MOST_USED: usize = 131072;
 
 // Writes the first `at` bytes to standard output.
-pub fn flush(out: &[u8], at: usize) {
-    if !io::write_all(STDOUT_FILENO, front(out, at)) {
-        io::write_all(STDERR_FILENO, b"replay: standard output failed\n");
+pub fn flush(out: &Output, at: usize) {
+    if out.stdout.write_all(front(&out.bytes, at)).is_err() {
+        let _ = eprintln!(out.stderr; "replay: standard output failed");
     }
 }
 
 // Where the next piece goes.
-fn make_space(out: &[u8], at: usize) -> usize {
+fn make_space(out: &Output, at: usize) -> usize {
     if at <= MOST_USED {
         return at;
     }
@@ -26,19 +32,19 @@ fn make_space(out: &[u8], at: usize) -> usize {
 // Some bytes as they are.
 pub fn print_bytes(bytes: &[u8], out: &mut Output, at: usize) -> usize {
     let from = make_space(out, at);
-    printing::put(bytes, out, from)
+    printing::put(bytes, &mut out.bytes, from)
 }
 
 // Some bytes, and a number at the end of the line.
 pub fn print_number(head: &[u8], n: u64, out: &mut Output, at: usize) -> usize {
     let from = make_space(out, at);
-    printing::print_number(head, n, out, from)
+    printing::print_number(head, n, &mut out.bytes, from)
 }
 
 // Some bytes, and a word at the end of the line.
 pub fn print_word(head: &[u8], word: &[u8], out: &mut Output, at: usize) -> usize {
     let from = make_space(out, at);
-    printing::print_word(head, word, out, from)
+    printing::print_word(head, word, &mut out.bytes, from)
 }
 
 // A line that begins with some bytes and a number, as that of an entry of a table.
@@ -52,19 +58,19 @@ pub fn print_row(
     at: usize,
 ) -> usize {
     let from = make_space(out, at);
-    printing::print_row(head, n as u64, second, payload, tail, out, from)
+    printing::print_row(head, n as u64, second, payload, tail, &mut out.bytes, from)
 }
 
 // Some bytes, and numbers to the end of the line.
 pub fn print_numbers(head: &[u8], numbers: &[usize], out: &mut Output, at: usize) -> usize {
     let from = make_space(out, at);
-    let mut next = printing::put(head, out, from);
+    let mut next = printing::put(head, &mut out.bytes, from);
     let mut k: usize = 0;
     while k < numbers.len() {
-        next = printing::put_number(numbers[k] as u64, out, next);
+        next = printing::put_number(numbers[k] as u64, &mut out.bytes, next);
         k += 1;
     }
-    printing::put(b"\n", out, next)
+    printing::put(b"\n", &mut out.bytes, next)
 }
 
 // Some bytes, a space and a number.

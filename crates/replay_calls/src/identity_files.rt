@@ -23,8 +23,8 @@ pub(crate) fn call_identity_file(
     match answer {
         Written::Bytes(n) => {
             let a = print_bytes(b"ok", out, at);
-            let b = printing::put_number(reading.keys as u64, out, a);
-            let c = printing::put_number(reading.invalid as u64, out, b);
+            let b = printing::put_number(reading.keys as u64, &mut out.bytes, a);
+            let c = printing::put_number(reading.invalid as u64, &mut out.bytes, b);
             let d = print_faults(&faults, listed(reading.invalid), out, c);
             Answer::Printed(print_word(b"", front(buffer, n), out, d))
         }
@@ -47,7 +47,7 @@ fn print_faults(faults: &[[usize; 2]; MOST_FAULTS], n: usize, out: &mut Output, 
     requires { n ≤ 64 }
 {
     if n == 0 {
-        return printing::put(b" -", out, at);
+        return printing::put(b" -", &mut out.bytes, at);
     }
     let mut next = at;
     let mut i: usize = 0;
@@ -62,15 +62,15 @@ fn print_faults(faults: &[[usize; 2]; MOST_FAULTS], n: usize, out: &mut Output, 
 // The i-th invalid line: its refusal's number and its line's.
 fn print_fault(i: usize, number: usize, line: usize, out: &mut Output, at: usize) -> usize {
     let a = print_separator(i, out, at);
-    let b = printing::put_decimal(number as u64, out, a);
-    let c = printing::put(b"@", out, b);
-    printing::put_decimal(line as u64, out, c)
+    let b = printing::put_decimal(number as u64, &mut out.bytes, a);
+    let c = printing::put(b"@", &mut out.bytes, b);
+    printing::put_decimal(line as u64, &mut out.bytes, c)
 }
 
 // A space before the first, a comma before the others.
 fn print_separator(i: usize, out: &mut Output, at: usize) -> usize {
     if i == 0 {
-        return printing::put(b" ", out, at);
+        return printing::put(b" ", &mut out.bytes, at);
     }
-    printing::put(b",", out, at)
+    printing::put(b",", &mut out.bytes, at)
 }

@@ -1,5 +1,6 @@
 // The calls that need no session, a function for each: it judges the words of the line and makes the call.
 #![tactic(auto)]
+
 mod identity_files;
 
 use bech32::{ReadText, TextKind};
