@@ -16,11 +16,11 @@ use Rattle.awaited.proofs.awaited_label.Goals as goal
 
 
 pub returns-then-awaited_labels-n : goal.returns-then-awaited_labels-n
-returns-then-awaited_labels-n c = let whole = let a = c.args in
+returns-then-awaited_labels-n c = let a = c.args in
     let t = awaited_text a.session a.input.now in
     let z : ltb a.n (label_count t) ≡ false = le-ltb a.n (label_count t) (omega (arith, c.if-awaited_labels-n.true, c.awaited_labels.ensures)) in
-    rw z (nothing_written a.out.now) in
-    record { answer = whole.0; buffer = whole.1 }
+    let n = nothing_written a.out.now in
+    record { answer = rw z n.0; buffer = rw z n.1 }
 
 
 pub returns : goal.returns

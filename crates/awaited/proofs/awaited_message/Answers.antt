@@ -22,9 +22,9 @@ returns-in-Stanza c = let t = c.awaited_text-waiting.result.now in
 
 
 pub returns-in-Refused : goal.returns-in-Refused
-returns-in-Refused c = let whole = let a = c.args in
+returns-in-Refused c = let a = c.args in
     let t = c.awaited_text-waiting.result.now in
     let z : [] ≡ message_in (awaited_text a.session a.input.now) =
     ap (λ r. body_read r t) (sym (ap read_said c.in-Refused.is) ∙ c.read-first.ensures) ∙ ap message_in c.awaited_text-waiting.ensures in
-    rw (← z) (nothing_written a.out.now) in
-    record { answer = whole.0; buffer = whole.1 }
+    let n = nothing_written a.out.now in
+    record { answer = rw (← z) n.0; buffer = rw (← z) n.1 }
