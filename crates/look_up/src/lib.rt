@@ -1,5 +1,6 @@
 // Look-ups of both phases: for a host by kind and number, by file, and of what awaits an answer; and by file for the decision.
 #![tactic(auto)]
+
 mod entries;
 mod look_up;
 

@@ -1,6 +1,7 @@
 // Phase two, as both ends keep it: what its commands come to, with their payloads or by lengths alone, whose turn it is and the phase behind them, and what is
 // answered at once.
 #![tactic(auto)]
+
 mod at_once;
 mod entering;
 mod steps;

@@ -10,11 +10,11 @@ ghost use Rattle.phase_one.specs.Commands.{is_bare};
 ghost use Rattle.conversation.specs.CommandsTwo.{work_word, word_two, are_labels, stanza_at, key_at, error_at, header_at, error_of, error_command, ask, done, bad, word_of, line_sent};
 ghost use Rattle.phase_two_commands.specs.Commands.{named_said, command_said, command_of, late_word, name_of};
 
-use strict_base64::Size;
 use bech32::TextKind;
 use refusal::{Refusal, Written};
 use session::{Machine, WordTwo};
 use stanza::Index;
+use strict_base64::Size;
 
 // The words of phase two, compared with a command's first argument and written where an end sends.
 const MSG: [u8; 3] = *b"msg";

@@ -1,0 +1,16 @@
+-- Ruled out, nothing changes; else the command is entered.
+use Rattle.refusal.specs.Number.{number_of}
+use Rattle.refusal.specs.Verdict.{verdict_said}
+use Rattle.refusal.proofs.Laws.Number.{number_not_zero}
+use Rattle.session.specs.Tables.{tables_in}
+use Rattle.phase_two_commands.specs.Commands.{command_said}
+use Rattle.phase_two.proofs.Laws.Entering.{enter_ruled}
+use Rattle.phase_two.proofs.entering.enter_two.Goals as goal
+
+pub returns-in-Refused : goal.returns-in-Refused
+returns-in-Refused c = let a = c.args in
+    let r = c.in-Refused.field-0 in
+    rw c.in-Refused.is (λ hs b p l e. enter_ruled (tables_in a.tables a.slots.now hs) b p (verdict_said a.late) (number_of r) (command_said a.command) (number_not_zero r))
+
+pub returns-in-Accepted : goal.returns-in-Accepted
+returns-in-Accepted c = rw c.in-Accepted.is c.enter.ensures

@@ -1,0 +1,5 @@
+-- The table is put among the others.
+use Rattle.phase_two.proofs.steps.stepped.Goals as goal
+
+pub returns : goal.returns
+returns c = rw c.with.ensures
