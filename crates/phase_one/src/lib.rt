@@ -1,5 +1,6 @@
 // Phase one, as both ends keep it: its commands, what they come to, whose turn it is, and the phase behind a command.
 #![tactic(auto)]
+
 mod commands;
 mod steps;
 mod turns;

@@ -1,5 +1,6 @@
 // The stanza check of one plugin, fido2-hmac: whether a stanza is conforming, nonconforming or unknown (document 01, "Phase two").
 #![tactic(auto)]
+
 ghost use Rattle.std.specs.Prelude.{◌≡◌, ◌&&◌, drop};
 ghost use Rattle.stanza.specs.Arguments.{words, argument_of};
 ghost use Rattle.profile.specs.Profile.{is_bytes, is_some, are_arguments, is_known, found, checked};

@@ -1,6 +1,7 @@
 // The faults of document 01, "Numbers given back", and of document 02, each under a name of its own, and the number that the papers give it.
 // No crate of the library knows a refusal by anything but this enum; 0, no refusal, is no variant of it.
 #![tactic(auto)]
+
 ghost use Rattle.std.specs.Prelude.{◌≡◌};
 ghost use Rattle.refusal.specs.Number.{number_of};
 ghost use Rattle.refusal.specs.Verdict.{verdict_said};

@@ -1,5 +1,6 @@
 // The commands of phase two, the responses to them, which response fits which command, and responses read and written.
 #![tactic(auto)]
+
 ghost use Rattle.std.specs.Prelude.{◌≡◌, ◌&&◌, ◌||◌, ◌<◌, eqb};
 ghost use Rattle.refusal.specs.Output.{said};
 ghost use Rattle.stanza.specs.Writing.{sized, written, buffer_after};

@@ -1,6 +1,7 @@
 // What both phases and both ends share: machines and phases, the kinds with their tables, slots and limits, the session and its opening, and what an end writes
 // of a stanza that it judged.
 #![tactic(auto)]
+
 mod kinds;
 mod marks;
 mod opening;

@@ -1,5 +1,6 @@
 // Stanza text (document 01, "Stanza text"): the first stanza of a text read, also in pieces, its arguments and an index among them, and a stanza written.
 #![tactic(auto)]
+
 mod arguments;
 mod indices;
 mod parts;

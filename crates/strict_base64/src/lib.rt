@@ -2,6 +2,7 @@
 // and base64 in lines of 64 characters, which a stanza's body is. It knows nothing of stanzas and gives no number but 15:
 // that a text is no base64 is an answer of its own, and the caller chooses the number.
 #![tactic(auto)]
+
 mod alphabet;
 mod decoding;
 mod encoding;

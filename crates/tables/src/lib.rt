@@ -1,6 +1,7 @@
 // Tables of entries whose payloads lie in lent buffers and their entries in lent slots: opened, one entry more, and what stands at a number. What both ends of
 // a conversation keep.
 #![tactic(auto)]
+
 mod copying;
 mod slots;
 mod tables;

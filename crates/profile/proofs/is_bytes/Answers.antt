@@ -2,14 +2,11 @@
 use mathlib.Core.Path.{sym, ap, ◌∙◌}
 use Rattle.strict_base64.specs.Code.{size_said}
 use Rattle.strict_base64.proofs.Laws.Code.{measured_is, measured_not}
-use borrow.Author.Rules.{rules}
 use Rattle.profile.proofs.is_bytes.Goals as goal
-
 
 pub returns-in-Bytes : goal.returns-in-Bytes
 returns-in-Bytes c = let q = measured_is c.args.text.now _ (sym c.measure-size.ensures ∙ ap size_said c.in-Bytes.is) in
     rw (q.0, q.1)
-
 
 pub returns-in-NotBase64 : goal.returns-in-NotBase64
 returns-in-NotBase64 c = rw (measured_not c.args.text.now (sym c.measure-size.ensures ∙ ap size_said c.in-NotBase64.is))

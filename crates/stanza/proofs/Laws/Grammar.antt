@@ -1,6 +1,6 @@
 -- The automaton is right: it has ended behind exactly the stanzas, and it is dead behind exactly the texts with which no stanza, of any length,
 -- begins. So 1 is given at exactly the first byte that no stanza can have there.
-use Prim.Native.Nat.{ℕ, suc, ◌+◌, ◌-◌, ◌%◌, ◌<◌, ◌≤◌}
+use Prim.Native.Nat.{ℕ, suc, ◌+◌, ◌%◌, ◌<◌, ◌≤◌}
 use mathlib.Core.Path.{◌≡◌, refl, sym, ap, ◌∙◌, subst}
 use mathlib.Core.Bool.{Bool, true, false, false≢true}
 use mathlib.Core.Logic.{◌↔◌}

@@ -7,8 +7,6 @@ use lib.Dec.{ltb, eqb}
 use lib.ListN.{length, take, drop, get_or, drop_of_length-le}
 use native.Mathlib.Nat.{add-zero}
 use native.Mathlib.Omega.{arith}
-use denote.Enum.Declared.{tag_of}
-use types.Run.{OneOf, miss}
 use borrow.Author.Tests.{lt-ltb, le-ltb, ne_eqb, ltb-true, eqb-true}
 use Rattle.refusal.specs.Pick.{pick}
 use Rattle.refusal.proofs.Laws.Booleans.{cases}
@@ -20,7 +18,6 @@ use Rattle.stanza.specs.Reading as reading
 use Rattle.stanza.proofs.Laws.Grammar.{after_append}
 use Rattle.stanza.specs.declared.places.Place.{Place}
 use Rattle.stanza.specs.declared.places.Place.TheVariants as place
-use Rattle.stanza.specs.contracts.places.Place.{the_type}
 use Rattle.stanza.specs.Resuming.{place_said, Continued, whole, unfinished, refused, behind, led, continued, from_reading}
 
 -- ---- counting

@@ -1,7 +1,7 @@
 -- What is written reads back, with the same arguments and body and the same length; what was read is what would be written again, byte for byte.
-use Prim.Native.Nat.{ℕ, suc, ◌+◌, ◌-◌, ◌<◌, ◌≤◌}
+use Prim.Native.Nat.{ℕ, suc, ◌+◌, ◌<◌, ◌≤◌}
 use mathlib.Core.Path.{◌≡◌, refl, sym, ap, ap₂, ◌∙◌}
-use mathlib.Core.Bool.{true, false, false≢true}
+use mathlib.Core.Bool.{true, false≢true}
 use mathlib.Core.List.{List, [], ◌∷◌, ◌++◌, append_assoc, append-nil}
 use lib.Dec.{leb, eqb}
 use lib.ListN.{length, take, drop, length-append}
@@ -16,7 +16,6 @@ use Rattle.strict_base64.specs.Lines.{lines_of, body_of}
 use Rattle.strict_base64.proofs.Laws.RoundTrip.{body_lines}
 use Rattle.strict_base64.proofs.Laws.Lines.{lines_length}
 use Rattle.stanza.specs.Arguments.{is_line}
-use Rattle.stanza.specs.Automaton.{whole}
 use Rattle.stanza.specs.Exact.{Taken}
 use Rattle.stanza.specs.Grammar.{first_line, stanza_text}
 use Rattle.stanza.specs.Reading.{stanza, found, read_first, is_not_lf, line_end, lines_in}

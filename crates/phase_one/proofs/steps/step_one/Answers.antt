@@ -9,9 +9,7 @@ use Rattle.session.proofs.Laws.Putting.{put_recipients, put_identities, put_keys
 use Rattle.phase_one.specs.Commands.{command_said}
 use Rattle.phase_one.specs.PhaseOne.{buffers_of}
 use Rattle.phase_one.proofs.Laws.PhaseOne.{step_bad, step_done, step_other, step_recipient, step_identity, step_key, step_header}
-use borrow.Author.Rules.{rules}
 use Rattle.phase_one.proofs.steps.step_one.Goals as goal
-
 
 pub returns-in-Recipient : goal.returns-in-Recipient
 returns-in-Recipient c = let a = c.args in
@@ -23,12 +21,11 @@ returns-in-Recipient c = let a = c.args in
     let k = ap (command_said a.plugin.now a.line.now (length y)) (sym c.in-Recipient.is) ∙ e in
     let s = step_recipient a.machine a.plugin.now t b (verdict_said a.late) a.line.now y _ _ _ _ k z.number z.table z.buffer in
     record {
-        command = rw c.stepped.ensures e;
-        number = rw c.stepped.ensures s.0;
-        tables = rw c.stepped.ensures (put_recipients a.tables a.slots.now _ a.header_slots.now c.keep_recipient-stored.result.table _ refl z.others ∙ s.1.0);
-        buffers = s.1.1;
+      command = rw c.stepped.ensures e;
+      number = rw c.stepped.ensures s.0;
+      tables = rw c.stepped.ensures (put_recipients a.tables a.slots.now _ a.header_slots.now c.keep_recipient-stored.result.table _ refl z.others ∙ s.1.0);
+      buffers = s.1.1;
     }
-
 
 pub returns-in-Identity : goal.returns-in-Identity
 returns-in-Identity c = let a = c.args in
@@ -40,12 +37,11 @@ returns-in-Identity c = let a = c.args in
     let k = ap (command_said a.plugin.now a.line.now (length y)) (sym c.in-Identity.is) ∙ e in
     let s = step_identity a.machine a.plugin.now t b (verdict_said a.late) a.line.now y _ _ _ _ k z.number z.table z.buffer in
     record {
-        command = rw c.stepped-in-Identity.ensures e;
-        number = rw c.stepped-in-Identity.ensures s.0;
-        tables = rw c.stepped-in-Identity.ensures (put_identities a.tables a.slots.now _ a.header_slots.now c.keep_text-stored.result.table _ refl z.others ∙ s.1.0);
-        buffers = s.1.1;
+      command = rw c.stepped-in-Identity.ensures e;
+      number = rw c.stepped-in-Identity.ensures s.0;
+      tables = rw c.stepped-in-Identity.ensures (put_identities a.tables a.slots.now _ a.header_slots.now c.keep_text-stored.result.table _ refl z.others ∙ s.1.0);
+      buffers = s.1.1;
     }
-
 
 pub returns-in-Key : goal.returns-in-Key
 returns-in-Key c = let a = c.args in
@@ -57,12 +53,11 @@ returns-in-Key c = let a = c.args in
     let k = ap (command_said a.plugin.now a.line.now (length y)) (sym c.in-Key.is) ∙ e in
     let s = step_key a.machine a.plugin.now t b (verdict_said a.late) a.line.now y _ _ _ k z.number (rw (sym z.number) at z.table) (rw (sym z.number) at z.buffer) in
     record {
-        command = rw c.stepped-in-Key.ensures e;
-        number = rw c.stepped-in-Key.ensures s.0;
-        tables = rw c.stepped-in-Key.ensures (put_keys a.tables a.slots.now _ a.header_slots.now c.store-stored.result.table _ refl z.others ∙ s.1.0);
-        buffers = s.1.1;
+      command = rw c.stepped-in-Key.ensures e;
+      number = rw c.stepped-in-Key.ensures s.0;
+      tables = rw c.stepped-in-Key.ensures (put_keys a.tables a.slots.now _ a.header_slots.now c.store-stored.result.table _ refl z.others ∙ s.1.0);
+      buffers = s.1.1;
     }
-
 
 pub returns-in-Header : goal.returns-in-Header
 returns-in-Header c = let a = c.args in
@@ -74,12 +69,11 @@ returns-in-Header c = let a = c.args in
     let k = ap (command_said a.plugin.now a.line.now (length y)) (sym c.in-Header.is) ∙ e in
     let s = step_header a.machine a.plugin.now t b (verdict_said a.late) a.line.now y _ _ _ _ _ k z.number z.table z.buffer in
     record {
-        command = rw c.stepped-in-Header.ensures k;
-        number = rw c.stepped-in-Header.ensures s.0;
-        tables = rw c.stepped-in-Header.ensures (put_headers a.tables a.slots.now c.keep_header-stored.new.slots c.keep_header-stored.result.table _ refl a.header_slots.now ∙ s.1.0);
-        buffers = s.1.1;
+      command = rw c.stepped-in-Header.ensures k;
+      number = rw c.stepped-in-Header.ensures s.0;
+      tables = rw c.stepped-in-Header.ensures (put_headers a.tables a.slots.now c.keep_header-stored.new.slots c.keep_header-stored.result.table _ refl a.header_slots.now ∙ s.1.0);
+      buffers = s.1.1;
     }
-
 
 pub returns-in-Done : goal.returns-in-Done
 returns-in-Done c = let a = c.args in
@@ -88,12 +82,11 @@ returns-in-Done c = let a = c.args in
     let b = buffers_of a.recipients.now a.identities.now a.keys.now a.headers.now in
     let e = rw c.body_size-n.ensures.0 at (c.parse_one-command.ensures a.plugin.now) in
     record {
-        command = e;
-        number = (step_done a.machine a.plugin.now t b (verdict_said a.late) a.line.now y (ap (command_said a.plugin.now a.line.now (length y)) (sym c.in-Done.is) ∙ e)).0;
-        tables = (step_done a.machine a.plugin.now t b (verdict_said a.late) a.line.now y (ap (command_said a.plugin.now a.line.now (length y)) (sym c.in-Done.is) ∙ e)).1.0;
-        buffers = (step_done a.machine a.plugin.now t b (verdict_said a.late) a.line.now y (ap (command_said a.plugin.now a.line.now (length y)) (sym c.in-Done.is) ∙ e)).1.1;
+      command = e;
+      number = (step_done a.machine a.plugin.now t b (verdict_said a.late) a.line.now y (ap (command_said a.plugin.now a.line.now (length y)) (sym c.in-Done.is) ∙ e)).0;
+      tables = (step_done a.machine a.plugin.now t b (verdict_said a.late) a.line.now y (ap (command_said a.plugin.now a.line.now (length y)) (sym c.in-Done.is) ∙ e)).1.0;
+      buffers = (step_done a.machine a.plugin.now t b (verdict_said a.late) a.line.now y (ap (command_said a.plugin.now a.line.now (length y)) (sym c.in-Done.is) ∙ e)).1.1;
     }
-
 
 pub returns-in-Other : goal.returns-in-Other
 returns-in-Other c = let a = c.args in
@@ -102,12 +95,11 @@ returns-in-Other c = let a = c.args in
     let b = buffers_of a.recipients.now a.identities.now a.keys.now a.headers.now in
     let e = rw c.body_size-n.ensures.0 at (c.parse_one-command.ensures a.plugin.now) in
     record {
-        command = e;
-        number = (step_other a.machine a.plugin.now t b (verdict_said a.late) a.line.now y (ap (command_said a.plugin.now a.line.now (length y)) (sym c.in-Other.is) ∙ e)).0;
-        tables = (step_other a.machine a.plugin.now t b (verdict_said a.late) a.line.now y (ap (command_said a.plugin.now a.line.now (length y)) (sym c.in-Other.is) ∙ e)).1.0;
-        buffers = (step_other a.machine a.plugin.now t b (verdict_said a.late) a.line.now y (ap (command_said a.plugin.now a.line.now (length y)) (sym c.in-Other.is) ∙ e)).1.1;
+      command = e;
+      number = (step_other a.machine a.plugin.now t b (verdict_said a.late) a.line.now y (ap (command_said a.plugin.now a.line.now (length y)) (sym c.in-Other.is) ∙ e)).0;
+      tables = (step_other a.machine a.plugin.now t b (verdict_said a.late) a.line.now y (ap (command_said a.plugin.now a.line.now (length y)) (sym c.in-Other.is) ∙ e)).1.0;
+      buffers = (step_other a.machine a.plugin.now t b (verdict_said a.late) a.line.now y (ap (command_said a.plugin.now a.line.now (length y)) (sym c.in-Other.is) ∙ e)).1.1;
     }
-
 
 pub returns-in-Refused : goal.returns-in-Refused
 returns-in-Refused c = let a = c.args in
@@ -117,8 +109,8 @@ returns-in-Refused c = let a = c.args in
     let e = rw c.body_size-n.ensures.0 at (c.parse_one-command.ensures a.plugin.now) in
     let k = ap (command_said a.plugin.now a.line.now (length y)) (sym c.in-Refused.is) ∙ e in
     record {
-        command = k;
-        number = (step_bad a.machine a.plugin.now t b (verdict_said a.late) a.line.now y _ k (number_not_zero c.in-Refused.r)).0;
-        tables = (step_bad a.machine a.plugin.now t b (verdict_said a.late) a.line.now y _ k (number_not_zero c.in-Refused.r)).1.0;
-        buffers = (step_bad a.machine a.plugin.now t b (verdict_said a.late) a.line.now y _ k (number_not_zero c.in-Refused.r)).1.1;
+      command = k;
+      number = (step_bad a.machine a.plugin.now t b (verdict_said a.late) a.line.now y _ k (number_not_zero c.in-Refused.r)).0;
+      tables = (step_bad a.machine a.plugin.now t b (verdict_said a.late) a.line.now y _ k (number_not_zero c.in-Refused.r)).1.0;
+      buffers = (step_bad a.machine a.plugin.now t b (verdict_said a.late) a.line.now y _ k (number_not_zero c.in-Refused.r)).1.1;
     }

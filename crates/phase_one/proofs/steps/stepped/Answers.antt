@@ -1,7 +1,5 @@
 -- The table is put among the others.
-use borrow.Author.Rules.{rules}
 use Rattle.phase_one.proofs.steps.stepped.Goals as goal
-
 
 pub returns : goal.returns
 returns c = rw c.with.ensures

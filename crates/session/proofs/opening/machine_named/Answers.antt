@@ -1,16 +1,12 @@
 -- The comparisons in the definition's order: the first name that is the same is the machine's.
 use mathlib.Core.Path.{sym, ◌∙◌}
-use borrow.Author.Rules.{rules}
 use Rattle.session.proofs.opening.machine_named.Goals as goal
-
 
 pub returns-then-is_same : goal.returns-then-is_same
 returns-then-is_same c = rw (sym c.is_same.ensures ∙ c.if-is_same.true)
 
-
 pub returns-then-is_same-2 : goal.returns-then-is_same-2
 returns-then-is_same-2 c = rw (sym c.is_same.ensures ∙ c.if-is_same.false, sym c.is_same-2.ensures ∙ c.if-is_same-2.true)
-
 
 pub returns : goal.returns
 returns c = rw (sym c.is_same.ensures ∙ c.if-is_same.false, sym c.is_same-2.ensures ∙ c.if-is_same-2.false)

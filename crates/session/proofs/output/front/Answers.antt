@@ -2,13 +2,10 @@
 use mathlib.Core.Path.{sym}
 use lib.Seq.{length-take-le, take_all}
 use native.Mathlib.Omega.{arith}
-use borrow.Author.Rules.{rules}
 use Rattle.session.proofs.output.front.Goals as goal
-
 
 pub slice_bounds-result-end : goal.slice_bounds-result-end
 slice_bounds-result-end c = sym (length-take-le c.args.length c.args.bytes.now (omega arith))
-
 
 pub returns : goal.returns
 returns c = sym (take_all c.args.length c.args.bytes.now (omega arith))

@@ -5,18 +5,14 @@ use lib.Dec.{eqb}
 use native.Mathlib.Omega.{arith}
 use borrow.Author.Tests.{lt-leb, le-leb, ne_eqb}
 use Rattle.refusal.specs.Number.{number_of}
-use borrow.Author.Rules.{rules}
 use Rattle.session.proofs.phases.is_closing.Goals as goal
-
 
 or_false : (b : Bool) → (b || false) ≡ b
 or_false true = refl
 or_false false = refl
 
-
 pub returns-then-n-gt12 : goal.returns-then-n-gt12
 returns-then-n-gt12 c = rw (lt-leb (number_of c.args.refusal) 12 (omega (arith, c.number-n.ensures))) (ap (λ n. eqb n 20) c.number-n.ensures)
-
 
 pub returns : goal.returns
 returns c = let n = number_of c.args.refusal in

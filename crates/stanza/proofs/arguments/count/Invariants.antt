@@ -2,16 +2,11 @@
 use Prim.Native.Nat.{◌+◌, ◌-◌, ◌≤◌}
 use mathlib.Core.Path.{◌≡◌}
 use lib.ListN.{length, drop}
-use native.Mathlib.Omega.{arith}
-use borrow.Author.Rules.{rules}
 use Rattle.stanza.specs.Arguments.{count_of}
-use Rattle.stanza.proofs.Laws.Arguments.{count_last, count_next}
 use Rattle.stanza.proofs.arguments.count.Given as goal
-
 
 abbrev pub invariant-loop-n : goal.invariant-loop-n
 invariant-loop-n l = (l.at ≤ length l.line) × (l.n ≤ l.at + 1) × (count_of l.line + 1 ≡ l.n + count_of (drop l.at l.line))
-
 
 abbrev pub decreases-loop-n : goal.decreases-loop-n
 decreases-loop-n l = length l.line - l.at

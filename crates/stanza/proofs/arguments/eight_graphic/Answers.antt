@@ -1,22 +1,17 @@
 -- `eight_graphic` meets its contract. Invariant: `good` says whether the first j bytes are all of the class.
-use Prim.Native.Nat.{◌-◌, ◌≤◌}
 use mathlib.Core.Path.{◌≡◌, refl, ◌∙◌}
-use lib.ListN.{take, drop}
 use native.Mathlib.Omega.{arith}
 use borrow.Author.Rules.{rules}
 use Rattle.refusal.specs.Run.{all, is_graphic}
 use Rattle.refusal.proofs.Laws.Run.{all_more}
 use Rattle.stanza.proofs.arguments.eight_graphic.Goals as goal
 
-
 pub loop-j-init : goal.loop-j-init
 unfolding all
 loop-j-init c = (search rules, refl)
 
-
 pub loop-j-preserved : goal.loop-j-preserved
 loop-j-preserved c = (search rules, all_more is_graphic c.args.text.now c.args.at c.loop-j.j (omega arith) c.loop-j.invariant.1 c.is_graphic-good.ensures)
-
 
 pub returns : goal.returns
 returns c = let e : c.loop-j.j ≡ 8 = omega arith in

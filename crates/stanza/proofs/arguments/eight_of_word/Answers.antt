@@ -1,7 +1,5 @@
 -- `eight_of_word` meets its contract. Invariant: `good` says whether the first j bytes are all of the class.
-use Prim.Native.Nat.{◌-◌, ◌≤◌}
 use mathlib.Core.Path.{◌≡◌, refl, ◌∙◌}
-use lib.ListN.{take, drop}
 use native.Mathlib.Omega.{arith}
 use borrow.Author.Rules.{rules}
 use Rattle.stanza.specs.Arguments.{is_word_byte}
@@ -9,15 +7,12 @@ use Rattle.refusal.specs.Run.{all}
 use Rattle.refusal.proofs.Laws.Run.{all_more}
 use Rattle.stanza.proofs.arguments.eight_of_word.Goals as goal
 
-
 pub loop-j-init : goal.loop-j-init
 unfolding all
 loop-j-init c = (search rules, refl)
 
-
 pub loop-j-preserved : goal.loop-j-preserved
 loop-j-preserved c = (search rules, all_more is_word_byte c.args.text.now c.args.at c.loop-j.j (omega arith) c.loop-j.invariant.1 c.is_word_byte-good.ensures)
-
 
 pub returns : goal.returns
 returns c = let e : c.loop-j.j ≡ 8 = omega arith in

@@ -1,18 +1,13 @@
 -- `eight_of_word` meets its contract. Invariant: `good` says whether the first j bytes are all of the class.
 use Prim.Native.Nat.{◌-◌, ◌≤◌}
-use mathlib.Core.Path.{◌≡◌, refl, ◌∙◌}
+use mathlib.Core.Path.{◌≡◌}
 use lib.ListN.{take, drop}
-use native.Mathlib.Omega.{arith}
-use borrow.Author.Rules.{rules}
 use Rattle.stanza.specs.Arguments.{is_word_byte}
 use Rattle.refusal.specs.Run.{all}
-use Rattle.refusal.proofs.Laws.Run.{all_more}
 use Rattle.stanza.proofs.arguments.eight_of_word.Given as goal
-
 
 abbrev pub invariant-loop-j : goal.invariant-loop-j
 invariant-loop-j l = (l.j ≤ 8) × (l.good ≡ all is_word_byte (take l.j (drop l.at l.text)))
-
 
 abbrev pub decreases-loop-j : goal.decreases-loop-j
 decreases-loop-j l = 8 - l.j

@@ -7,9 +7,7 @@ use native.Mathlib.Nat.{sub_self}
 use native.Mathlib.Decide.{dec_le}
 use native.Mathlib.Omega.{arith}
 use Rattle.refusal.proofs.Laws.Lists.{part_of, part_none}
-use borrow.Author.Rules.{rules}
 use Rattle.stanza.proofs.parts.arguments_of.Goals as goal
-
 
 -- the part behind "-> ", if there is so much
 args_part : (t : List ℕ) (l m f : ℕ) → m ≡ min l (length t) → f ≡ min 3 m → take (m - f) (drop f t) ≡ drop 3 (take l t)
@@ -18,7 +16,6 @@ args_part t l m f p q =
       | yes h ↦ (let e : f ≡ 3 = omega arith in rw e (part_of 3 l m t p))
       | no h ↦ (let e : f ≡ m = omega arith in rw (e, sub_self) (sym (part_none 3 l m t p (omega arith))))
     ]
-
 
 pub returns : goal.returns
 returns c = args_part c.args.text.now c.args.s.line c.least-end.result c.least-from.result c.least-end.ensures c.least-from.ensures

@@ -1,10 +1,8 @@
 -- What `decode_lines` ensures of the lines that `lines` gives.
-use borrow.Author.Rules.{rules}
 use Rattle.stanza.proofs.parts.body_of.Goals as goal
-
 
 pub returns : goal.returns
 returns c = record {
-        answer = rw (← c.lines.ensures) c.decode_lines.ensures.answer;
-        buffer = rw (← c.lines.ensures) c.decode_lines.ensures.buffer;
-    }
+  answer = rw (← c.lines.ensures) c.decode_lines.ensures.answer;
+  buffer = rw (← c.lines.ensures) c.decode_lines.ensures.buffer;
+}

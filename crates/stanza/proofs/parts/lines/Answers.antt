@@ -4,13 +4,10 @@ use mathlib.Core.Path.{sym}
 use native.Mathlib.Nat.{sub_self}
 use native.Mathlib.Omega.{arith}
 use Rattle.refusal.proofs.Laws.Lists.{part_of, part_none}
-use borrow.Author.Rules.{rules}
 use Rattle.stanza.proofs.parts.lines.Goals as goal
-
 
 pub returns-then-line-end : goal.returns-then-line-end
 returns-then-line-end c = part_of (c.args.line + 1) c.args.taken c.least-end.result c.args.text.now c.least-end.ensures
-
 
 pub returns : goal.returns
 returns c = rw sub_self (sym (part_none (c.args.line + 1) c.args.taken c.least-end.result c.args.text.now c.least-end.ensures (omega arith)))

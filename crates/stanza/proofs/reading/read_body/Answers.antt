@@ -9,27 +9,21 @@ use Rattle.stanza.specs.Reading.{found}
 use Rattle.stanza.specs.Steps.{body_said}
 use Rattle.stanza.proofs.Laws.Automaton.{scan_whole}
 use Rattle.stanza.proofs.Laws.Reading.{found_whole, pick_refused}
-use borrow.Author.Rules.{rules}
 use Rattle.stanza.proofs.reading.read_body.Goals as goal
-
 
 pub overflow_sub-taken : goal.overflow_sub-taken
 overflow_sub-taken c = omega (arith, (scan_whole (drop (c.args.e + 1) c.args.w.now) (line 0 0) (c.args.e + 1) c.in-Ends.taken (c.body_end-b.ensures ∙ ap body_said c.in-Ends.is)).0)
 
-
 pub overflow_sub-taken-in-Ends : goal.overflow_sub-taken-in-Ends
 overflow_sub-taken-in-Ends c = omega (arith, (scan_whole (drop (c.args.e + 1) c.args.w.now) (line 0 0) (c.args.e + 1) c.in-Ends.taken (c.body_end-b.ensures ∙ ap body_said c.in-Ends.is)).0)
-
 
 pub returns-in-Bad : goal.returns-in-Bad
 unfolding found
 returns-in-Bad c = rw (c.body_end-b.ensures, c.in-Bad.is)
 
-
 pub returns-in-Short : goal.returns-in-Short
 unfolding found
 returns-in-Short c = rw (c.body_end-b.ensures, c.in-Short.is, c.unfinished.ensures) (pick_refused (ltb (length c.args.w.now) 8192))
-
 
 pub returns-in-Ends : goal.returns-in-Ends
 returns-in-Ends c = let b = (scan_whole (drop (c.args.e + 1) c.args.w.now) (line 0 0) (c.args.e + 1) c.in-Ends.taken (c.body_end-b.ensures ∙ ap body_said c.in-Ends.is)) in

@@ -1,18 +1,12 @@
 -- Where it fits, by the invariant: the first i bytes of `part` stand at the front of `out`, and behind them `out` is as it was.
 use Prim.Native.Nat.{◌-◌, ◌≤◌}
-use mathlib.Core.Path.{◌≡◌, refl}
+use mathlib.Core.Path.{◌≡◌}
 use mathlib.Core.List.{◌++◌}
-use lib.ListN.{length, take, drop, length-set}
-use native.Mathlib.Omega.{arith}
-use borrow.Author.Tests.{lt-ltb, le-ltb}
-use Rattle.refusal.proofs.Laws.Lists.{front_store, front_whole}
-use borrow.Author.Rules.{rules}
+use lib.ListN.{length, take, drop}
 use Rattle.stanza.proofs.writing.copy.Given as goal
-
 
 abbrev pub invariant-loop-i : goal.invariant-loop-i
 invariant-loop-i l = (l.i ≤ length l.part) × (length l.out ≡ length l.initial.out) × (l.out ≡ take l.i l.part ++ drop l.i l.initial.out)
-
 
 abbrev pub decreases-loop-i : goal.decreases-loop-i
 decreases-loop-i l = length l.part - l.i

@@ -1,8 +1,7 @@
 -- Invariant: the first i groups' bytes stand at the front of `out`, 3 of each, and behind them `out` is as it was.
-use borrow.Rule.Slice.PartMut.{same_len_mid}
 use Rattle.strict_base64.specs.Alphabet.{value_of}
-use Prim.Native.Nat.{ℕ, ◌+◌, ◌-◌, ◌*◌, ◌/◌, ◌%◌, ◌≤◌}
-use mathlib.Core.Path.{◌≡◌, refl, ◌∙◌}
+use Prim.Native.Nat.{ℕ, ◌+◌, ◌*◌, ◌/◌, ◌%◌, ◌≤◌}
+use mathlib.Core.Path.{◌≡◌, refl}
 use mathlib.Core.List.{List, [], ◌∷◌, ◌++◌}
 use lib.ListN.{length, take, drop, get_or, set, length-set, length-drop}
 use native.Mathlib.Omega.{arith}
@@ -11,7 +10,6 @@ use Rattle.strict_base64.proofs.Laws.Code.{decoded_end, decoded_turn, decoded_gr
 use Rattle.refusal.proofs.Laws.Lists.{part_rest, store_three, overwrite}
 use borrow.Author.Rules.{rules}
 use Rattle.strict_base64.proofs.decoding.decode_into.Goals as goal
-
 
 -- a turn: one group more
 turn : (t o o₀ : List ℕ) (i a b c d : ℕ) → 4 * i + 4 ≤ length t → 3 * i + 3 ≤ length o → o ≡ decoded (take (4 * i) t) ++ drop (3 * i) o₀ →
@@ -23,19 +21,15 @@ turn t o o₀ i a b c d ht ho e ea eb ec ed =
     rw (store_three o (3 * i) (a * 4 + b / 16) (b % 16 * 16 + c / 4) (c % 4 * 64 + d) ho, decoded_turn t i {a = a} {b = b} {c = c} {d = d} ht ea eb ec ed, g)
     (overwrite o o₀ (decoded (take (4 * i) t)) ((a * 4 + b / 16) ∷ (b % 16 * 16 + c / 4) ∷ (c % 4 * 64 + d) ∷ []) (3 * i) 3 e (decoded_groups t i (omega arith)) refl)
 
-
 pub loop-i-init : goal.loop-i-init
 unfolding decoded
 loop-i-init c = (search rules, refl, refl)
 
-
 pub bounds-out-i-in-loop-i : goal.bounds-out-i-in-loop-i
 bounds-out-i-in-loop-i c = simp length-set (omega arith)
 
-
 pub bounds-out-i-in-loop-i-2 : goal.bounds-out-i-in-loop-i-2
 bounds-out-i-in-loop-i-2 c = simp length-set (omega arith)
-
 
 pub loop-i-preserved : goal.loop-i-preserved
 loop-i-preserved c = let i = c.loop-i.i in
@@ -48,14 +42,12 @@ loop-i-preserved c = let i = c.loop-i.i in
     let e = c.look_up-d.result in
     (search rules, simp length-set c.loop-i.invariant.1, turn text out out₀ i a b d e (omega arith) (omega arith) c.loop-i.invariant.2 c.look_up-a.ensures.value c.look_up-b.ensures.value c.look_up-c.ensures.value c.look_up-d.ensures.value)
 
-
 pub decode_rest-requires : goal.decode_rest-requires
 decode_rest-requires c = record {
-        values = c.requires.values;
-        text_len_bound = rw (part_rest (4 * (length c.args.text.now / 4)) c.args.text.now) (simp length-drop (omega arith));
-        text_in_bounds = rw (part_rest (4 * (length c.args.text.now / 4)) c.args.text.now, part_rest (3 * (length c.args.text.now / 4)) c.loop-i.out) (simp length-drop (omega arith));
-    }
-
+  values = c.requires.values;
+  text_len_bound = rw (part_rest (4 * (length c.args.text.now / 4)) c.args.text.now) (simp length-drop (omega arith));
+  text_in_bounds = rw (part_rest (4 * (length c.args.text.now / 4)) c.args.text.now, part_rest (3 * (length c.args.text.now / 4)) c.loop-i.out) (simp length-drop (omega arith));
+}
 
 pub returns : goal.returns
 returns c = let n : c.loop-i.i ≡ length c.args.text.now / 4 = omega arith in

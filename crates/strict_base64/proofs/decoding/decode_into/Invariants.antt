@@ -1,21 +1,13 @@
 -- Invariant: the first i groups' bytes stand at the front of `out`, 3 of each, and behind them `out` is as it was.
-use borrow.Rule.Slice.PartMut.{same_len_mid}
-use Rattle.strict_base64.specs.Alphabet.{value_of}
-use Prim.Native.Nat.{ℕ, ◌+◌, ◌-◌, ◌*◌, ◌/◌, ◌%◌, ◌≤◌}
-use mathlib.Core.Path.{◌≡◌, refl, ◌∙◌}
-use mathlib.Core.List.{List, [], ◌∷◌, ◌++◌}
-use lib.ListN.{length, take, drop, get_or, set, length-set, length-drop}
-use native.Mathlib.Omega.{arith}
+use Prim.Native.Nat.{◌-◌, ◌*◌, ◌≤◌}
+use mathlib.Core.Path.{◌≡◌}
+use mathlib.Core.List.{◌++◌}
+use lib.ListN.{length, take, drop}
 use Rattle.strict_base64.specs.Code.{decoded}
-use Rattle.strict_base64.proofs.Laws.Code.{decoded_end, decoded_turn, decoded_groups}
-use Rattle.refusal.proofs.Laws.Lists.{part_rest, store_three, overwrite}
-use borrow.Author.Rules.{rules}
 use Rattle.strict_base64.proofs.decoding.decode_into.Given as goal
-
 
 abbrev pub invariant-loop-i : goal.invariant-loop-i
 invariant-loop-i l = (l.i ≤ l.n) × (length l.out ≡ length l.initial.out) × (l.out ≡ decoded (take (4 * l.i) l.text) ++ drop (3 * l.i) l.initial.out)
-
 
 abbrev pub decreases-loop-i : goal.decreases-loop-i
 decreases-loop-i l = l.n - l.i

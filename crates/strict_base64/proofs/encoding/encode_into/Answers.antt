@@ -1,17 +1,15 @@
 -- Invariant: the first i groups' characters stand at the front of `out`, 4 of each, and behind them `out` is as it was.
 use borrow.Author.Rules.{rules}
-use Prim.Native.Nat.{ℕ, ◌+◌, ◌-◌, ◌*◌, ◌/◌, ◌%◌, ◌≤◌}
-use mathlib.Core.Path.{◌≡◌, refl, ◌∙◌}
+use Prim.Native.Nat.{ℕ, ◌+◌, ◌*◌, ◌/◌, ◌%◌, ◌≤◌}
+use mathlib.Core.Path.{◌≡◌, refl}
 use mathlib.Core.List.{List, [], ◌∷◌, ◌++◌}
 use lib.ListN.{length, take, drop, get_or, set, length-set, length-drop}
 use native.Mathlib.Omega.{arith}
-use borrow.Rule.Slice.PartMut.{same_len_mid}
 use Rattle.strict_base64.specs.Alphabet.{character_of}
 use Rattle.strict_base64.specs.Code.{encoded}
 use Rattle.strict_base64.proofs.Laws.Code.{encoded_end, encoded_turn, encoded_groups}
 use Rattle.refusal.proofs.Laws.Lists.{part_rest, store_four, overwrite}
 use Rattle.strict_base64.proofs.encoding.encode_into.Goals as goal
-
 
 -- a turn: one group more
 turn : (t o o₀ : List ℕ) (i : ℕ) → 3 * i + 3 ≤ length t → 4 * i + 4 ≤ length o → o ≡ encoded (take (3 * i) t) ++ drop (4 * i) o₀ →
@@ -23,23 +21,18 @@ turn t o o₀ i ht ho e =
     rw (store_four o (4 * i) (character_of (get_or t (3 * i) 0 / 4)) (character_of (get_or t (3 * i) 0 % 4 * 16 + get_or t (3 * i + 1) 0 / 16)) (character_of (get_or t (3 * i + 1) 0 % 16 * 4 + get_or t (3 * i + 2) 0 / 64)) (character_of (get_or t (3 * i + 2) 0 % 64)) ho, encoded_turn t i ht, g)
     (overwrite o o₀ (encoded (take (3 * i) t)) (_ ∷ _ ∷ _ ∷ _ ∷ []) (4 * i) 4 e (encoded_groups t i (omega arith)) refl)
 
-
 pub loop-i-init : goal.loop-i-init
 unfolding encoded
 loop-i-init c = (search rules, refl, refl)
 
-
 pub bounds-out-i-in-loop-i : goal.bounds-out-i-in-loop-i
 bounds-out-i-in-loop-i c = simp length-set (omega arith)
-
 
 pub bounds-out-i-in-loop-i-2 : goal.bounds-out-i-in-loop-i-2
 bounds-out-i-in-loop-i-2 c = simp length-set (omega arith)
 
-
 pub bounds-out-i-in-loop-i-3 : goal.bounds-out-i-in-loop-i-3
 bounds-out-i-in-loop-i-3 c = simp length-set (omega arith)
-
 
 pub loop-i-preserved : goal.loop-i-preserved
 loop-i-preserved c = let i = c.loop-i.i in
@@ -48,14 +41,12 @@ loop-i-preserved c = let i = c.loop-i.i in
     let bytes = c.args.bytes.now in
     (search rules, simp length-set c.loop-i.invariant.1, rw (c.first.ensures, c.second.ensures, c.third.ensures, c.fourth.ensures) (turn bytes out out₀ i (omega arith) (omega arith) c.loop-i.invariant.2))
 
-
 pub encode_rest-requires : goal.encode_rest-requires
 encode_rest-requires c = record {
-        characters = c.requires.characters;
-        bytes_len_bound = rw (part_rest (3 * (length c.args.bytes.now / 3)) c.args.bytes.now) (simp length-drop (omega arith));
-        bytes_in_bounds = rw (part_rest (3 * (length c.args.bytes.now / 3)) c.args.bytes.now, part_rest (4 * (length c.args.bytes.now / 3)) c.loop-i.out) (simp length-drop (omega arith));
-    }
-
+  characters = c.requires.characters;
+  bytes_len_bound = rw (part_rest (3 * (length c.args.bytes.now / 3)) c.args.bytes.now) (simp length-drop (omega arith));
+  bytes_in_bounds = rw (part_rest (3 * (length c.args.bytes.now / 3)) c.args.bytes.now, part_rest (4 * (length c.args.bytes.now / 3)) c.loop-i.out) (simp length-drop (omega arith));
+}
 
 pub returns : goal.returns
 returns c = let n : c.loop-i.i ≡ length c.args.bytes.now / 3 = omega arith in

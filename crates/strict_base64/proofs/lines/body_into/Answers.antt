@@ -1,9 +1,9 @@
 -- Invariant: the first i lines' bytes stand at the front of `out`, 48 of each, and behind them `out` is as it was.
 use borrow.Author.Rules.{rules}
-use Prim.Native.Nat.{ℕ, ◌+◌, ◌-◌, ◌*◌, ◌/◌, ◌≤◌}
+use Prim.Native.Nat.{ℕ, ◌-◌, ◌*◌, ◌/◌}
 use mathlib.Core.Path.{◌≡◌, refl, ◌∙◌}
-use mathlib.Core.List.{List, [], ◌∷◌, ◌++◌}
-use lib.ListN.{length, take, drop}
+use mathlib.Core.List.{List, [], ◌∷◌}
+use lib.ListN.{length}
 use native.Mathlib.Omega.{arith}
 use borrow.Rule.Slice.PartMut.{same_len_mid}
 use Rattle.strict_base64.specs.Code.{decoded}
@@ -11,31 +11,25 @@ use Rattle.strict_base64.specs.Lines.{unwrapped, body_of}
 use Rattle.strict_base64.proofs.Laws.Lines.{body_fits, body_fits_last, body_turn, body_end}
 use Rattle.strict_base64.proofs.lines.body_into.Goals as goal
 
-
 empty : (l : List ℕ) → length l ≡ 0 → body_of l ≡ []
 unfolding unwrapped decoded
 empty [] h = refl
 empty (c ∷ l) h = absurd (omega arith)
 
-
 pub returns-then-n-eq0 : goal.returns-then-n-eq0
 returns-then-n-eq0 c = rw (empty c.args.lines.now c.if-n-eq0.true)
-
 
 pub loop-i-init : goal.loop-i-init
 loop-i-init c = (search rules, refl, refl)
 
-
 pub decode_into-requires : goal.decode_into-requires
 decode_into-requires c = record {
-        values = c.requires.values;
-        text_in_bounds = body_fits c.args.lines.now c.loop-i.out c.loop-i.i (omega arith) (omega (arith, c.requires.lines_in_bounds));
-    }
-
+  values = c.requires.values;
+  text_in_bounds = body_fits c.args.lines.now c.loop-i.out c.loop-i.i (omega arith) (omega (arith, c.requires.lines_in_bounds));
+}
 
 pub loop-i-smaller : goal.loop-i-smaller
 loop-i-smaller c = omega (arith, c.loop-i-test.true)
-
 
 pub loop-i-preserved : goal.loop-i-preserved
 loop-i-preserved c = let l = c.args.lines.now in
@@ -46,13 +40,11 @@ loop-i-preserved c = let l = c.args.lines.now in
       body_turn l out c.args.out.now c.decode_into.new.out i (omega arith) c.loop-i.invariant.2 c.decode_into.ensures,
     )
 
-
 pub decode_into-requires-2 : goal.decode_into-requires-2
 decode_into-requires-2 c = record {
-        values = c.requires.values;
-        text_in_bounds = body_fits_last c.args.lines.now c.loop-i.out ((length c.args.lines.now - 1) / 65) (omega arith) (omega arith) (omega (arith, c.requires.lines_in_bounds));
-    }
-
+  values = c.requires.values;
+  text_in_bounds = body_fits_last c.args.lines.now c.loop-i.out ((length c.args.lines.now - 1) / 65) (omega arith) (omega arith) (omega (arith, c.requires.lines_in_bounds));
+}
 
 pub returns : goal.returns
 returns c = let l = c.args.lines.now in

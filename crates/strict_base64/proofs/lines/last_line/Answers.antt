@@ -2,13 +2,10 @@
 use native.Mathlib.Omega.{arith}
 use Rattle.strict_base64.proofs.Laws.Code.{encoded_length}
 use Rattle.strict_base64.proofs.Laws.Lines.{lines_short}
-use borrow.Author.Rules.{rules}
 use Rattle.strict_base64.proofs.lines.last_line.Goals as goal
-
 
 pub bounds-out-n : goal.bounds-out-n
 bounds-out-n c = omega (arith, c.encode_into.auto.out, c.encoded_length-n.ensures, encoded_length c.args.body.now, c.requires.body_in_bounds)
-
 
 pub returns : goal.returns
 returns c = let b = c.args.body.now in

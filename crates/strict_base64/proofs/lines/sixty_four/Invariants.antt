@@ -1,18 +1,13 @@
 -- Invariant: `good` says whether the first j bytes from `at` on are all characters.
 use Prim.Native.Nat.{◌-◌, ◌≤◌}
-use mathlib.Core.Path.{◌≡◌, refl, ◌∙◌}
+use mathlib.Core.Path.{◌≡◌}
 use lib.ListN.{take, drop}
-use native.Mathlib.Omega.{arith}
-use borrow.Author.Rules.{rules}
 use Rattle.strict_base64.specs.Alphabet.{is_character}
 use Rattle.refusal.specs.Run.{all}
-use Rattle.refusal.proofs.Laws.Run.{all_more}
 use Rattle.strict_base64.proofs.lines.sixty_four.Given as goal
-
 
 abbrev pub invariant-loop-j : goal.invariant-loop-j
 invariant-loop-j l = (l.j ≤ 64) × (l.good ≡ all is_character (take l.j (drop l.at l.text)))
-
 
 abbrev pub decreases-loop-j : goal.decreases-loop-j
 decreases-loop-j l = 64 - l.j

@@ -6,13 +6,10 @@ use Rattle.tables.proofs.Laws.Copying.{body_less}
 use mathlib.Core.Path.{refl, sym, ◌∙◌}
 use native.Mathlib.Omega.{arith}
 use Rattle.strict_base64.proofs.Laws.Lines.{body_length}
-use borrow.Author.Rules.{rules}
 use Rattle.tables.proofs.copying.body_size.Goals as goal
-
 
 pub returns-in-Bytes : goal.returns-in-Bytes
 returns-in-Bytes c = rw c.in-Bytes.is (refl, omega arith)
-
 
 pub returns-in-Lines : goal.returns-in-Lines
 returns-in-Lines c = let e = c.body_length.ensures in

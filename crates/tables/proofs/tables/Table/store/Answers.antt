@@ -1,7 +1,6 @@
 -- The slot is entered or refused; the payload is put behind the others only where it is entered, and then it lies within the buffer.
 use Rattle.tables.proofs.Laws.Copying.{placed_is, kept_placed}
 use mathlib.Core.Path.{◌≡◌, sym, ap, ◌∙◌}
-use Prim.Native.Nat.{◌-◌}
 use lib.ListN.{length, length-drop}
 use native.Mathlib.Omega.{arith}
 use Rattle.refusal.specs.Verdict.{verdict_said}
@@ -10,9 +9,7 @@ use Rattle.refusal.proofs.Laws.Number.{number_not_zero}
 use Rattle.tables.specs.Bodies.{body_from}
 use Rattle.tables.specs.Tables.{table_in, storing}
 use Rattle.tables.proofs.Laws.Tables.{storing_within}
-use borrow.Author.Rules.{rules}
 use Rattle.tables.proofs.tables.Table.store.Goals as goal
-
 
 pub slice_bounds-put_body-count : goal.slice_bounds-put_body-count
 slice_bounds-put_body-count c = let t = table_in c.args.span c.args.self c.args.slots.now in
@@ -20,13 +17,11 @@ slice_bounds-put_body-count c = let t = table_in c.args.span c.args.self c.args.
     let l = storing_within t c.body_size-n.result (length c.args.buffer.now) (verdict_said c.args.late) z in
     omega (arith, l)
 
-
 pub slice_bounds-put_body-start : goal.slice_bounds-put_body-start
 slice_bounds-put_body-start c = let t = table_in c.args.span c.args.self c.args.slots.now in
     let z : storing t c.body_size-n.result (length c.args.buffer.now) (verdict_said c.args.late) ≡ 0 = sym c.enter-stored.ensures.number ∙ ap verdict_said c.in-Accepted.is in
     let l = storing_within t c.body_size-n.result (length c.args.buffer.now) (verdict_said c.args.late) z in
     omega (arith, l)
-
 
 pub put_body-requires : goal.put_body-requires
 put_body-requires c = let t = table_in c.args.span c.args.self c.args.slots.now in
@@ -35,16 +30,14 @@ put_body-requires c = let t = table_in c.args.span c.args.self c.args.slots.now 
     let l = storing_within t c.body_size-n.result (length b) (verdict_said c.args.late) z in
     rw (part_rest c.args.self.used b) (simp length-drop (omega (arith, l, c.body_size-n.ensures.0)))
 
-
 pub returns-in-Refused : goal.returns-in-Refused
 returns-in-Refused c = let e = rw c.body_size-n.ensures.0 at c.enter-stored.ensures in
     record {
-        number = e.number;
-        table = e.table;
-        others = e.others;
-        buffer = rw (sym e.number, c.in-Refused.is, number_not_zero c.in-Refused.field-0);
+      number = e.number;
+      table = e.table;
+      others = e.others;
+      buffer = rw (sym e.number, c.in-Refused.is, number_not_zero c.in-Refused.field-0);
     }
-
 
 pub returns-in-Accepted : goal.returns-in-Accepted
 returns-in-Accepted c = let e = rw c.body_size-n.ensures.0 at c.enter-stored.ensures in
@@ -54,8 +47,8 @@ returns-in-Accepted c = let e = rw c.body_size-n.ensures.0 at c.enter-stored.ens
     let late = verdict_said c.args.late in
     let z : storing t (length p) (length b) late ≡ 0 = sym e.number ∙ ap verdict_said c.in-Accepted.is in
     record {
-        number = e.number;
-        table = e.table;
-        others = e.others;
-        buffer = placed_is t p b c.put_body.new.out c.put_body.ensures ∙ kept_placed t p b late z;
+      number = e.number;
+      table = e.table;
+      others = e.others;
+      buffer = placed_is t p b c.put_body.new.out c.put_body.ensures ∙ kept_placed t p b late z;
     }

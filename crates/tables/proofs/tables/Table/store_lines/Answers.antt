@@ -1,7 +1,7 @@
 -- As store, with a line and an LF before the body.
 use mathlib.Core.Path.{◌≡◌, sym, ap, ◌∙◌}
 use mathlib.Core.List.{◌∷◌, ◌++◌}
-use Prim.Native.Nat.{◌+◌, ◌-◌}
+use Prim.Native.Nat.{◌+◌}
 use lib.ListN.{length, length-drop}
 use native.Mathlib.Omega.{arith}
 use Rattle.refusal.specs.Verdict.{verdict_said}
@@ -11,13 +11,10 @@ use Rattle.tables.specs.Bodies.{body_from}
 use Rattle.tables.specs.Tables.{table_in, storing}
 use Rattle.tables.proofs.Laws.Copying.{placed_is, kept_placed, lines_length}
 use Rattle.tables.proofs.Laws.Tables.{storing_within}
-use borrow.Author.Rules.{rules}
 use Rattle.tables.proofs.tables.Table.store_lines.Goals as goal
-
 
 pub overflow_add-n-2 : goal.overflow_add-n-2
 overflow_add-n-2 c = omega (arith, c.body_size.ensures.1)
-
 
 pub slice_bounds-put_lines-count : goal.slice_bounds-put_lines-count
 slice_bounds-put_lines-count c = let t = table_in c.args.span c.args.self c.args.slots.now in
@@ -26,14 +23,12 @@ slice_bounds-put_lines-count c = let t = table_in c.args.span c.args.self c.args
     let l = storing_within t n (length c.args.buffer.now) (verdict_said c.args.late) z in
     omega (arith, l)
 
-
 pub slice_bounds-put_lines-start : goal.slice_bounds-put_lines-start
 slice_bounds-put_lines-start c = let t = table_in c.args.span c.args.self c.args.slots.now in
     let n = length c.args.line.now + 1 + c.body_size.result in
     let z : storing t n (length c.args.buffer.now) (verdict_said c.args.late) ≡ 0 = sym c.enter-stored.ensures.number ∙ ap verdict_said c.in-Accepted.is in
     let l = storing_within t n (length c.args.buffer.now) (verdict_said c.args.late) z in
     omega (arith, l)
-
 
 pub put_lines-requires : goal.put_lines-requires
 put_lines-requires c = let t = table_in c.args.span c.args.self c.args.slots.now in
@@ -43,16 +38,14 @@ put_lines-requires c = let t = table_in c.args.span c.args.self c.args.slots.now
     let l = storing_within t n (length b) (verdict_said c.args.late) z in
     rw (part_rest c.args.self.used b) (simp length-drop (omega (arith, l, c.body_size.ensures.0)))
 
-
 pub returns-in-Refused : goal.returns-in-Refused
 returns-in-Refused c = let e = rw (c.body_size.ensures.0, lines_length c.args.line.now (body_from c.args.coding c.args.source.now)) at c.enter-stored.ensures in
     record {
-        number = e.number;
-        table = e.table;
-        others = e.others;
-        buffer = rw (sym e.number, c.in-Refused.is, number_not_zero c.in-Refused.field-0);
+      number = e.number;
+      table = e.table;
+      others = e.others;
+      buffer = rw (sym e.number, c.in-Refused.is, number_not_zero c.in-Refused.field-0);
     }
-
 
 pub returns-in-Accepted : goal.returns-in-Accepted
 returns-in-Accepted c = let f = c.args.line.now in
@@ -64,8 +57,8 @@ returns-in-Accepted c = let f = c.args.line.now in
     let late = verdict_said c.args.late in
     let z : storing t (length p) (length b) late ≡ 0 = sym e.number ∙ ap verdict_said c.in-Accepted.is in
     record {
-        number = e.number;
-        table = e.table;
-        others = e.others;
-        buffer = placed_is t p b c.put_lines.new.out (rw (lines_length f s) at c.put_lines.ensures) ∙ kept_placed t p b late z;
+      number = e.number;
+      table = e.table;
+      others = e.others;
+      buffer = placed_is t p b c.put_lines.new.out (rw (lines_length f s) at c.put_lines.ensures) ∙ kept_placed t p b late z;
     }
