@@ -1,5 +1,6 @@
 // The client end's sending: the commands of phase one.
 #![tactic(auto)]
+
 mod sending;
 
 pub use sending::{Sent, send};

@@ -1,0 +1,14 @@
+-- None that passes stands before i: what is left from there on is all.
+use mathlib.Core.Path.{◌≡◌}
+use Prim.Native.Nat.{◌-◌, ◌≤◌}
+use lib.ListN.{length}
+use Rattle.tables.specs.Tables.{table_in}
+use Rattle.conversation.specs.PhaseTwo.{how_many, labels, is_about}
+use Rattle.look_up.proofs.Laws.Labels.{left}
+use Rattle.phase_two_decision.proofs.questions.has_error_for.Given as goal
+
+abbrev pub invariant-loop-i : goal.invariant-loop-i
+invariant-loop-i l = (left (is_about l.file) (table_in l.span l.errors l.slots) l.i ≡ how_many (is_about l.file) (labels (table_in l.span l.errors l.slots))) × (l.i ≤ length (labels (table_in l.span l.errors l.slots)))
+
+abbrev pub decreases-loop-i : goal.decreases-loop-i
+decreases-loop-i l = length (labels (table_in l.span l.errors l.slots)) - l.i
