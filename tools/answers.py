@@ -165,7 +165,7 @@ class Fn:
         order=sorted(range(len(ch)),key=lambda i:(abs(i-n),i))
         if f in('args','requires','ranges','type_inv','lifetimes','pre','well-formed'):
             r=list(rest)
-            if f=='requires' and len(r)>1 and s.J['pre'] and s.J['pre'].get('fields') and len(s.J['pre']['fields'])>1:
+            if f=='requires' and s.J['pre'] and s.J['pre'].get('fields'):
                 r=['requires']+s.clause(r[1:],s.J['pre']['fields'])
             if f=='well-formed': return 'well_formed'
             if f=='args' and len(r)>1: r[1]=r[1].replace('-','_') if '-' in r[1] else r[1]
@@ -201,7 +201,7 @@ class Fn:
         """the fields behind the step of the place pi, old to new"""
         p=s.J['places'][pi]
         cl=s.J['clauses'][pi]
-        if r and r[0]=='ensures' and cl and cl.get('fields') and len(cl['fields'])>1:
+        if r and r[0]=='ensures' and cl and cl.get('fields'):
             r=['ensures']+s.clause(r[1:],cl['fields'])
         if r and r[0] in('new','auto') and p[3] and p[3] in s.J['params']:
             ps=s.J['params'][p[3]]; k=0; j=1
@@ -228,7 +228,7 @@ class Fn:
             env[nm]=path
             if path==['requires']:
                 fs=(s.J['pre'] or {}).get('fields') or []
-                if len(fs)<2: continue
+                if len(fs)<1: continue
                 f=lambda r,fs=fs: s.clause(r,fs)
             elif path==['args']:
                 f=lambda r: [r[0].replace('-','_')]+r[1:]
@@ -236,7 +236,7 @@ class Fn:
                 f=lambda r,i=by[path[0]]: s.fields(i,r)
             elif path[0] in by and path[1:]==['ensures']:
                 fs=(s.J['clauses'][by[path[0]]] or {}).get('fields') or []
-                if len(fs)<2: continue
+                if len(fs)<1: continue
                 f=lambda r,fs=fs: s.clause(r,fs)
             elif path[0] in by and path[1:]==['new']:
                 f=lambda r,i=by[path[0]]: s.fields(i,['new']+r)[1:]
@@ -247,6 +247,7 @@ class Fn:
         return text
     def clause(s,r,fields):
         n=len(fields)
+        if n==1: return [fields[0]]+r
         if not r: return r
         k=None;used=0
         if r[0].isdigit():
@@ -417,8 +418,10 @@ def convert(crate,only=()):
                 fields=J['asked'].get(new) or J['asked'].get(o)
             elif new.startswith('returns'):
                 e=ens.get(fn)
-                if e and len(e[0])>1: fields=e[0]
+                if e and (len(e[0])>1 or (len(e[0])==1 and e[0][0])): fields=e[0]
                 elif e is None: report.append((fn,'no ensures found'))
+            if fields and len(fields)==1 and fields[0]:
+                rhs2='record { '+fields[0]+' = '+rhs2+' }' if '\n' not in rhs2 else 'record {\n        '+fields[0]+' =\n            '+rhs2.replace('\n','\n        ')+';\n    }'
             if fields and len(fields)>1:
                 r=to_record(rhs2,fields)
                 if r is None:

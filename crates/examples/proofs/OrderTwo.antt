@@ -232,8 +232,8 @@ heard ok = reply Ok [] (outs 0)
 all_enough : (s : Session) (b : Buffers) (hs : List Heard) → LongEnough s b (map heard hs)
 unfolding LongEnough
 all_enough s b [] = tt
-all_enough s b (command text ∷ hs) = (command_short s b text, all_enough _ _ hs)
-all_enough s b (ok ∷ hs) = (reply_short s b, all_enough _ _ hs)
+all_enough s b (command text ∷ hs) = (command_short s b text, all_enough (outcome s b (heard (command text))).session (outcome s b (heard (command text))).buffers hs)
+all_enough s b (ok ∷ hs) = (reply_short s b, all_enough (outcome s b (heard ok)).session (outcome s b (heard ok)).buffers hs)
 
 pub given_enough : LongEnough start.session start.buffers (calls given)
 unfolding calls_of reply_calls
