@@ -1,4 +1,4 @@
-//! Links the static archive that `rt staticlib exports` wrote, and the plain C code, which `cc` compiles: cargo links with it too.
+//! Links the static archive that `rt lib` in crates/exports wrote, and the plain C code, which `cc` compiles: cargo links with it too.
 
 use std::env::var;
 use std::path::Path;
@@ -6,7 +6,7 @@ use std::process::Command;
 
 fn main() {
     let here = Path::new(env!("CARGO_MANIFEST_DIR"));
-    let archives = here.join("../target/staticlib");
+    let archives = here.join("../crates/exports/out");
     println!("cargo:rustc-link-search=native={}", archives.display());
     println!("cargo:rustc-link-lib=static=exports");
     println!("cargo:rerun-if-changed={}", archives.join("libexports.a").display());

@@ -10,7 +10,7 @@ use std::fs::{self, File};
 use std::hint::black_box;
 
 /// The replay program and two functions of it: `MAKE_CALL` makes the call of a line; `FIND_WORD` tells a script's words, within it too.
-const REPLAY: &str = "target/bin/replay";
+const REPLAY: &str = "crates/replay/out/replay";
 const MAKE_CALL: &str = "replay::turns::make_call";
 const FIND_WORD: &str = "script::choices::find_word";
 

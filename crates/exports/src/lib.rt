@@ -1,4 +1,4 @@
-// The library for C and Rust (rt staticlib exports): a slice is a pointer and a length, and a reference to a number is a pointer.
+// The library for C and Rust (a static library): a slice is a pointer and a length, and a reference to a number is a pointer.
 // Each function returns the paper's number, 0 where nothing was refused; its other results go to numbers and buffers that the caller lends,
 // and a refused call leaves all of these as they were. There is no `requires`: any text, numbers and lengths will do. What a reference is stays
 // the caller's to keep, as in Rust: no null pointer, also with a length of 0, and what is lent to be written overlaps nothing else.
