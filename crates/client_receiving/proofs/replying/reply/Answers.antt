@@ -39,8 +39,8 @@ returns-then-session-eq0 c = let a = c.args in
           f.ensures.outcome b
           ∙ ap (λ x. judged i l a.out.now (answered_with (session_of a.session xs hs) l a.response a.body.now x)) (sym (back_none a.session xs hs a.input.now z.waits (omega (arith, c.if-session-eq0.true))))
           ∙ z.same);
-        input = f.ensures.input.0;
-        name = f.ensures.input.1;
+        input = f.ensures.input;
+        name = f.ensures.name;
     }
 
 
@@ -74,6 +74,6 @@ returns-else-session-eq0 c = let a = c.args in
     let f = c.reply_back in
     record {
         outcome = (λ b. f.ensures.outcome b ∙ (reply_fits i (lent b a.errors.now a.stanzas.now a.returned.now) a.response a.body.now a.out.now n h).same);
-        input = f.ensures.input.0;
-        name = f.ensures.input.1;
+        input = f.ensures.input;
+        name = f.ensures.name;
     }

@@ -37,6 +37,6 @@ returns c = let a = c.args in
         outcome = (λ b. let l = lent b a.errors.now a.stanzas.now a.returned.now in
           f.ensures.outcome b
           ∙ ap (λ x. judged (intake_of client a.session xs hs a.input.now) l a.out.now (answered_with (session_of a.session xs hs) l a.response a.body.now x)) back);
-        input = f.ensures.input.0;
-        name = f.ensures.input.1;
+        input = f.ensures.input;
+        name = f.ensures.name;
     }
