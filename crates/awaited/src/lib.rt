@@ -1,6 +1,7 @@
 // The stanza that waits for the host's reply at the client end, for the host to show: its whole text, its message, and the labels of a confirm. No chunk need
 // hold it: it lies at the front of the lent input, until the reply.
 #![tactic(auto)]
+
 ghost use Rattle.std.specs.Prelude.{◌≡◌};
 ghost use Rattle.refusal.specs.Output.{said, answered, filled};
 ghost use Rattle.awaited.specs.Awaited.{awaited_text, line_in, message_in, label_count, label_in};

@@ -1,5 +1,5 @@
 -- What an end keeps, by the code's session and the lent bytes of its input; and what the code's answer to a chunk or a reply stands for.
-use Rattle.std.specs.Prelude.{ℕ, min, List, [], ◌++◌, take, drop}
+use Rattle.std.specs.Prelude.{ℕ, min, List, ◌++◌, take, drop}
 use Rattle.refusal.specs.Output.{filled}
 use Rattle.refusal.specs.Pick.{pick}
 use Rattle.refusal.specs.Verdict.{verdict_said}

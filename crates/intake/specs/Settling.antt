@@ -1,7 +1,6 @@
 -- What becomes of what stands behind the stanzas that were taken. Nobody has to believe this: the ends show it of their own calls.
 use Rattle.std.specs.Prelude.{ℕ, ◌≤◌, ◌≡◌, List, [], length}
 use Rattle.stanza.specs.Reading.{stanza, read_first}
-use Rattle.session.specs.Session.{session_of}
 use Rattle.session.specs.declared.phases.Phase.{Phase}
 use Rattle.conversation.specs.Kinds.{Buffers}
 use Rattle.chunks.specs.Taking.{End, Turn, reads, keeps_back, turn_at, Taken}

@@ -2,6 +2,7 @@
 // The kept bytes lie in an array that each call is lent: the text of the stanza that waits for the host's reply at its front (the client's alone), behind it
 // the front of an unfinished stanza, or what was kept back.
 #![tactic(auto)]
+
 mod answers;
 mod keeping;
 mod turns;

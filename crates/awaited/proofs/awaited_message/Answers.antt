@@ -6,9 +6,7 @@ use Rattle.stanza.specs.Reading.{read_said}
 use Rattle.conversation.specs.Calls.{body_read}
 use Rattle.awaited.specs.Awaited.{awaited_text, message_in}
 use Rattle.awaited.proofs.Laws.Awaited.{nothing_written}
-use borrow.Author.Rules.{rules}
 use Rattle.awaited.proofs.awaited_message.Goals as goal
-
 
 pub returns-in-Stanza : goal.returns-in-Stanza
 returns-in-Stanza c = let t = c.awaited_text-waiting.result.now in
@@ -16,10 +14,9 @@ returns-in-Stanza c = let t = c.awaited_text-waiting.result.now in
     let z : body_in t s ≡ message_in (awaited_text c.args.session c.args.input.now) =
     ap (λ r. body_read r t) (sym (ap read_said c.in-Stanza.is) ∙ c.read-first.ensures) ∙ ap message_in c.awaited_text-waiting.ensures in
     record {
-        answer = rw (← z) c.body_of.ensures.answer;
-        buffer = rw (← z) c.body_of.ensures.buffer;
+      answer = rw (← z) c.body_of.ensures.answer;
+      buffer = rw (← z) c.body_of.ensures.buffer;
     }
-
 
 pub returns-in-Refused : goal.returns-in-Refused
 returns-in-Refused c = let a = c.args in

@@ -43,7 +43,7 @@ use Rattle.conversation.proofs.Laws.RowsOne.{SaidOne, said_one}
 use Rattle.conversation.proofs.Laws.RowsTwo.{SaidTwo, said_two}
 use Rattle.conversation.proofs.Laws.Refusals.{either}
 use Rattle.conversation.proofs.Laws.StepsTwo.{long_enough}
-use Rattle.stanza.specs.Automaton.{State, line, next}
+use Rattle.stanza.specs.Automaton.{State, next}
 use Rattle.chunks.specs.Cutting.{Rest, unfinished, impossible, bytes_of, Cut, onward, front_onward, cut_at, cut}
 use Rattle.chunks.specs.Taking.{End, client, plugin, Turn, reads, drops, keeps_back, turn_at, ample, stanza_call, awaited_behind, Taken, taken_rest, taken_all}
 use Rattle.chunks.proofs.Laws.Cutting.{by_place}

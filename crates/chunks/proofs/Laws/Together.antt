@@ -12,14 +12,12 @@ use Rattle.refusal.specs.Pick.{pick}
 use Rattle.refusal.proofs.Laws.Booleans.{cases}
 use Rattle.stanza.specs.Automaton.{start}
 use Rattle.session.specs.Session.{Session, closed}
-use Rattle.session.specs.declared.phases.Phase.{Phase}
-use Rattle.session.specs.declared.phases.Phase.TheVariants.{One, Two, Awaiting, Ended, Closed}
 use Rattle.conversation.specs.Calls.{outcome, written_by}
 use Rattle.conversation.specs.Kinds.{Buffers}
 use Rattle.conversation.specs.Phases.{All}
 use Rattle.conversation.proofs.Laws.StepsTwo.{all_written}
 use Rattle.chunks.specs.Cutting.{Cut, Rest, unfinished, impossible, bytes_of, cut}
-use Rattle.chunks.specs.Taking.{End, client, plugin, Turn, reads, drops, keeps_back, turn_at, stanza_call, awaited_behind, Intake, Taken, no_more, emptied, keeping, one_more, taken_rest, joined, taken_by, taken_all, last_in}
+use Rattle.chunks.specs.Taking.{End, Turn, reads, drops, keeps_back, turn_at, stanza_call, awaited_behind, Intake, Taken, no_more, emptied, keeping, one_more, taken_rest, joined, taken_by, taken_all, last_in}
 use Rattle.chunks.specs.Chunks.{Outcome, untaken, is_held, judged, taken, turn_of, chunked}
 use Rattle.chunks.specs.Uncut.{is_waiting, Together}
 use Rattle.chunks.specs.Reached.{Bounded}

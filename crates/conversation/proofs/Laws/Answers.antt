@@ -9,7 +9,6 @@ use lib.ListN.{length}
 use borrow.Author.Tests.{eqb-true, eqb-false}
 use Rattle.refusal.specs.Pick.{pick}
 use Rattle.refusal.proofs.Laws.Booleans.{and_true, cases}
-use Rattle.stanza.specs.Index.{number}
 use Rattle.responses.specs.Responses.{fitting, fits_whole, may_have_body}
 use Rattle.responses.specs.declared.Response.{Response}
 use Rattle.session.specs.declared.words.WordTwo.{WordTwo}
@@ -21,7 +20,7 @@ use Rattle.session.specs.declared.phases.Phase.{Phase}
 use Rattle.session.specs.declared.phases.Phase.TheVariants.{One, Two, Awaiting, Ended, Closed}
 use Rattle.conversation.specs.Answers.{Event, asked, responded, asked_by, answered_by, responded_by, events_of, events, Paired}
 use Rattle.conversation.specs.Calls.{Call, receive, send, receive_two, reply, send_two, respond, outcome, session_after, after}
-use Rattle.conversation.specs.CommandsTwo.{identity, recipient, CommandTwo, ask, stanza, key, error, done, other, bad, command_two, line_sent}
+use Rattle.conversation.specs.CommandsTwo.{CommandTwo, ask, stanza, key, error, done, other, bad, command_two, line_sent}
 use Rattle.conversation.specs.Kinds.{Buffers}
 use Rattle.conversation.specs.Phases.{line_in, body_in, is_done, command_in}
 use Rattle.conversation.specs.ReceivingTwo.{at_once, phase_received}

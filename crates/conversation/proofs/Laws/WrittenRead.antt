@@ -1,5 +1,5 @@
 -- What one end writes is parsed at the other end as what was written, and a text that is received is the text that would be written for it. For every session value.
-use Prim.Native.Nat.{ℕ, ◌+◌}
+use Prim.Native.Nat.{ℕ}
 use mathlib.Core.Path.{◌≡◌, refl, sym, ap, ap₂, ◌∙◌, subst}
 use mathlib.Core.Bool.{true}
 use mathlib.Core.List.{List, [], ◌++◌}
@@ -26,7 +26,7 @@ use Rattle.phase_one.specs.PhaseOne as one
 use Rattle.conversation.specs.Calls.{send, receive_two, reply, send_two, Outcome, outcome, written_by, line_read, body_read}
 use Rattle.conversation.specs.CommandsTwo.{command_two, payload_of, line_sent}
 use Rattle.conversation.specs.Kinds.{Buffers}
-use Rattle.conversation.specs.Phases.{line_in, body_in, command_in, payload_in}
+use Rattle.conversation.specs.Phases.{line_in, body_in, command_in}
 use Rattle.conversation.specs.ReceivingTwo.{writes, at_once, text_of}
 use Rattle.session.specs.Session.{Session}
 use Rattle.conversation.specs.WrittenRead.{ReadsBack, OneReadsBack, TwoReadsBack, ResponseReadsBack, ReceivedAgain}

@@ -13,7 +13,6 @@ use Rattle.session.specs.Session.{Session, closed}
 use Rattle.session.specs.declared.phases.Phase.{Phase}
 use Rattle.conversation.specs.Kinds.{Buffers}
 use Rattle.conversation.proofs.Laws.RowsTwo.{no_bytes}
-use Rattle.chunks.specs.Cutting.{unfinished}
 use Rattle.chunks.specs.Taking.{End, Turn, reads, drops, keeps_back, turn_at, Intake, Last, no_more, emptied, keeping, taken_all, taken_text, behind}
 use Rattle.chunks.specs.Uncut.{is_waiting}
 use Rattle.chunks.proofs.Laws.Cases.{keeps_not_reads, keeps_not_drops}

@@ -11,19 +11,17 @@ use Rattle.intake.specs.declared.answers.Last.TheVariants.{Nothing}
 use Rattle.intake.specs.declared.answers.Received.{Received as CodeReceived}
 use Rattle.intake.proofs.Laws.Fronts.{chunk_fault, silent_answer}
 use Rattle.intake.proofs.Laws.Keeping.{filled_empty}
-use borrow.Author.Rules.{rules}
 use Rattle.intake.proofs.answers.close.Goals as goal
-
 
 pub returns : goal.returns
 returns c = let a = c.args in
     let r : CodeReceived = record { verdict = Refused a.refusal; count = 0; last = Nothing; written = 0; session = c.keeping.result } in
     record {
-        outcome = (λ e xs hs o chunk b out t m h.
+      outcome = (λ e xs hs o chunk b out t m h.
           let says : Says e r xs hs o o [] b (taken e (intake_of e a.session xs hs o) b chunk) = record {
             taken = rw (c.keeping.ensures, c.moved-shut.ensures, closed_waits e) (sym (chunk_fault e a.session xs hs o t m chunk b (number_of a.refusal) h));
             input = rw (c.keeping.ensures, c.moved-shut.ensures, closed_waits e) (filled_empty o);
           } in
           record { outcome = silent_answer e r xs hs o o b b _ chunk out (turn_reads e a.session.phase t) refl says; input = says.input });
-        name = ap (λ s. s.name) c.keeping.ensures ∙ ap (λ s. s.name) c.moved-shut.ensures;
+      name = ap (λ s. s.name) c.keeping.ensures ∙ ap (λ s. s.name) c.moved-shut.ensures;
     }

@@ -1,7 +1,5 @@
 -- Each place; only at the start can there be no byte of a stanza.
-use borrow.Author.Rules.{rules}
 use Rattle.intake.proofs.keeping.is_between.Goals as goal
-
 
 pub returns-in-Start : goal.returns-in-Start
 returns-in-Start c = rw c.in-Start.is

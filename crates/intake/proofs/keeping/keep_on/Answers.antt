@@ -19,9 +19,7 @@ use Rattle.intake.specs.declared.answers.Received.{Received as CodeReceived}
 use Rattle.intake.proofs.Laws.Fronts.{chunk_goes_on, silent_answer}
 use Rattle.intake.proofs.Laws.Keeping.{part_behind, front_back}
 use Rattle.intake.proofs.Laws.Settling.{reads_waits}
-use borrow.Author.Rules.{rules}
 use Rattle.intake.proofs.keeping.keep_on.Goals as goal
-
 
 pub returns : goal.returns
 returns c = let a = c.args in
@@ -31,7 +29,7 @@ returns c = let a = c.args in
     let r : CodeReceived = record { verdict = Accepted; count = 0; last = Nothing; written = 0; session = c.keeping.result } in
     let kept : n ≡ k = c.kept_of-kept.ensures in
     record {
-        outcome = (λ e xs hs o b out t m h.
+      outcome = (λ e xs hs o b out t m h.
           let g = chunk_goes_on e a.session xs hs o t m p b (place_said a.place) h in
           let l = g.1 in
           let size : length (take k o ++ p) ≡ k + length p = length-append (take k o) p ∙ ap (λ n. n + length p) (length-take-le k o (omega arith)) in
@@ -43,5 +41,5 @@ returns c = let a = c.args in
             input = rw (c.keeping.ensures, w) (y ∙ ap (λ q. filled q o) (sym z));
           } in
           record { outcome = silent_answer e r xs hs o _ b b _ p out (turn_reads e a.session.phase t) refl says; input = says.input });
-        name = ap (λ s. s.name) c.keeping.ensures;
+      name = ap (λ s. s.name) c.keeping.ensures;
     }

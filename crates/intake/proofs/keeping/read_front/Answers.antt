@@ -10,9 +10,7 @@ use Rattle.stanza.specs.declared.places.Place.{Place}
 use Rattle.chunks.specs.Taking.{Turn}
 use Rattle.intake.specs.Fronts.{is_between, is_reading, front_of, front_in, input_behind}
 use Rattle.intake.specs.Turns.{turn_said}
-use borrow.Author.Rules.{rules}
 use Rattle.intake.proofs.keeping.read_front.Goals as goal
-
 
 module _ (t : Turn) (p : Place) (k : ℕ) (x : List ℕ) where
   -- nothing is read
@@ -30,27 +28,24 @@ module _ (t : Turn) (p : Place) (k : ℕ) (x : List ℕ) where
     one_unfinished : (r : Continued) → is_between p n ≡ false → r ≡ continued (place_said p) n x → r ≡ front_in t p k x
     one_unfinished r h q = q ∙ sym (by_between (continued (place_said p) n x) (ap (λ f. pick f (whole 0) (continued (place_said p) n x)) h))
 
-
 pub returns-then-not-is_reading : goal.returns-then-not-is_reading
 returns-then-not-is_reading c = let a = c.args in
     record {
-        front = none_read (turn_said a.turn) a.reading (min a.kept 8191) a.chunk.now (sym c.is_reading.ensures ∙ not-true c.is_reading.result c.if-not-is_reading.true-raw);
-        input = refl;
+      front = none_read (turn_said a.turn) a.reading (min a.kept 8191) a.chunk.now (sym c.is_reading.ensures ∙ not-true c.is_reading.result c.if-not-is_reading.true-raw);
+      input = refl;
     }
-
 
 pub returns-then-is_between : goal.returns-then-is_between
 returns-then-is_between c = let a = c.args in
     record {
-        front = none_unfinished (turn_said a.turn) a.reading (min a.kept 8191) a.chunk.now (sym c.is_reading.ensures ∙ not-false c.is_reading.result c.if-not-is_reading.false-raw) _ c.kept_of-at.ensures (sym c.is_between.ensures ∙ c.if-is_between.true);
-        input = refl;
+      front = none_unfinished (turn_said a.turn) a.reading (min a.kept 8191) a.chunk.now (sym c.is_reading.ensures ∙ not-false c.is_reading.result c.if-not-is_reading.false-raw) _ c.kept_of-at.ensures (sym c.is_between.ensures ∙ c.if-is_between.true);
+      input = refl;
     }
-
 
 pub returns : goal.returns
 returns c = let a = c.args in
     let f = c.read_more in
     record {
-        front = one_unfinished (turn_said a.turn) a.reading (min a.kept 8191) a.chunk.now (sym c.is_reading.ensures ∙ not-false c.is_reading.result c.if-not-is_reading.false-raw) _ c.kept_of-at.ensures (continued_said f.result) (sym c.is_between.ensures ∙ c.if-is_between.false) f.ensures.front;
-        input = f.ensures.input ∙ ap (λ n. input_behind (continued_said f.result) n a.chunk.now a.input.now) c.kept_of-at.ensures;
+      front = one_unfinished (turn_said a.turn) a.reading (min a.kept 8191) a.chunk.now (sym c.is_reading.ensures ∙ not-false c.is_reading.result c.if-not-is_reading.false-raw) _ c.kept_of-at.ensures (continued_said f.result) (sym c.is_between.ensures ∙ c.if-is_between.false) f.ensures.front;
+      input = f.ensures.input ∙ ap (λ n. input_behind (continued_said f.result) n a.chunk.now a.input.now) c.kept_of-at.ensures;
     }

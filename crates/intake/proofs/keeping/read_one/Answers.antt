@@ -4,9 +4,7 @@ use native.Mathlib.Omega.{arith}
 use borrow.Author.Tests.{not-false}
 use Rattle.intake.specs.Turns.{turn_said}
 use Rattle.intake.proofs.Laws.Fronts.{byte_goes_on}
-use borrow.Author.Rules.{rules}
 use Rattle.intake.proofs.keeping.read_one.Goals as goal
-
 
 pub returns : goal.returns
 returns c = let a = c.args in

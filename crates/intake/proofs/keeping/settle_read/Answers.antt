@@ -15,31 +15,27 @@ use Rattle.intake.specs.Intake.{last_said}
 use Rattle.intake.proofs.Laws.Keeping.{front_back, filled_empty}
 use Rattle.intake.proofs.Laws.Settling.{reads_waits, behind_last, rest_kept, rest_over, rest_closes}
 use Rattle.refusal.specs.Output.{filled}
-use borrow.Author.Rules.{rules}
 use Rattle.intake.proofs.keeping.settle_read.Goals as goal
-
 
 pub returns-then-rest-eq0 : goal.returns-then-rest-eq0
 returns-then-rest-eq0 c = let a = c.args in
     let f = a.so_far in
     record {
-        outcome = (λ e xs hs w b m.
+      outcome = (λ e xs hs w b m.
           let s = session_of f.session xs hs in
           record {
             taken = rw (c.settled.ensures, c.keeping.ensures, reads_waits e f.session.phase m.turn) (sym (ap (behind f.count (last_said f.last) w) (rest_over e s b a.rest.now m.turn c.if-rest-eq0.true) ∙ behind_last f.count (last_said f.last) w 0 (emptied s []) b));
             input = rw (c.settled.ensures, c.keeping.ensures, reads_waits e f.session.phase m.turn) (filled_empty a.input.now);
           });
-        rest = (ap (λ r. r.written) c.settled.ensures, ap (λ r. r.session.name) c.settled.ensures ∙ ap (λ s. s.name) c.keeping.ensures);
+      rest = (ap (λ r. r.written) c.settled.ensures, ap (λ r. r.session.name) c.settled.ensures ∙ ap (λ s. s.name) c.keeping.ensures);
     }
-
 
 pub returns-in-Whole : goal.returns-in-Whole
 returns-in-Whole c = let a = c.args in
     record {
-        outcome = (λ e xs hs w b m. let h = (whole_iff a.rest.now _).0 (sym c.read_more-continued.ensures.front ∙ ap continued_said c.in-Whole.is) in absurd (m.no_stanza refl h.0 h.1 _ h.2));
-        rest = (ap (λ r. r.written) c.settled-in-Whole.ensures, ap (λ r. r.session.name) c.settled-in-Whole.ensures ∙ ap (λ s. s.name) c.keeping-in-Whole.ensures);
+      outcome = (λ e xs hs w b m. let h = (whole_iff a.rest.now _).0 (sym c.read_more-continued.ensures.front ∙ ap continued_said c.in-Whole.is) in absurd (m.no_stanza refl h.0 h.1 _ h.2));
+      rest = (ap (λ r. r.written) c.settled-in-Whole.ensures, ap (λ r. r.session.name) c.settled-in-Whole.ensures ∙ ap (λ s. s.name) c.keeping-in-Whole.ensures);
     }
-
 
 pub returns-in-Unfinished : goal.returns-in-Unfinished
 returns-in-Unfinished c = let a = c.args in
@@ -50,16 +46,15 @@ returns-in-Unfinished c = let a = c.args in
     let g = sym c.read_more-continued.ensures.front ∙ ap continued_said c.in-Unfinished.is in
     let x : c.read_more-continued.new.input ≡ filled rest o = c.read_more-continued.ensures.input ∙ ap (λ q. input_behind (continued_said q) 0 rest o) c.in-Unfinished.is in
     record {
-        outcome = (λ e xs hs w b m.
+      outcome = (λ e xs hs w b m.
           let s = session_of f.session xs hs in
           let z = front_back rest o (omega (arith, (unfinished_is rest start (place_said q) 0 g).1)) m.long in
           record {
             taken = rw (c.settled-in-Unfinished.ensures, c.keeping-in-Unfinished.ensures, reads_waits e f.session.phase m.turn, x, z) (sym (ap (behind f.count (last_said f.last) w) (rest_kept e s b rest m.turn (place_said q) g) ∙ behind_last f.count (last_said f.last) w 0 (keeping s (place_said q) rest []) b));
             input = rw (c.settled-in-Unfinished.ensures, c.keeping-in-Unfinished.ensures, reads_waits e f.session.phase m.turn, x, z);
           });
-        rest = (ap (λ r. r.written) c.settled-in-Unfinished.ensures, ap (λ r. r.session.name) c.settled-in-Unfinished.ensures ∙ ap (λ s. s.name) c.keeping-in-Unfinished.ensures);
+      rest = (ap (λ r. r.written) c.settled-in-Unfinished.ensures, ap (λ r. r.session.name) c.settled-in-Unfinished.ensures ∙ ap (λ s. s.name) c.keeping-in-Unfinished.ensures);
     }
-
 
 pub returns-in-Refused : goal.returns-in-Refused
 returns-in-Refused c = let a = c.args in
@@ -70,11 +65,11 @@ returns-in-Refused c = let a = c.args in
     let g = sym c.read_more-continued.ensures.front ∙ ap continued_said c.in-Refused.is in
     let x : c.read_more-continued.new.input ≡ o = c.read_more-continued.ensures.input ∙ ap (λ q. input_behind (continued_said q) 0 rest o) c.in-Refused.is in
     record {
-        outcome = (λ e xs hs w b m.
+      outcome = (λ e xs hs w b m.
           let s = session_of f.session xs hs in
           record {
             taken = rw (c.settled-in-Refused.ensures, c.keeping-in-Refused.ensures, c.moved-shut.ensures, closed_waits e) (sym (ap (behind f.count (last_said f.last) w) (rest_closes e s b rest m.turn (number_of r) g) ∙ behind_last f.count (last_said f.last) w (number_of r) (emptied (closed s) []) b));
             input = rw (c.settled-in-Refused.ensures, c.keeping-in-Refused.ensures, c.moved-shut.ensures, closed_waits e) (x ∙ filled_empty o);
           });
-        rest = (ap (λ r. r.written) c.settled-in-Refused.ensures, ap (λ r. r.session.name) c.settled-in-Refused.ensures ∙ ap (λ s. s.name) c.keeping-in-Refused.ensures ∙ ap (λ s. s.name) c.moved-shut.ensures);
+      rest = (ap (λ r. r.written) c.settled-in-Refused.ensures, ap (λ r. r.session.name) c.settled-in-Refused.ensures ∙ ap (λ s. s.name) c.keeping-in-Refused.ensures ∙ ap (λ s. s.name) c.moved-shut.ensures);
     }
