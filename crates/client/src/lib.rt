@@ -1,5 +1,6 @@
 // The client end, for its host: all that it names, by one `use`. It sends phase one and receives phase two, and its host replies.
 #![tactic(auto)]
+
 pub use awaited::{awaited_label, awaited_labels, awaited_message, awaited_text};
 pub use client_receiving::{receive, reply};
 pub use client_sending::{Sent, send};

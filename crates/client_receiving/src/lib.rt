@@ -1,5 +1,6 @@
 // The client end's receiving: chunks of the plugin's commands in phase two, and its host's replies.
 #![tactic(auto)]
+
 mod receiving;
 mod replying;
 mod stanzas;

@@ -1,5 +1,6 @@
 // Whether the client's output buffer has room for what a text is answered with, and whether what is kept back has room: decided before anything is written.
 #![tactic(auto)]
+
 mod fitting;
 mod stanzas;
 

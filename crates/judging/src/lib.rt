@@ -1,5 +1,6 @@
 // Judging a recorded phase one of recipient-v1: chunk after chunk up to done, a refusal or the end of the input. How the input is cut does not show.
 #![tactic(auto)]
+
 ghost use Rattle.std.specs.Prelude.{◌≡◌, List, ℕ};
 ghost use Rattle.refusal.specs.Verdict.{verdict_said};
 ghost use Rattle.session.specs.Opening.{held};

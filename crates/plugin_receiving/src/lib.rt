@@ -1,5 +1,6 @@
 // The plugin end's receiving: the commands of phase one, and the client's responses in phase two.
 #![tactic(auto)]
+
 mod commands;
 mod fronts;
 mod phases;

@@ -15,7 +15,7 @@ use Rattle.conversation.specs.Kinds.{Buffers, buffers_of}
 use Rattle.conversation.specs.PhaseTwo.{BuffersTwo}
 use Rattle.chunks.specs.Taking.{plugin, Intake}
 use Rattle.chunks.specs.Chunks.{Outcome, chunked}
-use Rattle.judging.specs.Judging.{Standing, going, State, behind_chunk, judge_name, judged_from, start}
+use Rattle.judging.specs.Judging.{Standing, going, behind_chunk, judge_name, judged_from, start}
 use Rattle.judging.specs.Said.{buffers_in}
 use mathlib.Core.Bool.{false}
 

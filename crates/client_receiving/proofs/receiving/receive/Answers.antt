@@ -18,9 +18,7 @@ use Rattle.intake.specs.Intake.{intake_of, stored_in}
 use Rattle.client_receiving.specs.Texts.{lent, Answers}
 use Rattle.client_receiving.proofs.Laws.Texts.{none_lent}
 use Rattle.client_receiving.proofs.Laws.Receiving.{out_of_turn, no_room, with_room, untaken_input}
-use borrow.Author.Rules.{rules}
 use Rattle.client_receiving.proofs.receiving.receive.Goals as goal
-
 
 pub returns-in-Refused : goal.returns-in-Refused
 returns-in-Refused c = let a = c.args in
@@ -28,11 +26,10 @@ returns-in-Refused c = let a = c.args in
     let i = intake_of client a.session a.slots.now a.header_slots.now a.input.now in
     let f = c.leave.ensures.outcome client a.slots.now a.header_slots.now a.input.now in
     record {
-        outcome = (λ b. let l = lent b a.errors.now a.stanzas.now a.returned.now in f l a.out.now ∙ out_of_turn i l a.chunk.now a.out.now (number_of c.in-Refused.r) n (number_not_zero c.in-Refused.r));
-        input = untaken_input a.session a.slots.now a.header_slots.now a.input.now (number_of c.in-Refused.r) _ a.out.now c.leave.result (f (lent none_lent [] [] []) a.out.now);
-        name = c.leave.ensures.name;
+      outcome = (λ b. let l = lent b a.errors.now a.stanzas.now a.returned.now in f l a.out.now ∙ out_of_turn i l a.chunk.now a.out.now (number_of c.in-Refused.r) n (number_not_zero c.in-Refused.r));
+      input = untaken_input a.session a.slots.now a.header_slots.now a.input.now (number_of c.in-Refused.r) _ a.out.now c.leave.result (f (lent none_lent [] [] []) a.out.now);
+      name = c.leave.ensures.name;
     }
-
 
 pub returns-in-GoesOn : goal.returns-in-GoesOn
 returns-in-GoesOn c = let a = c.args in
@@ -49,11 +46,10 @@ returns-in-GoesOn c = let a = c.args in
     let long : 8192 ≤ length o = omega (arith, c.read_one-arg-1.given) in
     let answered : (b : BuffersOne) → Answered client a.session x c.keep_on.result xs hs o g.new.input (lent b a.errors.now a.stanzas.now a.returned.now) out = λ b. subst (λ i. Answered client a.session x c.keep_on.result xs hs o i (lent b a.errors.now a.stanzas.now a.returned.now) out) (sym s.2) (c.keep_on.ensures.outcome client xs hs o (lent b a.errors.now a.stanzas.now a.returned.now) out (ap (turn_at client) second) long s.1) in
     record {
-        outcome = λ b. (answered b).outcome;
-        input = (answered none_lent).input;
-        name = c.keep_on.ensures.name;
+      outcome = λ b. (answered b).outcome;
+      input = (answered none_lent).input;
+      name = c.keep_on.ensures.name;
     }
-
 
 pub returns-in-Unfinished : goal.returns-in-Unfinished
 returns-in-Unfinished c = let a = c.args in
@@ -74,11 +70,10 @@ returns-in-Unfinished c = let a = c.args in
     let long : 8192 ≤ length o = omega (arith, c.read_one-arg-1.given) in
     let answered : (b : BuffersOne) → Answered client a.session x c.keep_on-in-Unfinished.result xs hs o (i) (lent b a.errors.now a.stanzas.now a.returned.now) out = λ b. subst (λ i. Answered client a.session x c.keep_on-in-Unfinished.result xs hs o i (lent b a.errors.now a.stanzas.now a.returned.now) out) (sym (input ∙ ap (input_behind (unfinished (place_said c.in-Unfinished.place)) k x) same)) (c.keep_on-in-Unfinished.ensures.outcome client xs hs o (lent b a.errors.now a.stanzas.now a.returned.now) out (ap (turn_at client) second) long front) in
     record {
-        outcome = λ b. (answered b).outcome;
-        input = (answered none_lent).input;
-        name = c.keep_on-in-Unfinished.ensures.name;
+      outcome = λ b. (answered b).outcome;
+      input = (answered none_lent).input;
+      name = c.keep_on-in-Unfinished.ensures.name;
     }
-
 
 pub returns-in-Refused-front : goal.returns-in-Refused-front
 returns-in-Refused-front c = let a = c.args in
@@ -99,11 +94,10 @@ returns-in-Refused-front c = let a = c.args in
     let long : 8192 ≤ length o = omega (arith, c.read_one-arg-1.given) in
     let answered : (b : BuffersOne) → Answered client a.session x c.close.result xs hs o (i) (lent b a.errors.now a.stanzas.now a.returned.now) out = λ b. subst (λ i. Answered client a.session x c.close.result xs hs o i (lent b a.errors.now a.stanzas.now a.returned.now) out) (sym (input ∙ same)) (c.close.ensures.outcome client xs hs o x (lent b a.errors.now a.stanzas.now a.returned.now) out (ap (turn_at client) second) long front) in
     record {
-        outcome = λ b. (answered b).outcome;
-        input = (answered none_lent).input;
-        name = c.close.ensures.name;
+      outcome = λ b. (answered b).outcome;
+      input = (answered none_lent).input;
+      name = c.close.ensures.name;
     }
-
 
 pub has_room-requires : goal.has_room-requires
 has_room-requires c = let a = c.args in
@@ -118,7 +112,6 @@ has_room-requires c = let a = c.args in
     let i = f.new.input in
     let long : 8192 ≤ length o = omega (arith, c.read_one-arg-1.given) in
     (front, subst (λ i. 8192 ≤ length i) (sym (input ∙ same)) long)
-
 
 pub returns-then-not-has_room : goal.returns-then-not-has_room
 returns-then-not-has_room c = let a = c.args in
@@ -136,15 +129,14 @@ returns-then-not-has_room c = let a = c.args in
     let i = f.new.input in
     let e = c.leave-then-not-has_room.ensures.outcome client xs hs i in
     record {
-        outcome = λ b. let l = lent b a.errors.now a.stanzas.now a.returned.now in
+      outcome = λ b. let l = lent b a.errors.now a.stanzas.now a.returned.now in
           e l out
           ∙ ap (λ i. untaken 15 (intake_of client a.session xs hs i) l out) (input ∙ same)
           ∙ no_room (intake_of client a.session xs hs o) l x out n (ap (λ i. is_held (taken client (intake_of client a.session xs hs i) l x) out) (sym (input ∙ same)) ∙ sym (c.has_room.ensures l (record { errors = refl; stanzas = refl; returned = refl }) (sym n)) ∙ not-true c.has_room.result c.if-not-has_room.true-raw);
-        input = untaken_input a.session xs hs i 15 _ out c.leave-then-not-has_room.result (e (lent none_lent [] [] []) out)
-            ∙ ap (stored_in (intake_of client c.leave-then-not-has_room.result.session xs hs i)) (input ∙ same);
-        name = c.leave-then-not-has_room.ensures.name;
+      input = untaken_input a.session xs hs i 15 _ out c.leave-then-not-has_room.result (e (lent none_lent [] [] []) out)
+          ∙ ap (stored_in (intake_of client c.leave-then-not-has_room.result.session xs hs i)) (input ∙ same);
+      name = c.leave-then-not-has_room.ensures.name;
     }
-
 
 pub receive_held-requires : goal.receive_held-requires
 receive_held-requires c = let a = c.args in
@@ -161,10 +153,9 @@ receive_held-requires c = let a = c.args in
     let i = f.new.input in
     let long : 16384 ≤ length o = omega (arith, c.read_one-arg-1.given) in
     record {
-        phase_value = (second, subst (λ i. 16384 ≤ length i) (sym (input ∙ same)) long, front);
-        out_value = λ b. let l = lent b a.errors.now a.stanzas.now a.returned.now in sym (c.has_room.ensures l (record { errors = refl; stanzas = refl; returned = refl }) (sym n)) ∙ not-false c.has_room.result c.if-not-has_room.false-raw;
+      phase_value = (second, subst (λ i. 16384 ≤ length i) (sym (input ∙ same)) long, front);
+      out_value = λ b. let l = lent b a.errors.now a.stanzas.now a.returned.now in sym (c.has_room.ensures l (record { errors = refl; stanzas = refl; returned = refl }) (sym n)) ∙ not-false c.has_room.result c.if-not-has_room.false-raw;
     }
-
 
 pub returns : goal.returns
 returns c = let a = c.args in
@@ -184,8 +175,8 @@ returns c = let a = c.args in
     let m = h.new in
     let answers : (b : BuffersOne) → Answers h.result m.slots hs o m.input (lent b m.errors m.stanzas m.returned) out m.out (taken client (intake_of client a.session xs hs o) (lent b a.errors.now a.stanzas.now a.returned.now) x) = λ b. subst (λ i. Answers h.result m.slots hs i m.input (lent b m.errors m.stanzas m.returned) out m.out (taken client (intake_of client a.session xs hs i) (lent b a.errors.now a.stanzas.now a.returned.now) x)) (input ∙ same) (h.ensures.outcome b) in
     record {
-        outcome = λ b. let l = lent b a.errors.now a.stanzas.now a.returned.now in
+      outcome = λ b. let l = lent b a.errors.now a.stanzas.now a.returned.now in
           with_room (intake_of client a.session xs hs o) l x out n (ap (λ i. is_held (taken client (intake_of client a.session xs hs i) l x) out) (sym (input ∙ same)) ∙ sym (c.has_room.ensures l (record { errors = refl; stanzas = refl; returned = refl }) (sym n)) ∙ not-false c.has_room.result c.if-not-has_room.false-raw) h.result m.slots hs o m.input (lent b m.errors m.stanzas m.returned) m.out (answers b);
-        input = (answers none_lent).says.input;
-        name = h.ensures.name;
+      input = (answers none_lent).says.input;
+      name = h.ensures.name;
     }

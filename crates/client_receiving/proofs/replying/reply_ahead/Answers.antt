@@ -15,9 +15,7 @@ use Rattle.client_receiving.specs.Texts.{lent}
 use Rattle.client_receiving.proofs.Laws.Texts.{none_lent}
 use Rattle.client_receiving.proofs.Laws.Receiving.{judged_short, judged_held, untaken_input}
 use Rattle.client_receiving.proofs.Laws.Replying.{begun_with, given_room, reply_takes, reply_taken}
-use borrow.Author.Rules.{rules}
 use Rattle.client_receiving.proofs.replying.reply_ahead.Goals as goal
-
 
 pub returns-then-not-reply_has_room : goal.returns-then-not-reply_has_room
 returns-then-not-reply_has_room c = let a = c.args in
@@ -27,15 +25,14 @@ returns-then-not-reply_has_room c = let a = c.args in
     let hs = a.header_slots.now in
     let f = c.leave.ensures.outcome client xs hs a.input.now in
     record {
-        outcome = (λ b. let l = lent b a.errors.now a.stanzas.now a.returned.now in
+      outcome = (λ b. let l = lent b a.errors.now a.stanzas.now a.returned.now in
           f l a.out.now
           ∙ judged_short (intake_of client a.session xs hs a.input.now) l a.out.now (answered_with (session_of a.session xs hs) l a.response a.body.now a.back.now)
           (given_room a.session c.moved-answered.result xs hs l a.response a.body.now a.back.now a.out.now y.result false c.moved-answered.ensures
           (y.ensures (stanza_text (response_line a.response) a.body.now) [] l (sym p.1) (record { errors = refl; stanzas = refl; returned = refl })) (not-true y.result c.if-not-reply_has_room.true-raw)));
-        input = untaken_input a.session xs hs a.input.now 15 _ a.out.now c.leave.result (f (lent none_lent [] [] []) a.out.now);
-        name = c.leave.ensures.name;
+      input = untaken_input a.session xs hs a.input.now 15 _ a.out.now c.leave.result (f (lent none_lent [] [] []) a.out.now);
+      name = c.leave.ensures.name;
     }
-
 
 pub take_text-requires : goal.take_text-requires
 take_text-requires c = let a = c.args in
@@ -50,7 +47,6 @@ take_text-requires c = let a = c.args in
     reply_takes a.session xs hs a.response a.body.now a.back.now a.out.now _ a.size p.0 p.1 c.begin-begun.result
     (c.begin-begun.ensures ∙ ap (begun_with a.size) c.moved-answered.ensures) c.write.ensures.buffer a.errors.now a.stanzas.now a.returned.now held a.input.now p.2
 
-
 pub returns : goal.returns
 returns c = let a = c.args in
     let p = c.requires in
@@ -64,11 +60,11 @@ returns c = let a = c.args in
     let begun = c.begin-begun.ensures ∙ ap (begun_with a.size) c.moved-answered.ensures in
     let f = c.take_text in
     record {
-        outcome = (λ b. let l = lent b a.errors.now a.stanzas.now a.returned.now in
+      outcome = (λ b. let l = lent b a.errors.now a.stanzas.now a.returned.now in
           judged_held (intake_of client a.session xs hs a.input.now) l a.out.now (answered_with (session_of a.session xs hs) l a.response a.body.now a.back.now) (held b)
           f.result f.new.slots hs a.input.now f.new.input _ f.new.out
           (reply_taken a.session xs hs a.response a.body.now a.back.now a.out.now _ a.size p.0 p.1 c.begin-begun.result begun c.write.ensures.buffer
           a.errors.now a.stanzas.now a.returned.now held b f.result f.new.slots a.input.now f.new.input _ _ _ f.new.out (f.ensures.outcome b)));
-        input = (f.ensures.outcome none_lent).says.input;
-        name = f.ensures.name ∙ ap (λ r. r.session.name) begun;
+      input = (f.ensures.outcome none_lent).says.input;
+      name = f.ensures.name ∙ ap (λ r. r.session.name) begun;
     }

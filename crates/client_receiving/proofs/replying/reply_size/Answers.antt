@@ -7,9 +7,7 @@ use Rattle.stanza.specs.Writing.{sized}
 use Rattle.responses.specs.Responses.{response_line}
 use Rattle.intake.specs.Turns.{due_said}
 use Rattle.client_receiving.specs.Replying.{due_sized}
-use borrow.Author.Rules.{rules}
 use Rattle.client_receiving.proofs.replying.reply_size.Goals as goal
-
 
 pub returns-then-not-fits_whole : goal.returns-then-not-fits_whole
 returns-then-not-fits_whole c = let a = c.args in
@@ -17,10 +15,8 @@ returns-then-not-fits_whole c = let a = c.args in
     (ap (λ d. due_sized d a.response a.body.now) (sym c.answer_due-due.ensures ∙ ap due_said c.in-Command.is)
     ∙ ap (λ f. pick f (sized (response_line a.response) a.body.now) (refused 12)) (sym c.fits_whole.ensures ∙ not-true c.fits_whole.result c.if-not-fits_whole.true-raw))
 
-
 pub returns-in-Refused : goal.returns-in-Refused
 returns-in-Refused c = let a = c.args in ap (λ d. due_sized d a.response a.body.now) (sym (ap due_said c.in-Refused.is) ∙ c.answer_due-due.ensures)
-
 
 pub returns-else-not-fits_whole : goal.returns-else-not-fits_whole
 returns-else-not-fits_whole c = let a = c.args in

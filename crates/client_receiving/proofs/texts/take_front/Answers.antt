@@ -13,9 +13,7 @@ use Rattle.chunks.specs.Uncut.{is_waiting}
 use Rattle.client_room.specs.Stanzas.{taking_said}
 use Rattle.client_receiving.specs.Texts.{lent}
 use Rattle.client_receiving.proofs.Laws.Front.{stopped_at, front_fault, front_refused, front_fits, front_settles, front_settled, front_takes, front_taken}
-use borrow.Author.Rules.{rules}
 use Rattle.client_receiving.proofs.texts.take_front.Goals as goal
-
 
 pub go_on-done-requires : goal.go_on-done-requires
 go_on-done-requires c = let a = c.args in
@@ -26,18 +24,14 @@ go_on-done-requires c = let a = c.args in
     let w = front_fits a.session a.slots.now a.header_slots.now a.errors.now a.stanzas.now a.returned.now a.front.now a.text.now a.out.now pre.phase_value.0 c.in-Stanza.s.line c.in-Stanza.s.body c.in-Stanza.s.taken h y.result y.new.slots y.new.errors y.new.stanzas y.new.returned y.new.out y.ensures.outcome pre.out_value _ _ _ (ap taking_said c.in-Command.is) in
     (omega (arith, ap (λ r. r.count) begun), omega (arith, w, ap (λ r. r.written) begun, c.well_formed))
 
-
 pub shape_of-errors-then-is_waiting : goal.shape_of-errors-then-is_waiting
 shape_of-errors-then-is_waiting c = c.receive_stanza-step.auto.errors
-
 
 pub shape_of-stanzas-then-is_waiting : goal.shape_of-stanzas-then-is_waiting
 shape_of-stanzas-then-is_waiting c = c.receive_stanza-step.auto.stanzas
 
-
 pub shape_of-returned-then-is_waiting : goal.shape_of-returned-then-is_waiting
 shape_of-returned-then-is_waiting c = c.receive_stanza-step.auto.returned
-
 
 pub returns-then-is_waiting : goal.returns-then-is_waiting
 returns-then-is_waiting c = let a = c.args in
@@ -53,13 +47,12 @@ returns-then-is_waiting c = let a = c.args in
     let v = ap (λ s. is_waiting client s.phase) session ∙ sym c.is_waiting.ensures ∙ c.if-is_waiting.true in
     let r = c.settle in
     record {
-        outcome = (λ b.
+      outcome = (λ b.
           let may = front_settles a.session a.slots.now a.header_slots.now a.errors.now a.stanzas.now a.returned.now a.front.now a.text.now a.out.now pre.phase_value.0 c.in-Stanza.s.line c.in-Stanza.s.body c.in-Stanza.s.taken h y.result y.new.slots y.new.errors y.new.stanzas y.new.returned y.new.out y.ensures.outcome pre.out_value _ _ _ (ap taking_said c.in-Command.is) g.result count last written session b a.input.now v pre.phase_value.1 pre.phase_value.2 in
           front_settled a.session a.slots.now a.header_slots.now a.errors.now a.stanzas.now a.returned.now a.front.now a.text.now a.out.now pre.phase_value.0 c.in-Stanza.s.line c.in-Stanza.s.body c.in-Stanza.s.taken h y.result y.new.slots y.new.errors y.new.stanzas y.new.returned y.new.out y.ensures.outcome pre.out_value _ _ _ (ap taking_said c.in-Command.is) g.result count last written session b r.result a.input.now r.new.input v
           (r.ensures.outcome client y.new.slots a.header_slots.now (take g.result.written y.new.out) (lent b y.new.errors y.new.stanzas y.new.returned) may) r.ensures.rest.0);
-        name = r.ensures.rest.1 ∙ ap (λ s. s.name) session ∙ ap (λ s. s.name) y.ensures.carried;
+      name = r.ensures.rest.1 ∙ ap (λ s. s.name) session ∙ ap (λ s. s.name) y.ensures.carried;
     }
-
 
 pub take_text-requires : goal.take_text-requires
 take_text-requires c = let a = c.args in
@@ -75,18 +68,16 @@ take_text-requires c = let a = c.args in
     let v = ap (λ s. is_waiting client s.phase) session ∙ sym c.is_waiting.ensures ∙ c.if-is_waiting.false in
     front_takes a.session a.slots.now a.header_slots.now a.errors.now a.stanzas.now a.returned.now a.front.now a.text.now a.out.now pre.phase_value.0 c.in-Stanza.s.line c.in-Stanza.s.body c.in-Stanza.s.taken h y.result y.new.slots y.new.errors y.new.stanzas y.new.returned y.new.out y.ensures.outcome pre.out_value _ _ _ (ap taking_said c.in-Command.is) g.result count last written session a.input.now v pre.phase_value.2
 
-
 pub returns-in-Refused : goal.returns-in-Refused
 returns-in-Refused c = let a = c.args in
     let s = a.session in
     record {
-        outcome = (λ b. front_fault a.session a.slots.now a.header_slots.now a.errors.now a.stanzas.now a.returned.now a.front.now a.text.now a.out.now c.requires.phase_value.0 b c.in-Refused.r c.moved.result c.stop.result a.input.now
+      outcome = (λ b. front_fault a.session a.slots.now a.header_slots.now a.errors.now a.stanzas.now a.returned.now a.front.now a.text.now a.out.now c.requires.phase_value.0 b c.in-Refused.r c.moved.result c.stop.result a.input.now
           (sym c.read-first.ensures ∙ ap read_said c.in-Refused.is)
           (rw (c.moved.ensures, c.phase_refused.ensures) (ap (λ r. r.session) (refusal_is s.machine (name_of s.name) s.screen s.phase (tables_in s.tables a.slots.now a.header_slots.now) (two.buffers_of a.errors.now a.stanzas.now a.returned.now) ample (number_of c.in-Refused.r))))
           (c.stop.ensures ∙ ap (stopped_at c.in-Refused.r c.moved.result) c.begin-begun.ensures));
-        name = ap (λ r. r.session.name) c.stop.ensures ∙ ap (λ s. s.name) c.moved.ensures;
+      name = ap (λ r. r.session.name) c.stop.ensures ∙ ap (λ s. s.name) c.moved.ensures;
     }
-
 
 pub returns-in-Refused-answer : goal.returns-in-Refused-answer
 returns-in-Refused-answer c = let a = c.args in
@@ -95,26 +86,21 @@ returns-in-Refused-answer c = let a = c.args in
     let begun = c.begin-begun.ensures in
     let y = c.receive_stanza-step in
     record {
-        outcome = (λ b. front_refused a.session a.slots.now a.header_slots.now a.errors.now a.stanzas.now a.returned.now a.front.now a.text.now a.out.now pre.phase_value.0 c.in-Stanza.s.line c.in-Stanza.s.body c.in-Stanza.s.taken h y.result y.new.slots y.new.errors y.new.stanzas y.new.returned y.new.out y.ensures.outcome pre.out_value b c.in-Refused-answer.r c.stop-in-Refused-answer.result a.input.now (ap taking_said c.in-Refused-answer.is) (c.stop-in-Refused-answer.ensures ∙ ap (stopped_at c.in-Refused-answer.r y.result.session) begun));
-        name = ap (λ r. r.session.name) c.stop-in-Refused-answer.ensures ∙ ap (λ s. s.name) y.ensures.carried;
+      outcome = (λ b. front_refused a.session a.slots.now a.header_slots.now a.errors.now a.stanzas.now a.returned.now a.front.now a.text.now a.out.now pre.phase_value.0 c.in-Stanza.s.line c.in-Stanza.s.body c.in-Stanza.s.taken h y.result y.new.slots y.new.errors y.new.stanzas y.new.returned y.new.out y.ensures.outcome pre.out_value b c.in-Refused-answer.r c.stop-in-Refused-answer.result a.input.now (ap taking_said c.in-Refused-answer.is) (c.stop-in-Refused-answer.ensures ∙ ap (stopped_at c.in-Refused-answer.r y.result.session) begun));
+      name = ap (λ r. r.session.name) c.stop-in-Refused-answer.ensures ∙ ap (λ s. s.name) y.ensures.carried;
     }
-
 
 pub shape_of-errors-else-is_waiting : goal.shape_of-errors-else-is_waiting
 shape_of-errors-else-is_waiting c = c.take_text.auto.errors ∙ c.receive_stanza-step.auto.errors
 
-
 pub shape_of-stanzas-else-is_waiting : goal.shape_of-stanzas-else-is_waiting
 shape_of-stanzas-else-is_waiting c = c.take_text.auto.stanzas ∙ c.receive_stanza-step.auto.stanzas
-
 
 pub shape_of-returned-else-is_waiting : goal.shape_of-returned-else-is_waiting
 shape_of-returned-else-is_waiting c = c.take_text.auto.returned ∙ c.receive_stanza-step.auto.returned
 
-
 pub shape_of-out-else-is_waiting : goal.shape_of-out-else-is_waiting
 shape_of-out-else-is_waiting c = c.take_text.auto.out ∙ c.receive_stanza-step.auto.out
-
 
 pub returns-else-is_waiting : goal.returns-else-is_waiting
 returns-else-is_waiting c = let a = c.args in
@@ -130,6 +116,6 @@ returns-else-is_waiting c = let a = c.args in
     let v = ap (λ s. is_waiting client s.phase) session ∙ sym c.is_waiting.ensures ∙ c.if-is_waiting.false in
     let r = c.take_text in
     record {
-        outcome = (λ b. front_taken a.session a.slots.now a.header_slots.now a.errors.now a.stanzas.now a.returned.now a.front.now a.text.now a.out.now pre.phase_value.0 c.in-Stanza.s.line c.in-Stanza.s.body c.in-Stanza.s.taken h y.result y.new.slots y.new.errors y.new.stanzas y.new.returned y.new.out y.ensures.outcome pre.out_value _ _ _ (ap taking_said c.in-Command.is) g.result count last written session b r.result r.new.slots a.input.now r.new.input r.new.errors r.new.stanzas r.new.returned r.new.out v (r.ensures.outcome b));
-        name = r.ensures.name ∙ ap (λ s. s.name) session ∙ ap (λ s. s.name) y.ensures.carried;
+      outcome = (λ b. front_taken a.session a.slots.now a.header_slots.now a.errors.now a.stanzas.now a.returned.now a.front.now a.text.now a.out.now pre.phase_value.0 c.in-Stanza.s.line c.in-Stanza.s.body c.in-Stanza.s.taken h y.result y.new.slots y.new.errors y.new.stanzas y.new.returned y.new.out y.ensures.outcome pre.out_value _ _ _ (ap taking_said c.in-Command.is) g.result count last written session b r.result r.new.slots a.input.now r.new.input r.new.errors r.new.stanzas r.new.returned r.new.out v (r.ensures.outcome b));
+      name = r.ensures.name ∙ ap (λ s. s.name) session ∙ ap (λ s. s.name) y.ensures.carried;
     }

@@ -13,22 +13,18 @@ use Rattle.client_room.specs.Stanzas.{taking_said}
 use Rattle.client_room.proofs.Laws.Room.{next_within}
 use Rattle.client_receiving.specs.Texts.{lent, behind_answer, Answers}
 use Prim.Native.Nat.{◌-◌}
-use mathlib.Core.Path.{◌≡◌, refl, sym, ap, ◌∙◌}
+use mathlib.Core.Path.{refl, sym, ap, ◌∙◌}
 use lib.ListN.{length, drop}
 use native.Mathlib.Omega.{arith}
-use borrow.Author.Rules.{rules}
-use Rattle.client_receiving.proofs.Laws.Texts.{Going, going_first, going_settles, going_settled, going_fits, going_few, going_size, going_on, going_refused}
+use Rattle.client_receiving.proofs.Laws.Texts.{going_first, going_settles, going_settled, going_fits, going_few, going_size, going_on, going_refused}
 use Rattle.client_receiving.proofs.texts.take_text.Goals as goal
-
 
 pub loop-turn-init : goal.loop-turn-init
 loop-turn-init c = let a = c.args in
     (refl, going_first a.so_far a.slots.now a.header_slots.now a.errors.now a.stanzas.now a.returned.now a.text.now a.out.now c.requires.few c.requires.within)
 
-
 pub shape_of-input-in-Refused : goal.shape_of-input-in-Refused
 shape_of-input-in-Refused c = c.settle.auto.input ∙ ap length c.loop-turn.invariant.0
-
 
 pub returns-in-Refused : goal.returns-in-Refused
 returns-in-Refused c = let a = c.args in
@@ -38,7 +34,7 @@ returns-in-Refused c = let a = c.args in
     let h = sym (ap read_said c.in-Refused.is) ∙ c.next_stanza-first.ensures in
     let y = c.settle in
     record {
-        outcome = (λ b.
+      outcome = (λ b.
           let may = going_settles a.so_far a.slots.now a.header_slots.now a.errors.now a.stanzas.now a.returned.now a.text.now a.out.now q.done q.slots q.errors q.stanzas q.returned q.out q.begun q.at q.invariant.1 held b (turn_said c.turn_client-turn.result) q.input (number_of c.in-Refused.field-0) c.turn_client-turn.ensures h (omega (arith, c.requires.long, ap length q.invariant.0)) in
           let says = y.ensures.outcome client q.slots a.header_slots.now (take q.done.written q.out) (lent b q.errors q.stanzas q.returned)
           (subst (λ v. MaySettle client q.done.session.phase (turn_said c.turn_client-turn.result) v (take (length a.text.now - q.at) (drop q.at a.text.now)) q.input) (sym aw) may) in
@@ -47,25 +43,20 @@ returns-in-Refused c = let a = c.args in
           (going_settled a.so_far a.slots.now a.header_slots.now a.errors.now a.stanzas.now a.returned.now a.text.now a.out.now q.done q.slots q.errors q.stanzas q.returned q.out q.begun q.at q.invariant.1 held b y.result q.input y.new.input
           (subst (λ v. Says client y.result q.slots a.header_slots.now q.input y.new.input (take q.done.written q.out) (lent b q.errors q.stanzas q.returned)
           (behind q.done.count (last_said q.done.last) (take q.done.written q.out) (taken_text client (session_of q.done.session q.slots a.header_slots.now) (lent b q.errors q.stanzas q.returned) v (take (length a.text.now - q.at) (drop q.at a.text.now))))) aw says) y.ensures.rest.0));
-        name = y.ensures.rest.1 ∙ q.invariant.1.name;
+      name = y.ensures.rest.1 ∙ q.invariant.1.name;
     }
-
 
 pub shape_of-input-in-Refused-answer : goal.shape_of-input-in-Refused-answer
 shape_of-input-in-Refused-answer c = ap length c.loop-turn.invariant.0
 
-
 pub shape_of-errors-in-Refused-answer : goal.shape_of-errors-in-Refused-answer
 shape_of-errors-in-Refused-answer c = c.receive_stanza-step.auto.errors ∙ c.loop-turn.invariant.1.errors
-
 
 pub shape_of-stanzas-in-Refused-answer : goal.shape_of-stanzas-in-Refused-answer
 shape_of-stanzas-in-Refused-answer c = c.receive_stanza-step.auto.stanzas ∙ c.loop-turn.invariant.1.stanzas
 
-
 pub shape_of-returned-in-Refused-answer : goal.shape_of-returned-in-Refused-answer
 shape_of-returned-in-Refused-answer c = c.receive_stanza-step.auto.returned ∙ c.loop-turn.invariant.1.returned
-
 
 pub shape_of-out-in-Refused-answer : goal.shape_of-out-in-Refused-answer
 shape_of-out-in-Refused-answer c = let a = c.args in
@@ -76,7 +67,6 @@ shape_of-out-in-Refused-answer c = let a = c.args in
     let y = c.receive_stanza-step in
     going_size a.so_far a.slots.now a.header_slots.now a.errors.now a.stanzas.now a.returned.now a.text.now a.out.now q.done q.slots q.errors q.stanzas q.returned q.out q.begun q.at q.invariant.1 held x.line x.body x.taken h y.result y.new.slots y.new.errors y.new.stanzas y.new.returned y.new.out y.ensures.outcome y.auto.out
 
-
 pub returns-in-Refused-answer : goal.returns-in-Refused-answer
 returns-in-Refused-answer c = let a = c.args in
     let q = c.loop-turn in
@@ -85,13 +75,12 @@ returns-in-Refused-answer c = let a = c.args in
     let h = sym (ap read_said c.in-Stanza.is) ∙ c.next_stanza-first.ensures in
     let y = c.receive_stanza-step in
     record {
-        outcome = (λ b.
+      outcome = (λ b.
           subst (λ i. Answers c.stop.result y.new.slots a.header_slots.now i q.input (lent b y.new.errors y.new.stanzas y.new.returned) a.out.now (take q.done.written q.out ++ (y.new.out ++ drop (length q.out - q.done.written) (drop q.done.written q.out)))
           (behind_answer a.so_far a.slots.now a.header_slots.now (lent b a.errors.now a.stanzas.now a.returned.now) [] a.text.now a.out.now)) q.invariant.0
           (going_refused a.so_far a.slots.now a.header_slots.now a.errors.now a.stanzas.now a.returned.now a.text.now a.out.now q.done q.slots q.errors q.stanzas q.returned q.out q.begun q.at q.invariant.1 held x.line x.body x.taken h y.result y.new.slots y.new.errors y.new.stanzas y.new.returned y.new.out y.ensures.outcome b c.in-Refused-answer.r c.stop.result q.input (ap taking_said c.in-Refused-answer.is) c.stop.ensures));
-        name = ap (λ r. r.session.name) c.stop.ensures ∙ ap (λ s. s.name) y.ensures.carried ∙ q.invariant.1.name;
+      name = ap (λ r. r.session.name) c.stop.ensures ∙ ap (λ s. s.name) y.ensures.carried ∙ q.invariant.1.name;
     }
-
 
 pub go_on-done-requires : goal.go_on-done-requires
 go_on-done-requires c = let a = c.args in
@@ -104,7 +93,6 @@ go_on-done-requires c = let a = c.args in
     let w = going_fits a.so_far a.slots.now a.header_slots.now a.errors.now a.stanzas.now a.returned.now a.text.now a.out.now q.done q.slots q.errors q.stanzas q.returned q.out q.begun q.at q.invariant.1 held x.line x.body x.taken h y.result y.new.slots y.new.errors y.new.stanzas y.new.returned y.new.out y.ensures.outcome _ _ _ (ap taking_said c.in-Command.is) in
     (omega (arith, f, c.well_formed), omega (arith, w, q.invariant.1.size, c.well_formed))
 
-
 pub overflow_add-at : goal.overflow_add-at
 overflow_add-at c = let a = c.args in
     let q = c.loop-turn in
@@ -115,7 +103,6 @@ overflow_add-at c = let a = c.args in
     let v = next_within (turn_at client q.done.session.phase) a.text.now q.at x.line x.body x.taken h q.invariant.1.within in
     omega (arith, v.2, c.well_formed)
 
-
 pub loop-turn-smaller : goal.loop-turn-smaller
 loop-turn-smaller c = let a = c.args in
     let q = c.loop-turn in
@@ -125,7 +112,6 @@ loop-turn-smaller c = let a = c.args in
     let y = c.receive_stanza-step in
     let v = next_within (turn_at client q.done.session.phase) a.text.now q.at x.line x.body x.taken h q.invariant.1.within in
     omega (arith, v.0, v.2)
-
 
 pub loop-turn-preserved : goal.loop-turn-preserved
 loop-turn-preserved c = let a = c.args in

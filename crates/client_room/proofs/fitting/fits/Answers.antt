@@ -3,24 +3,15 @@ use Rattle.refusal.specs.Number.{number_of}
 use Rattle.stanza.specs.Reading.{read_said}
 use Rattle.client_room.specs.Stanzas.{taking_said}
 use Rattle.client_room.proofs.Laws.Room.{turn_rest, turn_refused, turn_short, turn_long, turn_on, next_within, on_turn}
-use Prim.Native.Nat.{ℕ, ◌≤◌, ◌-◌}
 use mathlib.Core.Path.{refl, sym, ap, ◌∙◌}
-use mathlib.Core.List.{List}
-use lib.ListN.{length, drop}
 use native.Mathlib.Omega.{arith}
 use borrow.Author.Rules.{rules}
 use Rattle.session.specs.Session.{session_of}
-use Rattle.conversation.specs.Kinds.{Buffers}
-use Rattle.chunks.specs.Taking.{client, turn_at, taken_text}
-use Rattle.phase_two.specs.Entering.{AreLong}
-use Rattle.client_room.specs.Room.{has_room}
-use Rattle.client_room.proofs.Laws.Room.{Onward}
+use Rattle.chunks.specs.Taking.{client, turn_at}
 use Rattle.client_room.proofs.fitting.fits.Goals as goal
-
 
 pub loop-s-init : goal.loop-s-init
 loop-s-init c = (omega arith, λ aw b l. record { awaited = aw; buffers = b; long = l; same = refl })
-
 
 pub returns-in-Refused : goal.returns-in-Refused
 returns-in-Refused c = λ aw b long.
@@ -30,7 +21,6 @@ returns-in-Refused c = λ aw b long.
     c.is_keepable.ensures
     ∙ turn_rest (session_of q.so_far q.slots a.header_slots.now) z.buffers z.awaited a.text.now q.at q.left (number_of c.in-Refused.field-0)
     (sym (ap read_said c.in-Refused.is) ∙ c.next_stanza-first.ensures) ∙ sym z.same
-
 
 pub returns-in-Refused-answer : goal.returns-in-Refused-answer
 returns-in-Refused-answer c = λ aw b long.
@@ -44,7 +34,6 @@ returns-in-Refused-answer c = λ aw b long.
     let tried = c.try_stanza-step.ensures.outcome z.buffers.second z.long in
     turn_refused (session_of q.so_far q.slots hs) z.buffers z.awaited a.text.now q.at x.line x.body x.taken (taking_said y.answer) (session_of y.session c.try_stanza-step.new.slots hs) q.left h tried (number_of c.in-Refused-answer.field-0) (ap taking_said c.in-Refused-answer.is) ∙ sym z.same
 
-
 pub returns-then-left-size : goal.returns-then-left-size
 returns-then-left-size c = λ aw b long.
     let a = c.args in
@@ -57,7 +46,6 @@ returns-then-left-size c = λ aw b long.
     let tried = c.try_stanza-step.ensures.outcome z.buffers.second z.long in
     turn_short (session_of q.so_far q.slots hs) z.buffers z.awaited a.text.now q.at x.line x.body x.taken (taking_said y.answer) (session_of y.session c.try_stanza-step.new.slots hs) q.left h tried _ _ _ (ap taking_said c.in-Command.is) c.if-left-size.true ∙ sym z.same
 
-
 pub overflow_add-at : goal.overflow_add-at
 overflow_add-at c = let a = c.args in
     let q = c.loop-s in
@@ -66,7 +54,6 @@ overflow_add-at c = let a = c.args in
     let w = next_within (turn_at client q.so_far.phase) a.text.now q.at x.line x.body x.taken h q.invariant.0 in
     omega (arith, c.well_formed)
 
-
 pub loop-s-smaller : goal.loop-s-smaller
 loop-s-smaller c = let a = c.args in
     let q = c.loop-s in
@@ -74,7 +61,6 @@ loop-s-smaller c = let a = c.args in
     let h = sym (ap read_said c.in-Stanza.is) ∙ c.next_stanza-first.ensures in
     let w = next_within (turn_at client q.so_far.phase) a.text.now q.at x.line x.body x.taken h q.invariant.0 in
     omega arith
-
 
 pub loop-s-preserved : goal.loop-s-preserved
 loop-s-preserved c = let a = c.args in

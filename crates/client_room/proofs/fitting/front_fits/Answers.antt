@@ -9,7 +9,6 @@ use Rattle.client_room.proofs.Laws.Room.{ahead_fault_room, ahead_refused_room, a
 use borrow.Author.Rules.{rules}
 use Rattle.client_room.proofs.fitting.front_fits.Goals as goal
 
-
 pub returns-then-room-size : goal.returns-then-room-size
 returns-then-room-size c = λ b long two.
     let a = c.args in
@@ -23,13 +22,11 @@ returns-then-room-size c = λ b long two.
     let after = session_of y.session c.try_stanza-step.new.slots hs in
     ahead_short_room s b a.front.now a.text.now x.line x.body x.taken (taking_said y.answer) after a.room turn h tried _ _ _ (ap taking_said c.in-Command.is) c.if-room-size.true
 
-
 pub returns-in-Refused : goal.returns-in-Refused
 returns-in-Refused c = λ b long two.
     let a = c.args in
     ahead_fault_room (session_of a.session a.slots.now a.header_slots.now) b a.front.now a.text.now _ a.room (ap (turn_at client) (turn_second a.session.phase two))
     (sym (ap read_said c.in-Refused.is) ∙ c.read-first.ensures)
-
 
 pub returns-in-Refused-answer : goal.returns-in-Refused-answer
 returns-in-Refused-answer c = λ b long two.
@@ -43,7 +40,6 @@ returns-in-Refused-answer c = λ b long two.
     let turn = ap (turn_at client) (turn_second a.session.phase two) in
     let after = session_of y.session c.try_stanza-step.new.slots hs in
     ahead_refused_room s b a.front.now a.text.now x.line x.body x.taken (taking_said y.answer) after a.room turn h tried _ (ap taking_said c.in-Refused-answer.is)
-
 
 pub returns-else-room-size : goal.returns-else-room-size
 returns-else-room-size c = λ b long two.

@@ -8,13 +8,10 @@ use lib.ListN.{length, take, length-append}
 use lib.Seq.{length-take-le}
 use native.Mathlib.Omega.{arith}
 use Rattle.client_room.proofs.Laws.Stanzas.{joined_front}
-use borrow.Author.Rules.{rules}
 use Rattle.client_room.proofs.fitting.joined_fits.Goals as goal
-
 
 pub slice_bounds-put_together-end : goal.slice_bounds-put_together-end
 slice_bounds-put_together-end c = let a = c.args in sym (length-take-le a.k a.chunk.now c.requires.1)
-
 
 pub slice_bounds-front_fits-end : goal.slice_bounds-front_fits-end
 slice_bounds-front_fits-end c = let a = c.args in
@@ -23,7 +20,6 @@ slice_bounds-front_fits-end c = let a = c.args in
     let k = length-take-le a.k a.chunk.now p.1 in
     let e = joined_front a.input.now r _ _ a.kept a.k p.0 k (c.put_together.ensures p.0 (omega (arith, p.2, length-take-le a.k a.chunk.now p.1))) in
     sym (ap length e ∙ length-append (take a.kept a.input.now) r ∙ ap₂ ◌+◌ (length-take-le a.kept a.input.now p.0) k)
-
 
 pub returns : goal.returns
 returns c = λ b long two.

@@ -2,9 +2,7 @@
 use native.Mathlib.Omega.{arith}
 use Rattle.session.specs.Session.{session_of}
 use Rattle.client_room.proofs.Laws.Room.{text_ample}
-use borrow.Author.Rules.{rules}
 use Rattle.client_room.proofs.fitting.text_has_room.Goals as goal
-
 
 pub returns-then-is_ample : goal.returns-then-is_ample
 returns-then-is_ample c = λ aw b long.

@@ -8,15 +8,13 @@ use Rattle.session.specs.Opening.{held}
 use Rattle.session.specs.Session.{Session, Opening, Carried, carried_first}
 use Rattle.judging.specs.Judging.{going}
 use Rattle.judging.proofs.Laws.Steps.{opened_start}
-use borrow.Author.Rules.{rules}
 use Rattle.judging.proofs.Judging.open.Goals as goal
-
 
 pub returns : goal.returns
 returns c = let e = c.open_plugin-opening.ensures in
     let p = ap (λ (o : Opening). o.session) e.opening ∙ opened_start in
     let q = e.carried ∙ ap (λ (s : Session). carried_first (held s.name)) opened_start in
     record {
-        start = (λ input. ap₂ (λ (s : Session) (k : Carried). going (record { session = s; reading = place_said k.reading; kept = take (min k.kept 8191) input; awaited = [] })) p q);
-        carried = q;
+      start = (λ input. ap₂ (λ (s : Session) (k : Carried). going (record { session = s; reading = place_said k.reading; kept = take (min k.kept 8191) input; awaited = [] })) p q);
+      carried = q;
     }

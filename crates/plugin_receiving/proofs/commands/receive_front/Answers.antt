@@ -24,35 +24,31 @@ use Rattle.plugin_receiving.proofs.Laws.Commands.{chunk_begun, fronted}
 use borrow.Author.Rules.{rules}
 use Rattle.plugin_receiving.proofs.commands.receive_front.Goals as goal
 
-
 pub returns-then-k-eq0 : goal.returns-then-k-eq0
 returns-then-k-eq0 c = let a = c.args in
     let p = c.requires in
     let z : a.k ≡ 0 = c.if-k-eq0.true in
     let e = c.begin.ensures in
     record {
-        outcome = λ d.
+      outcome = λ d.
           let b = buffers_of (one.buffers_of a.recipients.now a.identities.now a.keys.now a.headers.now) d in
           ap₂ (λ r n. comes_to r a.slots.now a.header_slots.now b (drop n a.chunk.now)) e z
           ∙ chunk_begun a.session a.slots.now a.header_slots.now a.input.now (ap (turn_at plugin) p.phase_value) a.chunk.now b (p.chunk_value ∙ ap whole z);
-        rest = (λ v. ap (λ (r : Received). is_waiting client r.session.phase) e ∙ ap (is_waiting client) p.phase_value, omega (arith, ap (λ (r : Received). r.count) e), ap (λ (r : Received). r.written) e, ap (λ (r : Received). r.session.name) e);
+      rest = (λ v. ap (λ (r : Received). is_waiting client r.session.phase) e ∙ ap (is_waiting client) p.phase_value, omega (arith, ap (λ (r : Received). r.count) e), ap (λ (r : Received). r.written) e, ap (λ (r : Received). r.session.name) e);
     }
-
 
 pub put_together-n-requires : goal.put_together-n-requires
 put_together-n-requires c = let a = c.args in
     let long : 8192 ≤ length a.input.now = search rules in
     let w = front_within a.session.reading (min a.session.kept 8191) a.chunk.now a.k c.requires.chunk_value (omega arith) in
     record {
-        kept_in_bounds = omega (arith, c.kept_of-kept.ensures);
-        k_in_bounds = w.0;
-        k_in_bounds_2 = omega (arith, c.kept_of-kept.ensures, w.1);
+      kept_in_bounds = omega (arith, c.kept_of-kept.ensures);
+      k_in_bounds = w.0;
+      k_in_bounds_2 = omega (arith, c.kept_of-kept.ensures, w.1);
     }
-
 
 pub answer_behind-requires : goal.answer_behind-requires
 answer_behind-requires c = rw c.begin-in-Stanza.ensures (omega arith)
-
 
 pub returns-in-Refused : goal.returns-in-Refused
 returns-in-Refused c = let a = c.args in
@@ -66,10 +62,9 @@ returns-in-Refused c = let a = c.args in
     (rw (c.moved.ensures, c.phase_refused.ensures) (refusal_is a.session.machine (name_of a.session.name) a.session.screen a.session.phase (tables_in a.session.tables a.slots.now a.header_slots.now) b (number_of q) ∙ ap (λ r. received_as r s text b) (sym (ap read_said c.in-Refused.is) ∙ c.read-first.ensures)))
     refl in
     record {
-        outcome = f.comes;
-        rest = (f.none_due, f.count, f.written, ap (λ s. s.name) c.moved.ensures);
+      outcome = f.comes;
+      rest = (f.none_due, f.count, f.written, ap (λ s. s.name) c.moved.ensures);
     }
-
 
 pub returns-in-Stanza : goal.returns-in-Stanza
 returns-in-Stanza c = let a = c.args in
@@ -84,6 +79,6 @@ returns-in-Stanza c = let a = c.args in
     let f = fronted a.session a.slots.now a.header_slots.now n.new.slots n.new.header_slots b (one.buffers_of n.new.recipients n.new.identities n.new.keys n.new.headers) a.input.now a.chunk.now a.k c.answer_behind.result n.result.answer n.result.session long c.requires.phase_value c.requires.chunk_value (λ z. c.if-k-eq0.false z) text at
     (n.ensures.outcome ∙ ap (λ r. received_as r s text b) reading) (c.answer_behind.ensures ∙ ap (λ z. answer_behind z n.result.answer n.result.session) c.begin-in-Stanza.ensures) in
     record {
-        outcome = f.comes;
-        rest = (f.none_due, f.count, f.written, ap (λ s. s.name) f.session ∙ ap (λ (x : Carried). x.name) n.ensures.carried);
+      outcome = f.comes;
+      rest = (f.none_due, f.count, f.written, ap (λ s. s.name) f.session ∙ ap (λ (x : Carried). x.name) n.ensures.carried);
     }

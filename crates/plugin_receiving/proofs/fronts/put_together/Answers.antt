@@ -8,9 +8,7 @@ use native.Mathlib.Omega.{arith}
 use Rattle.refusal.specs.Output.{filled}
 use Rattle.refusal.proofs.Laws.Lists.{part_rest, put_rest}
 use Rattle.intake.proofs.Laws.Keeping.{filled_whole, both}
-use borrow.Author.Rules.{rules}
 use Rattle.plugin_receiving.proofs.fronts.put_together.Goals as goal
-
 
 together : (p q o x : List ℕ) (n m : ℕ) → x ≡ filled p o → length p ≡ n → length q ≡ m → n + m ≤ length o →
     take (n + m) (take n x ++ filled q (drop n x)) ≡ p ++ q
@@ -20,7 +18,6 @@ together p q o x n m e lp lq l =
     ∙ ap (λ j. take (n + m) (take j (filled p o) ++ filled q (drop j (filled p o)))) (sym lp)
     ∙ ap (take (n + m)) (both p q o (omega arith) ∙ filled_whole (p ++ q) o (omega arith))
     ∙ take_at (p ++ q) (drop (length (p ++ q)) o) (n + m) z
-
 
 pub returns : goal.returns
 returns c = let a = c.args in

@@ -23,10 +23,8 @@ use Rattle.intake.proofs.Laws.Keeping.{stored_own}
 use borrow.Author.Rules.{rules}
 use Rattle.plugin_receiving.proofs.phases.receive.Goals as goal
 
-
 none : two.BuffersTwo
 none = two.buffers_of [] [] []
-
 
 pub returns-in-GoesOn : goal.returns-in-GoesOn
 returns-in-GoesOn c = let a = c.args in
@@ -39,11 +37,10 @@ returns-in-GoesOn c = let a = c.args in
     let s = subst (OneByteSays (turn_said u.result) a.session.reading k x o g.new.input) c.in-GoesOn.is g.ensures in
     let answered : (d : two.BuffersTwo) → Answered plugin a.session x c.keep_on.result a.slots.now a.header_slots.now o g.new.input (buffers_of (one.buffers_of a.recipients.now a.identities.now a.keys.now a.headers.now) d) a.out.now = λ d. subst (λ i. Answered plugin a.session x c.keep_on.result a.slots.now a.header_slots.now o i (buffers_of (one.buffers_of a.recipients.now a.identities.now a.keys.now a.headers.now) d) a.out.now) (sym s.2) (c.keep_on.ensures.outcome plugin a.slots.now a.header_slots.now o (buffers_of (one.buffers_of a.recipients.now a.identities.now a.keys.now a.headers.now) d) a.out.now (sym u.ensures ∙ s.0) long s.1) in
     record {
-        outcome = λ d. (answered d).outcome;
-        stored = (answered none).input;
-        name = c.keep_on.ensures.name;
+      outcome = λ d. (answered d).outcome;
+      stored = (answered none).input;
+      name = c.keep_on.ensures.name;
     }
-
 
 pub returns-in-Unfinished : goal.returns-in-Unfinished
 returns-in-Unfinished c = let a = c.args in
@@ -61,11 +58,10 @@ returns-in-Unfinished c = let a = c.args in
     let after = input ∙ ap (input_behind (unfinished (place_said c.in-Unfinished.place)) k x) same in
     let answered : (d : two.BuffersTwo) → Answered plugin a.session x c.keep_on-in-Unfinished.result a.slots.now a.header_slots.now o f.new.input (buffers_of (one.buffers_of a.recipients.now a.identities.now a.keys.now a.headers.now) d) a.out.now = λ d. subst (λ i. Answered plugin a.session x c.keep_on-in-Unfinished.result a.slots.now a.header_slots.now o i (buffers_of (one.buffers_of a.recipients.now a.identities.now a.keys.now a.headers.now) d) a.out.now) (sym after) (c.keep_on-in-Unfinished.ensures.outcome plugin a.slots.now a.header_slots.now o (buffers_of (one.buffers_of a.recipients.now a.identities.now a.keys.now a.headers.now) d) a.out.now (sym u.ensures ∙ r.0) long r.1) in
     record {
-        outcome = λ d. (answered d).outcome;
-        stored = (answered none).input;
-        name = c.keep_on-in-Unfinished.ensures.name;
+      outcome = λ d. (answered d).outcome;
+      stored = (answered none).input;
+      name = c.keep_on-in-Unfinished.ensures.name;
     }
-
 
 pub returns-in-Refused : goal.returns-in-Refused
 returns-in-Refused c = let a = c.args in
@@ -83,11 +79,10 @@ returns-in-Refused c = let a = c.args in
     let after = input ∙ same in
     let answered : (d : two.BuffersTwo) → Answered plugin a.session x c.close.result a.slots.now a.header_slots.now o f.new.input (buffers_of (one.buffers_of a.recipients.now a.identities.now a.keys.now a.headers.now) d) a.out.now = λ d. subst (λ i. Answered plugin a.session x c.close.result a.slots.now a.header_slots.now o i (buffers_of (one.buffers_of a.recipients.now a.identities.now a.keys.now a.headers.now) d) a.out.now) (sym after) (c.close.ensures.outcome plugin a.slots.now a.header_slots.now o x (buffers_of (one.buffers_of a.recipients.now a.identities.now a.keys.now a.headers.now) d) a.out.now (sym u.ensures ∙ r.0) long r.1) in
     record {
-        outcome = λ d. (answered d).outcome;
-        stored = (answered none).input;
-        name = c.close.ensures.name;
+      outcome = λ d. (answered d).outcome;
+      stored = (answered none).input;
+      name = c.close.ensures.name;
     }
-
 
 pub receive_commands-requires : goal.receive_commands-requires
 receive_commands-requires c = let a = c.args in
@@ -98,10 +93,9 @@ receive_commands-requires c = let a = c.args in
     let front = sym f.ensures.front ∙ ap continued_said c.in-Whole.is in
     let one = c.in-One.is in
     record {
-        phase_value = one;
-        chunk_value = ap (λ t. front_in t a.session.reading k x) (sym (u.ensures ∙ ap (turn_at plugin) one)) ∙ front;
+      phase_value = one;
+      chunk_value = ap (λ t. front_in t a.session.reading k x) (sym (u.ensures ∙ ap (turn_at plugin) one)) ∙ front;
     }
-
 
 pub receive_due-requires : goal.receive_due-requires
 receive_due-requires c = let a = c.args in
@@ -112,11 +106,10 @@ receive_due-requires c = let a = c.args in
     let front = sym f.ensures.front ∙ ap continued_said c.in-Whole.is in
     let due = c.in-Awaiting.is in
     record {
-        phase_value = due;
-        in_bounds = search rules;
-        chunk_value = ap (λ t. front_in t a.session.reading k x) (sym (u.ensures ∙ ap (turn_at plugin) due)) ∙ front;
+      phase_value = due;
+      in_bounds = search rules;
+      chunk_value = ap (λ t. front_in t a.session.reading k x) (sym (u.ensures ∙ ap (turn_at plugin) due)) ∙ front;
     }
-
 
 pub returns-in-One : goal.returns-in-One
 returns-in-One c = let a = c.args in
@@ -133,11 +126,10 @@ returns-in-One c = let a = c.args in
     let m = c.receive_commands.new in
     let says : (d : two.BuffersTwo) → Says plugin r m.slots m.header_slots o m.input [] (buffers_of (one.buffers_of m.recipients m.identities m.keys m.headers) d) (taken plugin (intake_of plugin a.session a.slots.now a.header_slots.now o) (buffers_of (one.buffers_of a.recipients.now a.identities.now a.keys.now a.headers.now) d) x) = λ d. subst (λ i. Says plugin r m.slots m.header_slots i m.input [] (buffers_of (one.buffers_of m.recipients m.identities m.keys m.headers) d) (taken plugin (intake_of plugin a.session a.slots.now a.header_slots.now i) (buffers_of (one.buffers_of a.recipients.now a.identities.now a.keys.now a.headers.now) d) x)) (input ∙ same) (e.outcome d) in
     record {
-        outcome = λ d. silent_answer plugin r _ _ _ _ (buffers_of (one.buffers_of a.recipients.now a.identities.now a.keys.now a.headers.now) d) _ (intake_of plugin a.session a.slots.now a.header_slots.now o) x a.out.now (ap (turn_of plugin) c.in-One.is) e.rest.0 (says d);
-        stored = (says none).input;
-        name = e.rest.1;
+      outcome = λ d. silent_answer plugin r _ _ _ _ (buffers_of (one.buffers_of a.recipients.now a.identities.now a.keys.now a.headers.now) d) _ (intake_of plugin a.session a.slots.now a.header_slots.now o) x a.out.now (ap (turn_of plugin) c.in-One.is) e.rest.0 (says d);
+      stored = (says none).input;
+      name = e.rest.1;
     }
-
 
 pub returns-in-Two : goal.returns-in-Two
 returns-in-Two c = let a = c.args in
@@ -153,11 +145,10 @@ returns-in-Two c = let a = c.args in
     let r = c.drop_chunk.result in
     let says : (d : two.BuffersTwo) → Says plugin r a.slots.now a.header_slots.now o f.new.input [] (buffers_of (one.buffers_of a.recipients.now a.identities.now a.keys.now a.headers.now) d) (taken plugin (intake_of plugin a.session a.slots.now a.header_slots.now o) (buffers_of (one.buffers_of a.recipients.now a.identities.now a.keys.now a.headers.now) d) x) = λ d. subst (λ i. Says plugin r a.slots.now a.header_slots.now i f.new.input [] (buffers_of (one.buffers_of a.recipients.now a.identities.now a.keys.now a.headers.now) d) (taken plugin (intake_of plugin a.session a.slots.now a.header_slots.now i) (buffers_of (one.buffers_of a.recipients.now a.identities.now a.keys.now a.headers.now) d) x)) (input ∙ same) (e.outcome a.slots.now a.header_slots.now (buffers_of (one.buffers_of a.recipients.now a.identities.now a.keys.now a.headers.now) d)) in
     record {
-        outcome = λ d. silent_answer plugin r _ _ _ _ (buffers_of (one.buffers_of a.recipients.now a.identities.now a.keys.now a.headers.now) d) _ (intake_of plugin a.session a.slots.now a.header_slots.now o) x a.out.now (ap (turn_of plugin) c.in-Two.is) e.rest.0 (says d);
-        stored = (says none).input;
-        name = e.rest.1;
+      outcome = λ d. silent_answer plugin r _ _ _ _ (buffers_of (one.buffers_of a.recipients.now a.identities.now a.keys.now a.headers.now) d) _ (intake_of plugin a.session a.slots.now a.header_slots.now o) x a.out.now (ap (turn_of plugin) c.in-Two.is) e.rest.0 (says d);
+      stored = (says none).input;
+      name = e.rest.1;
     }
-
 
 pub returns-in-Awaiting : goal.returns-in-Awaiting
 returns-in-Awaiting c = let a = c.args in
@@ -174,13 +165,12 @@ returns-in-Awaiting c = let a = c.args in
     let xs = a.slots.now in
     let hs = a.header_slots.now in
     record {
-        outcome = λ d. e.outcome xs hs (buffers_of (one.buffers_of a.recipients.now a.identities.now a.keys.now a.headers.now) d)
+      outcome = λ d. e.outcome xs hs (buffers_of (one.buffers_of a.recipients.now a.identities.now a.keys.now a.headers.now) d)
           ∙ ap (λ i. judged (intake_of plugin a.session xs hs i) (buffers_of (one.buffers_of a.recipients.now a.identities.now a.keys.now a.headers.now) d) a.out.now (taken plugin (intake_of plugin a.session xs hs i) (buffers_of (one.buffers_of a.recipients.now a.identities.now a.keys.now a.headers.now) d) x)) (input ∙ same)
           ∙ sym (chunked_read plugin (intake_of plugin a.session xs hs o) (buffers_of (one.buffers_of a.recipients.now a.identities.now a.keys.now a.headers.now) d) x a.out.now (ap (turn_of plugin) c.in-Awaiting.is));
-        stored = e.stored xs hs ∙ ap (stored_in (intake_of plugin r.session xs hs c.receive_due.new.input)) (input ∙ same);
-        name = e.name;
+      stored = e.stored xs hs ∙ ap (stored_in (intake_of plugin r.session xs hs c.receive_due.new.input)) (input ∙ same);
+      name = e.name;
     }
-
 
 pub returns-in-Ended : goal.returns-in-Ended
 returns-in-Ended c = let a = c.args in
@@ -197,15 +187,14 @@ returns-in-Ended c = let a = c.args in
     let hs = a.header_slots.now in
     let i = f.new.input in
     record {
-        outcome = λ d. e.outcome plugin xs hs i (buffers_of (one.buffers_of a.recipients.now a.identities.now a.keys.now a.headers.now) d) a.out.now
+      outcome = λ d. e.outcome plugin xs hs i (buffers_of (one.buffers_of a.recipients.now a.identities.now a.keys.now a.headers.now) d) a.out.now
           ∙ ap (λ i. untaken 13 (intake_of plugin a.session xs hs i) (buffers_of (one.buffers_of a.recipients.now a.identities.now a.keys.now a.headers.now) d) a.out.now) (input ∙ same)
           ∙ sym (chunk_refused plugin (intake_of plugin a.session xs hs o) (buffers_of (one.buffers_of a.recipients.now a.identities.now a.keys.now a.headers.now) d) 13 x a.out.now (ap (turn_of plugin) c.in-Ended.is) refl);
-        stored = sym (stored_own plugin a.session xs hs i)
-            ∙ sym (ap (λ (o : Outcome). stored_in o.intake i) (e.outcome plugin xs hs i (buffers_of (one.buffers_of [] [] [] []) none) a.out.now))
-            ∙ ap (stored_in (intake_of plugin c.leave.result.session xs hs i)) (input ∙ same);
-        name = e.name;
+      stored = sym (stored_own plugin a.session xs hs i)
+          ∙ sym (ap (λ (o : Outcome). stored_in o.intake i) (e.outcome plugin xs hs i (buffers_of (one.buffers_of [] [] [] []) none) a.out.now))
+          ∙ ap (stored_in (intake_of plugin c.leave.result.session xs hs i)) (input ∙ same);
+      name = e.name;
     }
-
 
 pub returns-in-Closed : goal.returns-in-Closed
 returns-in-Closed c = let a = c.args in
@@ -222,11 +211,11 @@ returns-in-Closed c = let a = c.args in
     let hs = a.header_slots.now in
     let i = f.new.input in
     record {
-        outcome = λ d. e.outcome plugin xs hs i (buffers_of (one.buffers_of a.recipients.now a.identities.now a.keys.now a.headers.now) d) a.out.now
+      outcome = λ d. e.outcome plugin xs hs i (buffers_of (one.buffers_of a.recipients.now a.identities.now a.keys.now a.headers.now) d) a.out.now
           ∙ ap (λ i. untaken 13 (intake_of plugin a.session xs hs i) (buffers_of (one.buffers_of a.recipients.now a.identities.now a.keys.now a.headers.now) d) a.out.now) (input ∙ same)
           ∙ sym (chunk_refused plugin (intake_of plugin a.session xs hs o) (buffers_of (one.buffers_of a.recipients.now a.identities.now a.keys.now a.headers.now) d) 13 x a.out.now (ap (turn_of plugin) c.in-Closed.is) refl);
-        stored = sym (stored_own plugin a.session xs hs i)
-            ∙ sym (ap (λ (o : Outcome). stored_in o.intake i) (e.outcome plugin xs hs i (buffers_of (one.buffers_of [] [] [] []) none) a.out.now))
-            ∙ ap (stored_in (intake_of plugin c.leave-in-Closed.result.session xs hs i)) (input ∙ same);
-        name = e.name;
+      stored = sym (stored_own plugin a.session xs hs i)
+          ∙ sym (ap (λ (o : Outcome). stored_in o.intake i) (e.outcome plugin xs hs i (buffers_of (one.buffers_of [] [] [] []) none) a.out.now))
+          ∙ ap (stored_in (intake_of plugin c.leave-in-Closed.result.session xs hs i)) (input ∙ same);
+      name = e.name;
     }

@@ -1,5 +1,4 @@
 -- One step of phase one, by what it ensures of number, tables and buffers.
-use borrow.Author.Rules.{rules}
 use Rattle.session.specs.Session.{carried_by}
 use mathlib.Core.Path.{ap}
 use Rattle.strict_base64.specs.Lines.{body_of}
@@ -16,7 +15,6 @@ use Rattle.conversation.proofs.Laws.Receiving.{received_from}
 use Rattle.plugin_receiving.specs.Receiving.{taking_said}
 use Rattle.plugin_receiving.proofs.receiving.receive_stanza.Goals as goal
 
-
 pub returns : goal.returns
 returns c = let a = c.args in
     let text = a.text.now in
@@ -27,10 +25,10 @@ returns c = let a = c.args in
     let e = step.ensures in
     let n = length body in
     record {
-        outcome = rw c.moved.ensures
+      outcome = rw c.moved.ensures
           (received_from a.session.machine (name_of a.session.name) a.session.screen a.session.phase (tables_in a.session.tables a.slots.now a.header_slots.now) (buffers_of a.recipients.now a.identities.now a.keys.now a.headers.now)
           (arguments_in text a.s) (body_in text a.s) a.s.taken name line body
           (verdict_said step.result.verdict) (command_said name line n step.result.command) (taking_said c.answer_to-answer.result) c.phase_received-phase.result _ _
           c.front.ensures c.arguments_of.ensures (ap body_of c.lines_of.ensures) e.number e.command (c.answer_to-answer.ensures name line n) (c.phase_received-phase.ensures name line n) e.tables e.buffers);
-        carried = ap carried_by c.moved.ensures;
+      carried = ap carried_by c.moved.ensures;
     }

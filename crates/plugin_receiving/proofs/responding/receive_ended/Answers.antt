@@ -7,30 +7,25 @@ use native.Mathlib.Omega.{arith}
 use Rattle.session.specs.Session.{Carried}
 use Rattle.intake.proofs.Laws.Fronts.{front_within}
 use Rattle.plugin_receiving.proofs.Laws.Responses.{ended_settled}
-use borrow.Author.Rules.{rules}
 use Rattle.plugin_receiving.proofs.responding.receive_ended.Goals as goal
-
 
 pub put_together-n-requires : goal.put_together-n-requires
 put_together-n-requires c = let a = c.args in
     let p = c.requires in
     let w = front_within a.session.reading (min a.session.kept 8191) a.chunk.now a.k p.chunk_value (omega arith) in
     record {
-        kept_in_bounds = omega (arith, p.in_bounds, c.kept_of-kept.ensures);
-        k_in_bounds = w.0;
-        k_in_bounds_2 = omega (arith, c.kept_of-kept.ensures, w.1);
+      kept_in_bounds = omega (arith, p.in_bounds, c.kept_of-kept.ensures);
+      k_in_bounds = w.0;
+      k_in_bounds_2 = omega (arith, c.kept_of-kept.ensures, w.1);
     }
-
 
 pub overflow_sub-left : goal.overflow_sub-left
 overflow_sub-left c = let a = c.args in
     let p = c.requires in
     omega (arith, (front_within a.session.reading (min a.session.kept 8191) a.chunk.now a.k p.chunk_value (omega arith)).0)
 
-
 pub settle_response-requires : goal.settle_response-requires
 settle_response-requires c = ap (λ (x : Carried). x.name) c.receive_awaited-responded.ensures.carried
-
 
 pub returns : goal.returns
 returns c = let a = c.args in
@@ -38,6 +33,6 @@ returns c = let a = c.args in
     let n = c.receive_awaited-responded in
     let at = c.front.ensures ∙ c.put_together-n.ensures ∙ ap (λ j. take j a.input.now ++ take a.k a.chunk.now) c.kept_of-kept.ensures in
     record {
-        outcome = λ xs hs b. c.settle_response.ensures.outcome xs hs a.input.now b _ ∙ ended_settled a.session a.word p.phase_value a.input.now p.in_bounds a.chunk.now xs hs b n.result a.out.now _ a.k p.chunk_value (λ z. omega (arith, p.le_k)) c.front.result.now at (n.ensures.outcome xs hs);
-        name = c.settle_response.ensures.name;
+      outcome = λ xs hs b. c.settle_response.ensures.outcome xs hs a.input.now b _ ∙ ended_settled a.session a.word p.phase_value a.input.now p.in_bounds a.chunk.now xs hs b n.result a.out.now _ a.k p.chunk_value (λ z. omega (arith, p.le_k)) c.front.result.now at (n.ensures.outcome xs hs);
+      name = c.settle_response.ensures.name;
     }
