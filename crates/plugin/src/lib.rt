@@ -1,5 +1,6 @@
 // The plugin end, for its host: all that it names, by one `use`. It receives phase one and sends phase two.
 #![tactic(auto)]
+
 pub use bech32::TextKind;
 pub use intake::{Last, Received, finish};
 pub use look_up::{entry, find};
