@@ -38,6 +38,7 @@ ON_THEIR_OWN = {
     "phase-one": "quiet_phase",
     "words-one": "one_word_laws",
     "words-two": "two_words_laws",
+    "two-Shaped": "two_shaped",
     "said_in": "blocks_said",
     "foundIn": "found_in",
 }

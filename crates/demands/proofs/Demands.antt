@@ -118,7 +118,7 @@ use Rattle.conversation.proofs.Laws.ReportedTwo as reported
 use Rattle.conversation.proofs.Laws.SentOne as sent_numbers
 use Rattle.conversation.proofs.Laws.ShapesOne as one_shaped
 use Rattle.conversation.proofs.Laws.ShapesSent as sent_shaped
-use Rattle.conversation.proofs.Laws.ShapesTwo as two_Shaped
+use Rattle.conversation.proofs.Laws.ShapesTwo as two_shaped
 use Rattle.conversation.proofs.Laws.Tables as tables
 use Rattle.conversation.proofs.Laws.Twice as twice
 use Rattle.conversation.proofs.Laws.WrittenRead as written_read
@@ -479,12 +479,12 @@ demand_2_client s b j p h outs l = two_accepted.accepted_two_iff s b (just_done 
 -- .. of any calls of the client end at all: accepted to the end of the phase exactly those that have its shape and are allowed
 pub demand_2_client_exact : (s : Session) (b : Buffers) → JustDone s → (cs : List Call) → All (λ c. is_client c ≡ true) cs → LongEnough s b cs →
     AcceptedTo Ended s b cs ↔ ((p : ShapedTwo cs) × AllowedTwo s.machine s.screen (left_of (state_of s b)) (capacity_of b) (blocks_of p.phase))
-demand_2_client_exact s b j cs k l = two_Shaped.shaped_two_iff s b (just_done s j) cs k l
+demand_2_client_exact s b j cs k l = two_shaped.shaped_two_iff s b (just_done s j) cs k l
 
 -- .. and accepted but not to its end, exactly those cut before done that are allowed so far; `q` is the phase then, two or that of waiting for a reply
 pub demand_2_client_so_far : (s : Session) (b : Buffers) → JustDone s → (cs : List Call) → All (λ c. is_client c ≡ true) cs → LongEnough s b cs → (q : SessionPhase) → (q ≡ Ended → ⊥) →
     AcceptedTo q s b cs ↔ ((p : FrontTwo cs) × AllowedTwoSoFar s.machine s.screen (left_of (state_of s b)) (capacity_of b) q p.blocks)
-demand_2_client_so_far s b j cs k l q n = two_Shaped.front_two_iff s b (just_done s j) cs k l q n
+demand_2_client_so_far s b j cs k l q n = two_shaped.front_two_iff s b (just_done s j) cs k l q n
 
 -- phase two at the plugin end, sendings with the responses received, by a session that has just received done
 pub demand_2_plugin : (s : Session) (b : Buffers) → JustReceived s → (outs : Supply) (xs : List Exchange) (y : Exchange) → All (λ x. is_done_sent x ≡ false) xs → is_done_sent y ≡ true →
