@@ -1,8 +1,17 @@
 #!/usr/bin/env python3
-"""convert.py CRATE [FUNC..]: old Proof.antt (ported text in /work/old/crates, original in /work/landed) -> Invariants.antt and Answers.antt"""
+"""Turns an older walk by hand through a function (Proof.antt) into Invariants.antt and Answers.antt.
+
+usage: LANDED=DIR RESPELLED=DIR NAMES=DIR [TREE=DIR] tools/answers.py CRATE [MODULE.FUNCTION..]
+
+LANDED is a checkout of the commit before the port, RESPELLED one behind port.py and tools/snake.py, TREE the repository to write in (the current folder),
+and NAMES has CRATE/names.json, as `rt check --generated NAMES/CRATE --old-names` writes it. It was used once, for the port: it turns goals and steps to
+today's names, positions in clauses to the clauses' names, leaves out answers that are a search alone, and prints what it could not turn.
+"""
 import json, os, re, sys
-OLD='/work/old/crates'; LAND='/work/landed/crates'
-NEW=os.environ.get('TREE','/work/main')+'/crates'
+OLD = os.path.join(os.environ.get("RESPELLED", "."), "crates")
+LAND = os.path.join(os.environ.get("LANDED", "."), "crates")
+NEW = os.path.join(os.environ.get("TREE", "."), "crates")
+NAMES = os.environ.get("NAMES", ".")
 IDENT=r"[^\s(){}.;,@\"«»\[\]\\λ]+"
 norm=lambda s: re.sub('-+','-',s.replace('_','-')).lower()
 LT={'holds':'init','less':'smaller','again':'preserved'}
@@ -314,7 +323,7 @@ def inline(text,macros):
 PATH=re.compile(r"(?<![\w.'-])c((?:\.(?:«[^»]+»|[^\s(){}.;,@\"«»\[\]\\]+))+)")
 
 def convert(crate,only=()):
-    names=json.load(open(f'/tmp/names/{crate}/names.json'))
+    names=json.load(open(f'{NAMES}/{crate}/names.json'))
     ens=rt_ensures(crate)
     report=[]
     for key,J in names.items():
