@@ -6,9 +6,8 @@ ghost use Rattle.std.specs.Prelude.{◌≡◌};
 ghost use Rattle.refusal.specs.Output.{said, answered, filled};
 ghost use Rattle.awaited.specs.Awaited.{awaited_text, line_in, message_in, label_count, label_in};
 
-use refusal::Written;
+use refusal::Refusal;
 use session::{Phase, Session, front};
-use stanza::First;
 
 // Its whole text, a part of the input; empty where nothing waits.
 pub fn awaited_text<'a>(session: Session, input: &'a [u8]) -> &'a [u8]
@@ -25,15 +24,15 @@ pub fn awaited_text<'a>(session: Session, input: &'a [u8]) -> &'a [u8]
 }
 
 // Its message, decoded to the front of `out`: how many bytes, or 15 and nothing written. Empty where nothing waits.
-pub fn awaited_message(session: Session, input: &[u8], out: &mut [u8]) -> Written
+pub fn awaited_message(session: Session, input: &[u8], out: &mut [u8]) -> Result<usize, Refusal>
     ensures answer { said result ≡ answered (message_in (awaited_text session input.now)) out.old }
     ensures buffer { out.new ≡ filled (message_in (awaited_text session input.now)) out.old }
 {
     let waiting = awaited_text(session, input);
     let first = stanza::read(waiting);
     match first {
-        First::Stanza(s) => stanza::body_of(waiting, s, out),
-        First::Refused(_) => Written::Bytes(0),
+        Ok(s) => stanza::body_of(waiting, s, out),
+        Err(_) => Ok(0),
     }
 }
 
@@ -44,8 +43,8 @@ fn line<'a>(session: Session, input: &'a [u8]) -> &'a [u8]
     let waiting = awaited_text(session, input);
     let first = stanza::read(waiting);
     match first {
-        First::Stanza(s) => stanza::arguments_of(waiting, s),
-        First::Refused(_) => &waiting[..0],
+        Ok(s) => stanza::arguments_of(waiting, s),
+        Err(_) => &waiting[..0],
     }
 }
 
@@ -57,12 +56,12 @@ pub fn awaited_labels(session: Session, input: &[u8]) -> usize
 }
 
 // A label by its number, counted from 0, decoded to the front of `out`: how many bytes, or 15 and nothing written. Empty where there is none.
-pub fn awaited_label(session: Session, input: &[u8], n: usize, out: &mut [u8]) -> Written
+pub fn awaited_label(session: Session, input: &[u8], n: usize, out: &mut [u8]) -> Result<usize, Refusal>
     ensures answer { said result ≡ answered (label_in n (awaited_text session input.now)) out.old }
     ensures buffer { out.new ≡ filled (label_in n (awaited_text session input.now)) out.old }
 {
     if awaited_labels(session, input) <= n {
-        return Written::Bytes(0);
+        return Ok(0);
     }
     strict_base64::decode(stanza::argument(line(session, input), n + 1), out)
 }

@@ -1,5 +1,5 @@
 // Reading recipients and identities. The verdict comes first, then the bytes, so that nothing is written where the text is refused.
-ghost use Rattle.std.specs.Prelude.{◌≡◌, ◌+◌, ◌≤◌, ◌&&◌, ◌||◌, [], map, eqb, length, drop, take};
+ghost use Rattle.std.specs.Prelude.{◌≡◌, Err, ◌+◌, ◌≤◌, ◌&&◌, ◌||◌, [], map, eqb, length, drop, take};
 ghost use Rattle.refusal.specs.Pick.{pick};
 ghost use Rattle.refusal.specs.Number.{number_of};
 ghost use Rattle.refusal.specs.Run.{all, run, is_graphic};
@@ -13,7 +13,7 @@ ghost use Rattle.bech32.specs.Steps.{name_at, tail_number};
 
 use crate::human::{Name, is_lowered, name_in, nameless};
 use crate::{CHECKSUM, LONGEST, TAIL, TextKind};
-use refusal::{Refusal, Verdict, Written};
+use refusal::Refusal;
 use symbols::{
     are_characters, bytes_length, character_run, decode, fold_human, is_closed, is_lower, is_upper,
     is_whole, values,
@@ -22,7 +22,7 @@ use symbols::{
 // What reading gives: how long the payload at the buffer's front is, or 16, 21, 22 or 15; the place with 16, else 0; and the name, empty where refused.
 #[derive(Clone, Copy)]
 pub struct ReadText {
-    pub answer: Written,
+    pub answer: Result<usize, Refusal>,
     pub place: usize,
     pub name: Name,
 }
@@ -154,7 +154,7 @@ fn name_at(kind: TextKind, text: &[u8], at: usize) -> Name
 }
 
 // What is wrong with a text's tail: 16 for a byte outside the alphabet, 21, or 22. The alphabet is looked through only where the checksum does not hold.
-fn judge_tail(table: &[u8; 256], text: &[u8], at: usize) -> Verdict
+fn judge_tail(table: &[u8; 256], text: &[u8], at: usize) -> Result<(), Refusal>
     requires values { Values table.now }
     requires at_value { at ≡ separator text.now }
     requires at_in_bounds { at + 7 ≤ length text.now }
@@ -164,15 +164,15 @@ fn judge_tail(table: &[u8; 256], text: &[u8], at: usize) -> Verdict
         let from = at + 1;
         let end = text.len() - CHECKSUM;
         if is_whole(table, &text[from..end]) {
-            return Verdict::Accepted;
+            return Ok(());
         }
-        return Verdict::Refused(Refusal::LeftoverBits);
+        return Err(Refusal::LeftoverBits);
     }
     let from = at + 1;
     if are_characters(table, &text[from..]) {
-        return Verdict::Refused(Refusal::BadChecksum);
+        return Err(Refusal::BadChecksum);
     }
-    Verdict::Refused(Refusal::Malformed)
+    Err(Refusal::Malformed)
 }
 
 fn is_graphic(b: u8) -> bool
@@ -229,7 +229,7 @@ pub fn read(kind: TextKind, text: &[u8], out: &mut [u8]) -> ReadText
     let table = values();
     let verdict = judge_tail(&table, text, at);
     match verdict {
-        Verdict::Accepted => {
+        Ok(()) => {
             let from = at + 1;
             let end = text.len() - CHECKSUM;
             let n = bytes_length(end - from);
@@ -238,19 +238,19 @@ pub fn read(kind: TextKind, text: &[u8], out: &mut [u8]) -> ReadText
             }
             decode(&table, &text[from..end], out);
             ReadText {
-                answer: Written::Bytes(n),
+                answer: Ok(n),
                 place: NO_PLACE,
                 name: name,
             }
         }
-        Verdict::Refused(r) => refuse(r, text, at),
+        Err(r) => refuse(r, text, at),
     }
 }
 
 // A refusal, with the place where it is 16, and no name.
 fn refuse(r: Refusal, text: &[u8], at: usize) -> ReadText
     requires { at ≡ separator text.now }
-    ensures answer { result.answer ≡ Written.Refused r }
+    ensures answer { result.answer ≡ Err r }
     ensures place { result.place ≡ pick (eqb (number_of r) 16) (place_in text.now) 0 }
     ensures bytes { result.name.bytes ≡ padded [] }
     ensures length { result.name.length ≡ 0 }
@@ -263,13 +263,13 @@ fn refuse(r: Refusal, text: &[u8], at: usize) -> ReadText
 
 // A refusal with a place, and no name.
 fn refused(r: Refusal, place: usize) -> ReadText
-    ensures answer { result.answer ≡ Written.Refused r }
+    ensures answer { result.answer ≡ Err r }
     ensures place { result.place ≡ «place» }
     ensures bytes { result.name.bytes ≡ padded [] }
     ensures length { result.name.length ≡ 0 }
 {
     ReadText {
-        answer: Written::Refused(r),
+        answer: Err(r),
         place: place,
         name: nameless(),
     }

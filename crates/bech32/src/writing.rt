@@ -11,7 +11,7 @@ ghost use Rattle.symbols.specs.Calls.{symbols_size};
 use crate::charset::{character, characters};
 use crate::human::{human_length, is_name, put_human};
 use crate::{CHECKSUM, LONGEST, TAIL, TextKind};
-use refusal::{Refusal, Written};
+use refusal::Refusal;
 use symbols::{encode, fold_human, fold_symbols};
 
 // How many symbols n bytes make.
@@ -24,25 +24,25 @@ fn symbols_length(n: usize) -> usize
 
 // The text of a name and a payload at the front of `out`: how long it is; or 17 where the name is none or the text would be longer than
 // 1,024, then 15; nothing written then.
-pub fn write(kind: TextKind, name: &[u8], payload: &[u8], out: &mut [u8]) -> Written
+pub fn write(kind: TextKind, name: &[u8], payload: &[u8], out: &mut [u8]) -> Result<usize, Refusal>
     ensures answer { said result ≡ write_answer (form_of kind) name.now payload.now out.old }
     ensures buffer { out.new ≡ write_buffer (form_of kind) name.now payload.now out.old }
 {
     if !is_name(name) {
-        return Written::Refused(Refusal::Unwritable);
+        return Err(Refusal::Unwritable);
     }
     if LONGEST < payload.len() {
-        return Written::Refused(Refusal::Unwritable);
+        return Err(Refusal::Unwritable);
     }
     let n = human_length(kind, name.len()) + symbols_length(payload.len()) + TAIL;
     if LONGEST < n {
-        return Written::Refused(Refusal::Unwritable);
+        return Err(Refusal::Unwritable);
     }
     if out.len() < n {
-        return Written::Refused(Refusal::ShortOutput);
+        return Err(Refusal::ShortOutput);
     }
     write_into(kind, name, payload, out);
-    Written::Bytes(n)
+    Ok(n)
 }
 
 // The same where the name is one and the buffer is long enough.

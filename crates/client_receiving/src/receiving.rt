@@ -12,8 +12,8 @@ ghost use Rattle.client_room.specs.Room.{stanza_ahead};
 ghost use Rattle.client_receiving.specs.Texts.{lent, Answers};
 
 use crate::texts::{begin, take_front, take_text};
-use intake::{OneByte, Received, Turn};
-use refusal::{Refusal, Verdict};
+use intake::{Received, Turn};
+use refusal::Refusal;
 use session::Session;
 use stanza::Continued;
 
@@ -133,12 +133,12 @@ pub fn receive(
 {
     let phase = session.phase;
     let turn = phase_two::turn_two(phase);
-    if let Verdict::Refused(r) = turn {
+    if let Err(r) = turn {
         return intake::leave(session, r);
     }
     let reading = session.reading;
     let one = intake::read_one(Turn::Reads, reading, session.kept, chunk, input);
-    if let OneByte::GoesOn(place) = one {
+    if let Some(place) = one {
         return intake::keep_on(session, place, chunk);
     }
     let front = intake::read_front(Turn::Reads, reading, session.kept, chunk, input);

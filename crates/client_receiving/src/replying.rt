@@ -18,21 +18,21 @@ ghost use Rattle.client_receiving.specs.Replying.{due_sized, answered_with};
 ghost use Rattle.client_receiving.specs.Texts.{lent};
 
 use crate::texts::{begin, take_text};
-use intake::{Due, Received};
-use refusal::{Refusal, Written};
+use intake::Received;
+use refusal::Refusal;
 use responses::Response;
 use session::{Phase, Session};
 
 // How many bytes a reply has: 13 or 14 where none is due, 12 where it does not fit the command, then 17.
-fn reply_size(phase: Phase, response: Response, body: &[u8]) -> Written
+fn reply_size(phase: Phase, response: Response, body: &[u8]) -> Result<usize, Refusal>
     ensures { said result ≡ due_sized (due_in phase) response body.now }
 {
     let due = intake::answer_due(phase);
     match due {
-        Due::Refused(r) => Written::Refused(r),
-        Due::Command(word) => {
+        Err(r) => Err(r),
+        Ok(word) => {
             if !responses::fits_whole(word, response, body.len()) {
-                return Written::Refused(Refusal::UnfitResponse);
+                return Err(Refusal::UnfitResponse);
             }
             responses::size(response, body)
         }
@@ -211,8 +211,8 @@ pub fn reply(
     let phase = session.phase;
     let sized = reply_size(phase, response, body);
     match sized {
-        Written::Refused(r) => intake::leave(session, r),
-        Written::Bytes(size) => {
+        Err(r) => intake::leave(session, r),
+        Ok(size) => {
             if session.kept == 0 {
                 return reply_ahead(
                     session,

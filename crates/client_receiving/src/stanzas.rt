@@ -11,21 +11,20 @@ ghost use Rattle.phase_two.specs.AtOnce.{at_once_said};
 ghost use Rattle.client_receiving.specs.Stanzas.{step_said};
 
 use client_room::Step;
-use phase_two::AtOnce;
-use refusal::Verdict;
+use refusal::Refusal;
 use session::Session;
 use stanza::Stanza;
 use tables::Coding;
 
 // Writes what is answered at once to a command that was accepted.
-fn write_answer(verdict: Verdict, answer: AtOnce, out: &mut [u8])
+fn write_answer(verdict: Result<(), Refusal>, answer: Option<Response>, out: &mut [u8])
     ensures { out.new ≡ pick (eqb (verdict_said verdict) 0) (filled (text_of (at_once_said answer)) out.old) out.old }
 {
     match verdict {
-        Verdict::Accepted => {
+        Ok(()) => {
             phase_two::write_at_once(answer, out);
         }
-        Verdict::Refused(_) => {}
+        Err(_) => {}
     }
 }
 

@@ -1,5 +1,5 @@
 // A text of phase two received, stanza after stanza from the left. All that is written for it has room.
-ghost use Rattle.std.specs.Prelude.{◌≡◌, true, [], ◌+◌, ◌≤◌, length};
+ghost use Rattle.std.specs.Prelude.{◌≡◌, Ok, Err, true, [], ◌+◌, ◌≤◌, length};
 ghost use Rattle.session.specs.Session.{session_of};
 ghost use Rattle.session.specs.declared.phases.Phase.TheVariants.{Two};
 ghost use Rattle.phase_one.specs.PhaseOne.{BuffersOne};
@@ -10,18 +10,18 @@ ghost use Rattle.client_room.specs.Room.{stanza_ahead};
 ghost use Rattle.client_receiving.specs.Texts.{lent, behind_answer, MayTake, Answers};
 
 use crate::stanzas::receive_stanza;
-use client_room::{Taking, next_stanza};
+use client_room::next_stanza;
 use intake::{Last, Received, Turn};
-use refusal::{Refusal, Verdict};
+use refusal::Refusal;
 use session::{Phase, Session, WordTwo};
-use stanza::{First, Place};
+use stanza::Place;
 
 // Nothing taken yet.
 pub(crate) fn begin(session: Session, written: usize) -> Received
-    ensures { result ≡ record { verdict = Verdict.Accepted; count = 0; last = Last.Nothing; written = written; session = session } }
+    ensures { result ≡ record { verdict = Ok tt; count = 0; last = Last.Nothing; written = written; session = session } }
 {
     Received {
-        verdict: Verdict::Accepted,
+        verdict: Ok(()),
         count: 0,
         last: Last::Nothing,
         written: written,
@@ -33,7 +33,7 @@ pub(crate) fn begin(session: Session, written: usize) -> Received
 fn go_on(so_far: Received, word: WordTwo, size: usize, session: Session) -> Received
     requires { (so_far.count + 1 ≤ 18446744073709551615) × (so_far.written + size ≤ 18446744073709551615) }
     ensures { result ≡ record {
-      verdict = Verdict.Accepted;
+      verdict = Ok tt;
       count = so_far.count + 1;
       last = Last.CommandTwo word;
       written = so_far.written + size;
@@ -41,7 +41,7 @@ fn go_on(so_far: Received, word: WordTwo, size: usize, session: Session) -> Rece
     } }
 {
     Received {
-        verdict: Verdict::Accepted,
+        verdict: Ok(()),
         count: so_far.count + 1,
         last: Last::CommandTwo(word),
         written: so_far.written + size,
@@ -52,7 +52,7 @@ fn go_on(so_far: Received, word: WordTwo, size: usize, session: Session) -> Rece
 // A refusal behind what was taken. Nothing is kept.
 pub(crate) fn stop(so_far: Received, refusal: Refusal, session: Session) -> Received
     ensures { result ≡ record {
-      verdict = Verdict.Refused refusal;
+      verdict = Err refusal;
       count = so_far.count;
       last = so_far.last;
       written = so_far.written;
@@ -70,7 +70,7 @@ pub(crate) fn stop(so_far: Received, refusal: Refusal, session: Session) -> Rece
 {
     let last = so_far.last;
     Received {
-        verdict: Verdict::Refused(refusal),
+        verdict: Err(refusal),
         count: so_far.count,
         last: last,
         written: so_far.written,
@@ -118,12 +118,12 @@ pub(crate) fn take_text(
         let phase = session.phase;
         let first = next_stanza(phase, &text[at..]);
         match first {
-            First::Refused(_) => {
+            Err(_) => {
                 let turn = intake::turn_client(phase);
                 let awaited = awaited_in(phase, &text[begun..at]);
                 return intake::settle(done, turn, awaited, &text[at..], input);
             }
-            First::Stanza(s) => {
+            Ok(s) => {
                 let written = done.written;
                 let step = receive_stanza(
                     session,
@@ -139,11 +139,11 @@ pub(crate) fn take_text(
                 let answer = step.answer;
                 let after = step.session;
                 match answer {
-                    Taking::Refused(r) => {
+                    Err(r) => {
                         return stop(done, r, after);
                     }
-                    Taking::Command(word, _, size) => {
-                        done = go_on(done, word, size, after);
+                    Ok(taken) => {
+                        done = go_on(done, taken.word, taken.written, after);
                         begun = at;
                         at += s.taken;
                     }
@@ -191,7 +191,7 @@ pub(crate) fn take_front(
     let begun = begin(session, 0);
     let first = stanza::read(front);
     match first {
-        First::Refused(r) => {
+        Err(r) => {
             let phase = session.phase;
             stop(
                 begun,
@@ -199,7 +199,7 @@ pub(crate) fn take_front(
                 session.moved(session::phase_refused(phase, r), session.tables),
             )
         }
-        First::Stanza(s) => {
+        Ok(s) => {
             let step = receive_stanza(
                 session,
                 front,
@@ -214,9 +214,9 @@ pub(crate) fn take_front(
             let answer = step.answer;
             let after = step.session;
             match answer {
-                Taking::Refused(r) => stop(begun, r, after),
-                Taking::Command(word, _, size) => {
-                    let done = go_on(begun, word, size, after);
+                Err(r) => stop(begun, r, after),
+                Ok(taken) => {
+                    let done = go_on(begun, taken.word, taken.written, after);
                     let phase = after.phase;
                     if is_waiting(phase) {
                         return intake::settle(done, Turn::KeepsBack, front, text, input);

@@ -1,5 +1,5 @@
 -- What the answers to one command of phase two that was received stand for.
-use Rattle.std.specs.Prelude.{ℕ, ◌≡◌, List, eqb}
+use Rattle.std.specs.Prelude.{ℕ, ◌≡◌, List, eqb, Result, Ok, Err}
 use Rattle.refusal.specs.Number.{number_of}
 use Rattle.refusal.specs.Pick.{pick}
 use Rattle.stanza.specs.Reading.{Reading, refused, read_first}
@@ -8,17 +8,17 @@ use Rattle.conversation.specs.CommandsTwo.{CommandTwo, word_of}
 use Rattle.conversation.specs.PhaseTwo.{BuffersTwo}
 use Rattle.conversation.specs.ReceivingTwo.{Taking, took, declined, received_stanza}
 use Rattle.chunks.specs.Taking.{Turn, reads, drops, keeps_back, ample}
-use Rattle.client_room.specs.declared.stanzas.Taking.{Taking as CodeTaking}
-use Rattle.client_room.specs.declared.stanzas.Taking.TheVariants as the
+use Rattle.refusal.specs.declared.Refusal.{Refusal}
+use Rattle.client_room.specs.declared.stanzas.Taken.{Taken as CodeTaken}
 
 -- the answer to a command c with the number n, of k bytes, with j bytes written
 abbrev pub answer_of : ℕ → CommandTwo → ℕ → ℕ → Taking
 answer_of n c k j = pick (eqb n 0) (took (word_of c) k j) (declined n)
 
 -- the code's answer
-abbrev pub taking_said : CodeTaking → Taking
-taking_said (the.Command w k j) = took w k j
-taking_said (the.Refused r) = declined (number_of r)
+abbrev pub taking_said : Result CodeTaken Refusal → Taking
+taking_said (Ok t) = took t.word t.taken t.written
+taking_said (Err r) = declined (number_of r)
 
 -- the first stanza of a text, where it is the turn to read one; else there is none yet
 abbrev pub next_in : Turn → List ℕ → Reading

@@ -11,9 +11,8 @@ ghost use Rattle.intake.specs.Intake.{intake_of};
 ghost use Rattle.phase_two.specs.Entering.{AreLong};
 ghost use Rattle.client_room.specs.Room.{has_room, is_keepable, stanza_ahead};
 
-use crate::stanzas::{Taking, next_stanza, put_together, try_stanza};
+use crate::stanzas::{next_stanza, put_together, try_stanza};
 use session::{Phase, Session};
-use stanza::First;
 
 // A chunk of so many bytes leaves no more to keep back than there is room for: the stanza that waits has a byte of it at least.
 const MOST_KEPT_BACK: usize = stanza::LONGEST + 1;
@@ -55,10 +54,10 @@ fn fits(
         let phase = so_far.phase;
         let first = next_stanza(phase, &text[at..]);
         match first {
-            First::Refused(_) => {
+            Err(_) => {
                 return is_keepable(phase, text.len() - at);
             }
-            First::Stanza(s) => {
+            Ok(s) => {
                 let step = try_stanza(
                     so_far,
                     &text[at..],
@@ -71,10 +70,11 @@ fn fits(
                 );
                 let answer = step.answer;
                 match answer {
-                    Taking::Refused(_) => {
+                    Err(_) => {
                         return true;
                     }
-                    Taking::Command(_, _, size) => {
+                    Ok(taken) => {
+                        let size = taken.written;
                         if left < size {
                             return false;
                         }
@@ -105,8 +105,8 @@ fn front_fits(
 {
     let first = stanza::read(front);
     match first {
-        First::Refused(_) => true,
-        First::Stanza(s) => {
+        Err(_) => true,
+        Ok(s) => {
             let step = try_stanza(
                 session,
                 front,
@@ -119,8 +119,9 @@ fn front_fits(
             );
             let answer = step.answer;
             match answer {
-                Taking::Refused(_) => true,
-                Taking::Command(_, _, size) => {
+                Err(_) => true,
+                Ok(taken) => {
+                    let size = taken.written;
                     if room < size {
                         return false;
                     }

@@ -11,46 +11,56 @@ ghost use Rattle.phase_two_commands.specs.Commands.{command_said};
 ghost use Rattle.client_room.specs.Stanzas.{answer_of, taking_said, next_in, Tried};
 
 use phase_two_commands::CommandTwo;
-use refusal::{Refusal, Verdict};
+use refusal::Refusal;
 use session::{Phase, Session, WordTwo};
-use stanza::{First, Stanza};
+use stanza::Stanza;
 use tables::Coding;
 
-// Which command was received, how many bytes of the text it took and how many were written; or the refusal.
+// Which command was received, how many bytes of the text it took and how many were written.
 #[derive(Clone, Copy)]
-pub enum Taking {
-    Command(WordTwo, usize, usize),
-    Refused(Refusal),
+pub struct Taken {
+    pub word: WordTwo,
+    pub taken: usize,
+    pub written: usize,
 }
 
 #[derive(Clone, Copy)]
 pub struct Step {
-    pub answer: Taking,
+    pub answer: Result<Taken, Refusal>,
     pub session: Session,
 }
 
 // The answer to a command that was judged.
-pub fn answer_to(verdict: Verdict, command: CommandTwo, taken: usize, written: usize) -> Taking
+pub fn answer_to(
+    verdict: Result<(), Refusal>,
+    command: CommandTwo,
+    taken: usize,
+    written: usize,
+) -> Result<Taken, Refusal>
     ensures { taking_said result ≡ answer_of (verdict_said verdict) (command_said command) taken written }
 {
     match verdict {
-        Verdict::Accepted => {
-            Taking::Command(phase_two_commands::word_two_of(command), taken, written)
+        Ok(()) => {
+            Ok(Taken {
+                word: phase_two_commands::word_two_of(command),
+                taken: taken,
+                written: written,
+            })
         }
-        Verdict::Refused(r) => Taking::Refused(r),
+        Err(r) => Err(r),
     }
 }
 
 // The stanza at the front of a text, where commands are received: in phase two, with no reply due.
-pub fn next_stanza(phase: Phase, text: &[u8]) -> First
+pub fn next_stanza(phase: Phase, text: &[u8]) -> Result<Stanza, Refusal>
     ensures { read_said result ≡ next_in (turn_at client phase) text.now }
 {
     match phase {
-        Phase::One => First::Refused(Refusal::Unfinished),
+        Phase::One => Err(Refusal::Unfinished),
         Phase::Two => stanza::read(text),
-        Phase::Awaiting(_) => First::Refused(Refusal::Unfinished),
-        Phase::Ended => First::Refused(Refusal::Unfinished),
-        Phase::Closed => First::Refused(Refusal::Unfinished),
+        Phase::Awaiting(_) => Err(Refusal::Unfinished),
+        Phase::Ended => Err(Refusal::Unfinished),
+        Phase::Closed => Err(Refusal::Unfinished),
     }
 }
 
@@ -98,7 +108,7 @@ pub(crate) fn try_stanza(
     let payload = phase_two::payload_size(command, line, Coding::Lines, source);
     let step = phase_two::enter_two(
         ruled,
-        Verdict::Accepted,
+        Ok(()),
         tables,
         command,
         payload,

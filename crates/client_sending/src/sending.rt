@@ -7,8 +7,8 @@ ghost use Rattle.conversation.specs.Sending.{sent, sent_line};
 ghost use Rattle.client_sending.specs.Sending.{sent_said};
 
 use phase_one::{WordOne, put_line, step_one};
-use refusal::{Verdict, Written};
-use session::{Composed, Session, front};
+use refusal::Refusal;
+use session::{Session, front};
 use tables::Coding;
 
 // A short store for a line, and the arguments that have room there behind a command word and its space.
@@ -18,7 +18,7 @@ const SHORT_ARGUMENTS: usize = 112;
 
 #[derive(Clone, Copy)]
 pub struct Sent {
-    pub answer: Written,
+    pub answer: Result<usize, Refusal>,
     pub session: Session,
 }
 
@@ -48,11 +48,13 @@ fn send_in(
     let put = put_line(word, arguments, store);
     let composed = session::compose(put, store, body);
     match composed {
-        Composed::Refused(r) => Sent {
-            answer: Written::Refused(r),
+        Err(r) => Sent {
+            answer: Err(r),
             session: session,
         },
-        Composed::Line(n, size) => {
+        Ok(composed) => {
+            let n = composed.line;
+            let size = composed.stanza;
             let machine = session.machine;
             let before = session.phase;
             let line = front(store, n);
@@ -167,11 +169,11 @@ pub fn send(
     let phase = session.phase;
     let turn = phase_one::turn_one(phase);
     match turn {
-        Verdict::Refused(r) => Sent {
-            answer: Written::Refused(r),
+        Err(r) => Sent {
+            answer: Err(r),
             session: session,
         },
-        Verdict::Accepted => send_due(
+        Ok(()) => send_due(
             session,
             word,
             arguments,

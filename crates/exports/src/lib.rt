@@ -19,23 +19,23 @@ ghost use Rattle.exports.specs.Results.{name_or, named_or};
 
 use bech32::{LONGEST_NAME, TextKind};
 use identity_file::MOST_FAULTS;
-use refusal::Written;
-use stanza::{First, Index, Stanza};
+use refusal::Refusal;
+use stanza::Stanza;
 
 // No refusal.
 const ACCEPTED: u8 = 0;
 
 // What writing to a lent buffer came to: the number, and how many bytes where nothing was refused.
-fn tell(w: Written, length: &mut usize) -> u8
+fn tell(w: Result<usize, Refusal>, length: &mut usize) -> u8
     ensures number { result ≡ number_in (said w) }
     ensures length { length.new ≡ length_or length.old (said w) }
 {
     match w {
-        Written::Bytes(n) => {
+        Ok(n) => {
             *length = n;
             ACCEPTED
         }
-        Written::Refused(r) => refusal::number(r),
+        Err(r) => refusal::number(r),
     }
 }
 
@@ -55,13 +55,13 @@ pub extern "C" fn flugremio_read(
 {
     let first = stanza::read(text);
     match first {
-        First::Stanza(s) => {
+        Ok(s) => {
             *line = s.line;
             *body = s.body;
             *taken = s.taken;
             ACCEPTED
         }
-        First::Refused(r) => refusal::number(r),
+        Err(r) => refusal::number(r),
     }
 }
 
@@ -113,11 +113,11 @@ pub extern "C" fn flugremio_index(text: &[u8], value: &mut u32) -> u8
 {
     let i = stanza::read_index(text);
     match i {
-        Index::Number(n) => {
+        Ok(n) => {
             *value = n;
             ACCEPTED
         }
-        Index::Refused(r) => refusal::number(r),
+        Err(r) => refusal::number(r),
     }
 }
 
@@ -183,7 +183,7 @@ fn read_text(
     *place = reading.place;
     let answer = reading.answer;
     match answer {
-        Written::Bytes(size) => {
+        Ok(size) => {
             let found = reading.name;
             let bytes = found.bytes;
             *name = bytes;
@@ -191,7 +191,7 @@ fn read_text(
             *length = size;
             ACCEPTED
         }
-        Written::Refused(r) => refusal::number(r),
+        Err(r) => refusal::number(r),
     }
 }
 
@@ -261,12 +261,12 @@ pub extern "C" fn flugremio_identity_file(
     let reading = identity_file::read(text, faults, out);
     let answer = reading.answer;
     match answer {
-        Written::Bytes(n) => {
+        Ok(n) => {
             *keys = reading.keys;
             *invalid = reading.invalid;
             *length = n;
             ACCEPTED
         }
-        Written::Refused(r) => refusal::number(r),
+        Err(r) => refusal::number(r),
     }
 }

@@ -7,7 +7,6 @@ ghost use Rattle.std.specs.Prelude.{◌≡◌, ◌≤◌, length};
 mod report;
 
 use identity_file::{MOST_FAULTS, Reading};
-use refusal::Written;
 use report::report;
 use std::io::Read;
 
@@ -69,7 +68,7 @@ fn read_full(stdin: &mut impl Read, text: &mut [u8]) -> usize
 fn print(rt: &(impl Print + Eprint), reading: Reading, out: &[u8]) -> bool {
     let answer = reading.answer;
     match answer {
-        Written::Bytes(size) => {
+        Ok(size) => {
             if out.len() < size {
                 return false;
             }
@@ -78,7 +77,7 @@ fn print(rt: &(impl Print + Eprint), reading: Reading, out: &[u8]) -> bool {
             }
             true
         }
-        Written::Refused(_) => {
+        Err(_) => {
             let _ = eprintln!(rt; "identities: 8, more than 64 identities; nothing written");
             false
         }

@@ -1,30 +1,30 @@
 // An identity file read: what it holds is judged first, then the commands are written.
-ghost use Rattle.std.specs.Prelude.{◌≡◌};
+ghost use Rattle.std.specs.Prelude.{◌≡◌, Err};
 ghost use Rattle.refusal.specs.Output.{said};
 ghost use Rattle.identity_file.specs.Files.{file_answer, file_buffer, keys_given, faults_given, faults_listed};
 
 use crate::survey::survey;
 use crate::writing::{put_transcript, transcript_size};
 use crate::{MOST_FAULTS, MOST_IDENTITIES};
-use refusal::{Refusal, Written};
+use refusal::Refusal;
 
 // What a file gives: how many bytes the commands at the buffer's front have, or 8 or 15; how many secret keys were skipped, and how many lines
 // are invalid; none where refused.
 #[derive(Clone, Copy)]
 pub struct Reading {
-    pub answer: Written,
+    pub answer: Result<usize, Refusal>,
     pub keys: usize,
     pub invalid: usize,
 }
 
 // A refusal, with nothing counted.
 fn refused(r: Refusal) -> Reading
-    ensures answer { result.answer ≡ Written.Refused r }
+    ensures answer { result.answer ≡ Err r }
     ensures keys { result.keys ≡ 0 }
     ensures invalid { result.invalid ≡ 0 }
 {
     Reading {
-        answer: Written::Refused(r),
+        answer: Err(r),
         keys: 0,
         invalid: 0,
     }
@@ -53,7 +53,7 @@ pub fn read(text: &[u8], faults: &mut [[usize; 2]; MOST_FAULTS], out: &mut [u8])
     put_transcript(text, &places, n, out);
     *faults = found;
     Reading {
-        answer: Written::Bytes(size),
+        answer: Ok(size),
         keys: t.keys,
         invalid: t.invalid,
     }

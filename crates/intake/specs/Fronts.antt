@@ -1,5 +1,5 @@
 -- A chunk's front: what it does to a stanza that is unfinished, and the answer where it does not end it.
-use Rattle.std.specs.Prelude.{ℕ, ◌<◌, ◌≡◌, Bool, true, false, List, [], ◌∷◌, ◌++◌, eqb, take, drop}
+use Rattle.std.specs.Prelude.{ℕ, ◌<◌, ◌≡◌, Bool, true, false, List, [], ◌∷◌, ◌++◌, eqb, take, drop, Option, Some, None}
 use Rattle.refusal.specs.Output.{filled}
 use Rattle.refusal.specs.Pick.{pick}
 use Rattle.stanza.specs.Resuming.{Continued, whole, unfinished, refused, continued, place_said}
@@ -11,8 +11,6 @@ use Rattle.chunks.specs.Taking.{End, Turn, reads, drops, keeps_back}
 use Rattle.chunks.specs.Chunks.{chunked}
 use Rattle.intake.specs.Intake.{intake_of, stored_in, received_said}
 use Rattle.intake.specs.declared.answers.Received.{Received as CodeReceived}
-use Rattle.intake.specs.declared.keeping.OneByte.{OneByte as CodeOneByte}
-use Rattle.intake.specs.declared.keeping.OneByte.TheVariants as the_byte
 
 -- no stanza is unfinished
 abbrev pub is_between : Place → ℕ → Bool
@@ -46,15 +44,15 @@ input_behind (unfinished q) n x o = take n o ++ filled x (drop n o)
 input_behind (refused m) n x o = o
 
 -- what is said of a byte b within the arguments or a body line: the stanza goes on with it
-abbrev pub WithinSays : Place → ℕ → CodeOneByte → Type 0
-WithinSays p b (the_byte.GoesOn q) = (n : ℕ) → n < 8191 → front_of p n (b ∷ []) ≡ unfinished (place_said q)
-WithinSays p b the_byte.Else = Unit {0}
+abbrev pub WithinSays : Place → ℕ → Option Place → Type 0
+WithinSays p b (Some q) = (n : ℕ) → n < 8191 → front_of p n (b ∷ []) ≡ unfinished (place_said q)
+WithinSays p b None = Unit {0}
 
 -- what is said of a chunk of one byte: the stanza goes on with it and it is kept; or nothing is done
-abbrev pub OneByteSays : Turn → Place → ℕ → List ℕ → List ℕ → List ℕ → CodeOneByte → Type 0
-OneByteSays t p n x before after (the_byte.GoesOn q) =
+abbrev pub OneByteSays : Turn → Place → ℕ → List ℕ → List ℕ → List ℕ → Option Place → Type 0
+OneByteSays t p n x before after (Some q) =
     (t ≡ reads) × (front_of p n x ≡ unfinished (place_said q)) × (after ≡ input_behind (unfinished (place_said q)) n x before)
-OneByteSays t p n x before after the_byte.Else = after ≡ before
+OneByteSays t p n x before after None = after ≡ before
 
 -- the answer to a chunk is the call's, and the input has what its session keeps
 pub record Answered (e : End) (s : CodeSession) (chunk : List ℕ) (r : CodeReceived) (xs hs : List (List ℕ)) (before after : List ℕ) (b : Buffers) (out : List ℕ) : Type 0 where

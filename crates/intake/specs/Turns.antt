@@ -1,16 +1,17 @@
 -- What the code's answers about turns stand for.
+use Rattle.std.specs.Prelude.{Result, Ok, Err}
 use Rattle.refusal.specs.Number.{number_of}
 use Rattle.conversation.specs.TurnsTwo.{Due, due, undue}
 use Rattle.chunks.specs.Taking.{Turn, reads, drops, keeps_back}
-use Rattle.intake.specs.declared.turns.Due.{Due as CodeDue}
-use Rattle.intake.specs.declared.turns.Due.TheVariants as the_due
 use Rattle.intake.specs.declared.turns.Turn.{Turn as CodeTurn}
 use Rattle.intake.specs.declared.turns.Turn.TheVariants as the_turn
+use Rattle.refusal.specs.declared.Refusal.{Refusal}
+use Rattle.session.specs.declared.words.WordTwo.{WordTwo}
 
 -- the command that awaits an answer, or the number
-abbrev pub due_said : CodeDue → Due
-due_said (the_due.Command w) = due w
-due_said (the_due.Refused r) = undue (number_of r)
+abbrev pub due_said : Result WordTwo Refusal → Due
+due_said (Ok w) = due w
+due_said (Err r) = undue (number_of r)
 
 -- what becomes of bytes that are left
 abbrev pub turn_said : CodeTurn → Turn

@@ -9,7 +9,7 @@ ghost use Rattle.intake.specs.Intake.{intake_of, received_said};
 ghost use Rattle.intake.specs.Fronts.{front_of, Answered};
 
 use phase_one::WordOne;
-use refusal::{Refusal, Verdict};
+use refusal::Refusal;
 use responses::Response;
 use session::{Phase, Session, WordTwo};
 use stanza::Place;
@@ -26,7 +26,7 @@ pub enum Last {
 // Accepted or refused; how many stanzas were taken all the same, which was the last, and how many bytes were written; and the session.
 #[derive(Clone, Copy)]
 pub struct Received {
-    pub verdict: Verdict,
+    pub verdict: Result<(), Refusal>,
     pub count: usize,
     pub last: Last,
     pub written: usize,
@@ -35,7 +35,7 @@ pub struct Received {
 
 impl Received {
     // The same behind what stands behind the stanzas: another verdict and session.
-    pub(crate) fn settled(self, verdict: Verdict, session: Session) -> Received
+    pub(crate) fn settled(self, verdict: Result<(), Refusal>, session: Session) -> Received
         ensures { result ≡ record {
           verdict = verdict;
           count = self.count;
@@ -62,7 +62,7 @@ pub fn leave(session: Session, refusal: Refusal) -> Received
     ensures name { result.session.name ≡ session.name }
 {
     Received {
-        verdict: Verdict::Refused(refusal),
+        verdict: Err(refusal),
         count: 0,
         last: Last::Nothing,
         written: 0,
@@ -79,7 +79,7 @@ pub fn close(session: Session, refusal: Refusal) -> Received
 {
     let shut = session.moved(Phase::Closed, session.tables);
     Received {
-        verdict: Verdict::Refused(refusal),
+        verdict: Err(refusal),
         count: 0,
         last: Last::Nothing,
         written: 0,

@@ -13,7 +13,7 @@ ghost use Rattle.intake.specs.Fronts.{is_between, is_reading, front_of, front_in
 
 use crate::answers::{Last, Received};
 use crate::turns::Turn;
-use refusal::{Refusal, Verdict};
+use refusal::Refusal;
 use session::{Phase, Session};
 use stanza::{Continued, Place};
 
@@ -57,70 +57,63 @@ fn is_between(reading: Place, kept: usize) -> bool
     }
 }
 
-// What a byte does to an unfinished stanza: it goes on, or anything else.
-#[derive(Clone, Copy)]
-pub enum OneByte {
-    GoesOn(Place),
-    Else,
-}
-
 // A byte within the arguments or a body line, where most stand.
-fn read_within(reading: Place, b: u8) -> OneByte
+fn read_within(reading: Place, b: u8) -> Option<Place>
     ensures { WithinSays reading b result }
 {
     match reading {
         Place::Gap => {
             if stanza::is_graphic(b) {
-                return OneByte::GoesOn(Place::Word);
+                return Some(Place::Word);
             }
-            OneByte::Else
+            None
         }
         Place::Word => {
             if stanza::is_graphic(b) {
-                return OneByte::GoesOn(Place::Word);
+                return Some(Place::Word);
             }
             if b == b' ' {
-                return OneByte::GoesOn(Place::Gap);
+                return Some(Place::Gap);
             }
-            OneByte::Else
+            None
         }
         Place::Line(k, _) => {
             if k < strict_base64::LINE_CHARACTERS && strict_base64::is_character(b) {
-                return OneByte::GoesOn(Place::Line(k + 1, b));
+                return Some(Place::Line(k + 1, b));
             }
-            OneByte::Else
+            None
         }
-        Place::Start => OneByte::Else,
-        Place::Hyphen => OneByte::Else,
-        Place::Arrow => OneByte::Else,
-        Place::Ended => OneByte::Else,
-        Place::Dead => OneByte::Else,
+        Place::Start => None,
+        Place::Hyphen => None,
+        Place::Arrow => None,
+        Place::Ended => None,
+        Place::Dead => None,
     }
 }
 
 // A chunk of one byte, read on without a loop: within the arguments or a body line the byte is kept behind the stanza's front. Else nothing is done.
-pub fn read_one(turn: Turn, reading: Place, kept: usize, chunk: &[u8], input: &mut [u8]) -> OneByte
+pub fn read_one(turn: Turn, reading: Place, kept: usize, chunk: &[u8], input: &mut [u8]) -> Option<Place>
     ensures { OneByteSays (turn_said turn) reading (min kept 8191) chunk.now input.old input.new result }
 {
     if !is_reading(turn) {
-        return OneByte::Else;
+        return None;
     }
     if chunk.len() != 1 {
-        return OneByte::Else;
+        return None;
     }
     if MOST_UNFINISHED <= kept {
-        return OneByte::Else;
+        return None;
     }
     if input.len() <= kept {
-        return OneByte::Else;
+        return None;
     }
     let b = chunk[0];
     let within = read_within(reading, b);
-    let OneByte::GoesOn(place) = within else {
-        return OneByte::Else;
+    let Some(place) = within else {
+        return None;
     };
     input[kept] = b;
-    OneByte::GoesOn(place)
+    Some(place)
 }
 
 // Whether bytes that come are read.
@@ -183,7 +176,7 @@ pub fn keep_on(session: Session, place: Place, chunk: &[u8]) -> Received
     let kept = kept_of(session.kept);
     let came = chunk.len();
     Received {
-        verdict: Verdict::Accepted,
+        verdict: Ok(()),
         count: 0,
         last: Last::Nothing,
         written: 0,
@@ -222,19 +215,19 @@ fn settle_read(so_far: Received, rest: &[u8], input: &mut [u8]) -> Received
 {
     let session = so_far.session;
     if rest.len() == 0 {
-        return so_far.settled(Verdict::Accepted, session.keeping(Place::Start, 0, 0));
+        return so_far.settled(Ok(()), session.keeping(Place::Start, 0, 0));
     }
     let continued = read_more(Place::Start, 0, rest, input);
     match continued {
         Continued::Whole(_) => {
-            so_far.settled(Verdict::Accepted, session.keeping(Place::Start, 0, 0))
+            so_far.settled(Ok(()), session.keeping(Place::Start, 0, 0))
         }
         Continued::Unfinished(place) => {
-            so_far.settled(Verdict::Accepted, session.keeping(place, rest.len(), 0))
+            so_far.settled(Ok(()), session.keeping(place, rest.len(), 0))
         }
         Continued::Refused(r) => {
             let shut = session.moved(Phase::Closed, session.tables);
-            so_far.settled(Verdict::Refused(r), shut.keeping(Place::Start, 0, 0))
+            so_far.settled(Err(r), shut.keeping(Place::Start, 0, 0))
         }
     }
 }
@@ -250,9 +243,9 @@ fn settle_dropped(so_far: Received, refusal: Refusal, left: usize) -> Received
     let session = so_far.session;
     let emptied = session.keeping(Place::Start, 0, 0);
     if left == 0 {
-        return so_far.settled(Verdict::Accepted, emptied);
+        return so_far.settled(Ok(()), emptied);
     }
-    so_far.settled(Verdict::Refused(refusal), emptied)
+    so_far.settled(Err(refusal), emptied)
 }
 
 // Bytes are kept back behind the text that waits.
@@ -268,7 +261,7 @@ fn settle_back(so_far: Received, awaited: &[u8], rest: &[u8], input: &mut [u8]) 
     stanza::copy(awaited, input);
     copy_behind(rest, n, input);
     so_far.settled(
-        Verdict::Accepted,
+        Ok(()),
         session.keeping(Place::Start, rest.len(), n),
     )
 }

@@ -8,5 +8,5 @@ mod keeping;
 mod turns;
 
 pub use answers::{Last, Received, close, leave};
-pub use keeping::{OneByte, keep_on, kept_of, read_front, read_one, settle};
-pub use turns::{Due, Turn, answer_due, finish, turn_client, turn_plugin};
+pub use keeping::{keep_on, kept_of, read_front, read_one, settle};
+pub use turns::{Turn, answer_due, finish, turn_client, turn_plugin};

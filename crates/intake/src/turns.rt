@@ -6,25 +6,18 @@ ghost use Rattle.chunks.specs.Taking.{client, plugin, turn_at};
 ghost use Rattle.chunks.specs.Chunks.{finished};
 ghost use Rattle.intake.specs.Turns.{due_said, turn_said};
 
-use refusal::{Refusal, Verdict};
+use refusal::Refusal;
 use session::{Phase, Session, WordTwo};
 
-// Whether an answer is due: the command that awaits it; or 13 where the session is closed or has ended, 14 where nothing is awaited.
-#[derive(Clone, Copy)]
-pub enum Due {
-    Command(WordTwo),
-    Refused(Refusal),
-}
-
-pub fn answer_due(phase: Phase) -> Due
+pub fn answer_due(phase: Phase) -> Result<WordTwo, Refusal>
     ensures { due_said result ≡ due_in phase }
 {
     match phase {
-        Phase::One => Due::Refused(Refusal::OutOfTurn),
-        Phase::Two => Due::Refused(Refusal::OutOfTurn),
-        Phase::Awaiting(word) => Due::Command(word),
-        Phase::Ended => Due::Refused(Refusal::SessionOver),
-        Phase::Closed => Due::Refused(Refusal::SessionOver),
+        Phase::One => Err(Refusal::OutOfTurn),
+        Phase::Two => Err(Refusal::OutOfTurn),
+        Phase::Awaiting(word) => Ok(word),
+        Phase::Ended => Err(Refusal::SessionOver),
+        Phase::Closed => Err(Refusal::SessionOver),
     }
 }
 
@@ -63,15 +56,15 @@ pub fn turn_plugin(phase: Phase) -> Turn
 }
 
 // The input has ended: accepted behind the last done, 13 in a closed session, else 2. The session goes on as if this had not been asked.
-pub fn finish(session: Session) -> Verdict
+pub fn finish(session: Session) -> Result<(), Refusal>
     ensures { verdict_said result ≡ finished session.phase }
 {
     let phase = session.phase;
     match phase {
-        Phase::One => Verdict::Refused(Refusal::Unfinished),
-        Phase::Two => Verdict::Refused(Refusal::Unfinished),
-        Phase::Awaiting(_) => Verdict::Refused(Refusal::Unfinished),
-        Phase::Ended => Verdict::Accepted,
-        Phase::Closed => Verdict::Refused(Refusal::SessionOver),
+        Phase::One => Err(Refusal::Unfinished),
+        Phase::Two => Err(Refusal::Unfinished),
+        Phase::Awaiting(_) => Err(Refusal::Unfinished),
+        Phase::Ended => Ok(()),
+        Phase::Closed => Err(Refusal::SessionOver),
     }
 }

@@ -6,7 +6,7 @@ mod input;
 mod output;
 
 use input::read_chunk;
-use judging::{Judged, Judging, Progress};
+use judging::{Judged, Judging};
 use output::print;
 use session::Session;
 use std::io::Read;
@@ -111,11 +111,11 @@ fn run_turn(
     );
     let progress = after.progress;
     match progress {
-        Progress::GoesOn => State {
+        None => State {
             judging: after,
             more: true,
         },
-        Progress::Stopped(_) => State {
+        Some(_) => State {
             judging: after,
             more: false,
         },

@@ -1,5 +1,5 @@
 -- What the code's values stand for.
-use Rattle.std.specs.Prelude.{ℕ, List, []}
+use Rattle.std.specs.Prelude.{ℕ, List, [], Option, Some, None}
 use Rattle.phase_one.specs.PhaseOne as one
 use Rattle.conversation.specs.Kinds.{Buffers}
 use Rattle.conversation.specs.PhaseTwo.{BuffersTwo}
@@ -7,8 +7,6 @@ use Rattle.chunks.specs.Taking.{plugin, Intake}
 use Rattle.intake.specs.Intake.{intake_of}
 use Rattle.judging.specs.Judging.{Judged, Standing, going, stopped, State}
 use Rattle.judging.specs.declared.Judged.{Judged as CodeJudged}
-use Rattle.judging.specs.declared.Progress.{Progress}
-use Rattle.judging.specs.declared.Progress.TheVariants as the
 use Rattle.judging.specs.declared.Judging.{Judging}
 
 -- the five numbers
@@ -16,9 +14,9 @@ abbrev pub judged_said : CodeJudged → Judged
 judged_said x = record { recipients = x.recipients; identities = x.identities; keys = x.keys; headers = x.headers; answer = x.answer }
 
 -- where judging stands, by its progress and what its session keeps
-abbrev pub standing_in : Progress → Intake → Standing
-standing_in the.GoesOn i = going i
-standing_in (the.Stopped x) i = stopped (judged_said x)
+abbrev pub standing_in : Option CodeJudged → Intake → Standing
+standing_in None i = going i
+standing_in (Some x) i = stopped (judged_said x)
 
 -- the same of the code's value, with the slots of six kinds, those of the header stanzas and the lent input
 abbrev pub standing_of : Judging → List (List ℕ) → List (List ℕ) → List ℕ → Standing

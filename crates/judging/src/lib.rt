@@ -12,7 +12,7 @@ ghost use Rattle.intake.specs.Intake.{intake_of};
 ghost use Rattle.judging.specs.Judging.{counted, going, behind_phase, judged_from, start, judged_text, numbers_of};
 ghost use Rattle.judging.specs.Said.{judged_said, standing_in, standing_of, buffers_in, state_said};
 
-use refusal::{Refusal, Verdict};
+use refusal::Refusal;
 use session::{Phase, Session, Tables};
 
 // What the judging program writes: how many entries each kind has, and the answer, 0 behind done, else the number of the refusal.
@@ -25,18 +25,11 @@ pub struct Judged {
     pub answer: u8,
 }
 
-// Judging goes on, or has stopped at done or a refusal.
-#[derive(Clone, Copy)]
-pub enum Progress {
-    GoesOn,
-    Stopped(Judged),
-}
-
 // Where judging stands.
 #[derive(Clone, Copy)]
 pub struct Judging {
     pub session: Session,
-    pub progress: Progress,
+    pub progress: Option<Judged>,
 }
 
 // The counts of tables, and an answer.
@@ -53,17 +46,17 @@ fn count(tables: Tables, answer: u8) -> Judged
 }
 
 // Where judging stands behind a chunk, by the session and the verdict.
-fn behind_chunk(session: Session, verdict: Verdict) -> Progress
+fn behind_chunk(session: Session, verdict: Result<(), Refusal>) -> Option<Judged>
     ensures { (xs hs : List (List ℕ)) (input : List ℕ) →
         standing_in result (intake_of plugin session xs hs input) ≡ behind_phase session.phase (verdict_said verdict) (intake_of plugin session xs hs input) }
 {
     let phase = session.phase;
     match phase {
-        Phase::One => Progress::GoesOn,
-        Phase::Two => Progress::Stopped(count(session.tables, 0)),
-        Phase::Awaiting(_) => Progress::Stopped(count(session.tables, 0)),
-        Phase::Ended => Progress::Stopped(count(session.tables, 0)),
-        Phase::Closed => Progress::Stopped(count(session.tables, refusal::verdict_number(verdict))),
+        Phase::One => None,
+        Phase::Two => Some(count(session.tables, 0)),
+        Phase::Awaiting(_) => Some(count(session.tables, 0)),
+        Phase::Ended => Some(count(session.tables, 0)),
+        Phase::Closed => Some(count(session.tables, refusal::verdict_number(verdict))),
     }
 }
 
@@ -77,7 +70,7 @@ impl Judging {
         let session = opening.session;
         Judging {
             session: session,
-            progress: Progress::GoesOn,
+            progress: None,
         }
     }
 
@@ -101,8 +94,8 @@ impl Judging {
         let progress = self.progress;
         let session = self.session;
         match progress {
-            Progress::Stopped(_) => self,
-            Progress::GoesOn => {
+            Some(_) => self,
+            None => {
                 let mut headers = [0u8; 0];
                 let mut out = [0u8; 0];
                 let received = plugin_receiving::receive(
@@ -134,8 +127,8 @@ impl Judging {
         let progress = self.progress;
         let session = self.session;
         match progress {
-            Progress::Stopped(x) => x,
-            Progress::GoesOn => count(
+            Some(x) => x,
+            None => count(
                 session.tables,
                 refusal::verdict_number(intake::finish(session)),
             ),

@@ -1,7 +1,7 @@
 -- Look-up for a host: an entry by kind and number (document 01, "Phase one": "Any caller may ask for an entry by kind (recipient or identity) and number"); which
 -- command awaits an answer; and, where its conversation has ended, what phase two brought: errors by number; "Returned stanzas are numbered from 0 within their
 -- file and keys go by file" (document 01, "Phase two").
-use Rattle.std.specs.Prelude.{ℕ, zero, suc, ◌-◌, ◌<◌, ◌≤◌, ◌≡◌, Bool, List, [], ◌∷◌, ◌⊎◌, ◌↔◌, eqb, length}
+use Rattle.std.specs.Prelude.{ℕ, zero, suc, ◌-◌, ◌<◌, ◌≤◌, ◌≡◌, Bool, List, [], ◌∷◌, ◌⊎◌, ◌↔◌, eqb, length, Option, Some, None}
 use Rattle.refusal.specs.Pick.{pick}
 use Rattle.bech32.specs.declared.TextKind.{TextKind}
 use Rattle.bech32.specs.declared.TextKind.TheVariants as the_text
@@ -15,8 +15,6 @@ use Rattle.session.specs.declared.phases.Phase.TheVariants.{One, Two, Awaiting, 
 use Rattle.conversation.specs.CommandsTwo.{Named, internal, identity, recipient, header, text_of_word}
 use Rattle.conversation.specs.Kinds.{of_file}
 use Rattle.conversation.specs.PhaseTwo.{Label, labels, is_file}
-use Rattle.look_up.specs.declared.look_up.Awaited.{Awaited}
-use Rattle.look_up.specs.declared.look_up.Awaited.TheVariants as the_awaited
 use Rattle.look_up.specs.declared.look_up.ErrorNamed.{ErrorNamed}
 use Rattle.look_up.specs.declared.look_up.ErrorNamed.TheVariants as the
 
@@ -40,9 +38,9 @@ entry_text t the_text.Identity n recipients identities = shown (found t.identiti
 -- ---- the command that awaits an answer, if any
 
 -- what the code's answer stands for: the text of the command's word, or none
-abbrev pub awaited_said : Awaited → List (List ℕ)
-awaited_said (the_awaited.Command w) = text_of_word w ∷ []
-awaited_said the_awaited.Nothing = []
+abbrev pub awaited_said : Option WordTwo → List (List ℕ)
+awaited_said (Some w) = text_of_word w ∷ []
+awaited_said None = []
 
 -- in a phase
 abbrev pub awaited_in : Phase → List (List ℕ)
@@ -55,12 +53,12 @@ awaited_in Closed = []
 -- ---- "what the k-th error names, by value": the entry's mark says which kind, its index which number
 
 -- what the code's answer stands for: what the error names, "internal; identity i; recipient i; stanza f i", or no such error
-abbrev pub name_said : ErrorNamed → List Named
-name_said the.Internal = internal ∷ []
-name_said (the.Identity i) = identity i ∷ []
-name_said (the.Recipient i) = recipient i ∷ []
-name_said (the.Header f i) = header f i ∷ []
-name_said the.Nothing = []
+abbrev pub name_said : Option ErrorNamed → List Named
+name_said (Some the.Internal) = internal ∷ []
+name_said (Some (the.Identity i)) = identity i ∷ []
+name_said (Some (the.Recipient i)) = recipient i ∷ []
+name_said (Some (the.Header f i)) = header f i ∷ []
+name_said None = []
 
 -- by the marks that an error is stored with: from 3 on, a header stanza's, with its file
 abbrev pub named_by : Entry → List Named

@@ -1,6 +1,6 @@
 // Look-up for a host: what stands at a number of a kind's table; which command awaits an answer; errors by number; returned stanzas and keys by file. A table's
 // count is its field.
-ghost use Rattle.std.specs.Prelude.{◌≡◌, List, ℕ};
+ghost use Rattle.std.specs.Prelude.{◌≡◌, List, ℕ, Some};
 ghost use Rattle.tables.specs.Tables.{table_in, found_said, found as found_in};
 ghost use Rattle.session.specs.Tables.{tables_in};
 ghost use Rattle.conversation.specs.PhaseTwo.{labels, is_file, stanzas_for, has_key};
@@ -9,7 +9,7 @@ ghost use Rattle.look_up.specs.LookUp.{table_of, entry_text, awaited_said, await
 use crate::entries::{count_entries, count_file, has_file};
 use bech32::TextKind;
 use session::{Kind, Mark, Phase, Tables, WordTwo, span_of};
-use tables::{Entry, Found, Span, Table, entry_at, payload};
+use tables::{Entry, Span, Table, entry_at, payload};
 
 // What stands at a number of a kind's table.
 pub fn find(
@@ -18,7 +18,7 @@ pub fn find(
     n: usize,
     slots: &[[usize; 4]],
     header_slots: &[[usize; 4]],
-) -> Found
+) -> Option<Entry>
     ensures { found_said result ≡ found_in (table_of kind (tables_in tables slots.now header_slots.now)) n }
 {
     let span = span_of(kind);
@@ -57,34 +57,26 @@ pub fn entry<'a>(
     }
 }
 
-// What awaits an answer: a command, or nothing.
-#[derive(Clone, Copy)]
-pub enum Awaited {
-    Command(WordTwo),
-    Nothing,
-}
-
 // Which command awaits an answer.
-pub fn awaited_command(phase: Phase) -> Awaited
+pub fn awaited_command(phase: Phase) -> Option<WordTwo>
     ensures { awaited_said result ≡ awaited_in phase }
 {
     match phase {
-        Phase::One => Awaited::Nothing,
-        Phase::Two => Awaited::Nothing,
-        Phase::Awaiting(word) => Awaited::Command(word),
-        Phase::Ended => Awaited::Nothing,
-        Phase::Closed => Awaited::Nothing,
+        Phase::One => None,
+        Phase::Two => None,
+        Phase::Awaiting(word) => Some(word),
+        Phase::Ended => None,
+        Phase::Closed => None,
     }
 }
 
-// What an error names: nothing, an identity, a recipient, or of a file a header stanza; or there is no such error.
+// What an error names: nothing, an identity, a recipient, or of a file a header stanza.
 #[derive(Clone, Copy)]
 pub enum ErrorNamed {
     Internal,
     Identity(usize),
     Recipient(usize),
     Header(usize, usize),
-    Nothing,
 }
 
 // How many errors there are.
@@ -110,7 +102,7 @@ pub fn has_key(tables: Tables, file: usize, slots: &[[usize; 4]]) -> bool
 
 // What an error names, by its mark and its index.
 fn named_by(e: Entry) -> ErrorNamed
-    ensures { name_said result ≡ named_by e }
+    ensures { name_said (Some result) ≡ named_by e }
 {
     let mark = e.mark;
     let index = e.index;
@@ -127,13 +119,13 @@ fn named_by(e: Entry) -> ErrorNamed
 }
 
 // What the k-th error names; of a header stanza its file, and its number there.
-pub fn error_named(tables: Tables, k: usize, slots: &[[usize; 4]]) -> ErrorNamed
+pub fn error_named(tables: Tables, k: usize, slots: &[[usize; 4]]) -> Option<ErrorNamed>
     ensures { (hs : List (List ℕ)) → name_said result ≡ error_named (tables_in tables slots.now hs) k }
 {
     let error = tables.errors.find(span_of(Kind::Errors), k, slots);
     match error {
-        Found::Nothing => ErrorNamed::Nothing,
-        Found::Entry(e) => named_by(e),
+        None => None,
+        Some(e) => Some(named_by(e)),
     }
 }
 

@@ -5,9 +5,8 @@ ghost use Rattle.stanza.specs.Arguments.{count_of};
 ghost use Rattle.phase_one.specs.Commands.{word_said, word_in, after_space, rest_of, text_command, header_command, command, command_said, word_of, line_sent};
 
 use bech32::TextKind;
-use refusal::{Refusal, Written};
+use refusal::Refusal;
 use session::Machine;
-use stanza::Index;
 
 // The words of phase one, compared with a command's first argument and written where an end sends.
 const ADD_RECIPIENT: [u8; 13] = *b"add-recipient";
@@ -136,8 +135,8 @@ fn parse_header(line: &[u8], body: usize) -> CommandOne
     let text = stanza::argument(line, 1);
     let index = stanza::read_index(text);
     match index {
-        Index::Number(n) => CommandOne::Header(n),
-        Index::Refused(r) => CommandOne::Refused(r),
+        Ok(n) => CommandOne::Header(n),
+        Err(r) => CommandOne::Refused(r),
     }
 }
 
@@ -194,7 +193,7 @@ pub fn word_of(command: CommandOne) -> WordOne
 
 // The arguments' text of a command that is sent, at the front of `out`: how many bytes, or 15 and nothing written. Any other word stands first in
 // `arguments`.
-pub fn put_line(word: WordOne, arguments: &[u8], out: &mut [u8]) -> Written
+pub fn put_line(word: WordOne, arguments: &[u8], out: &mut [u8]) -> Result<usize, Refusal>
     ensures answer { said result ≡ answered (line_sent (word_said word) arguments.now) out.old }
     ensures buffer { out.new ≡ filled (line_sent (word_said word) arguments.now) out.old }
 {

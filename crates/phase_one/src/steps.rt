@@ -18,7 +18,7 @@ ghost use Rattle.phase_one.specs.PhaseOne.{falls, buffers_of, command_in, number
 use crate::commands::{CommandOne, parse_one, rest_of};
 use bech32::TextKind;
 use profile::Conformity;
-use refusal::{Refusal, Verdict};
+use refusal::Refusal;
 use session::{Kind, Machine, Mark, Session, Tables, span_of};
 use tables::{Coding, Span, Stored, Table, entry_at};
 
@@ -76,7 +76,7 @@ fn keep_text(
     table: Table,
     span: Span,
     plugin: &[u8],
-    late: Verdict,
+    late: Result<(), Refusal>,
     line: &[u8],
     slots: &mut [[usize; 4]],
     buffer: &mut [u8],
@@ -101,7 +101,7 @@ fn keep_text(
 fn keep_recipient(
     table: Table,
     plugin: &[u8],
-    late: Verdict,
+    late: Result<(), Refusal>,
     line: &[u8],
     slots: &mut [[usize; 4]],
     buffer: &mut [u8],
@@ -123,7 +123,7 @@ fn keep_recipient(
     let text = stanza::argument(line, 1);
     if table.is_repeated(span, text, slots, buffer) {
         return Stored {
-            verdict: Verdict::Refused(Refusal::Repeated),
+            verdict: Err(Refusal::Repeated),
             table: table,
         };
     }
@@ -143,7 +143,7 @@ fn keep_recipient(
 fn keep_header(
     table: Table,
     plugin: &[u8],
-    late: Verdict,
+    late: Result<(), Refusal>,
     line: &[u8],
     coding: Coding,
     source: &[u8],
@@ -167,7 +167,7 @@ fn keep_header(
 {
     if is_falling(table, index, slots) {
         return Stored {
-            verdict: Verdict::Refused(Refusal::FallingIndex),
+            verdict: Err(Refusal::FallingIndex),
             table: table,
         };
     }
@@ -190,7 +190,7 @@ fn keep_header(
 #[derive(Clone, Copy)]
 pub struct StepOne {
     pub command: CommandOne,
-    pub verdict: Verdict,
+    pub verdict: Result<(), Refusal>,
     pub tables: Tables,
 }
 
@@ -213,7 +213,7 @@ pub fn step_one(
     machine: Machine,
     plugin: &[u8],
     tables: Tables,
-    late: Verdict,
+    late: Result<(), Refusal>,
     line: &[u8],
     coding: Coding,
     source: &[u8],
@@ -296,7 +296,7 @@ pub fn step_one(
         },
         CommandOne::Refused(r) => StepOne {
             command: command,
-            verdict: Verdict::Refused(r),
+            verdict: Err(r),
             tables: tables,
         },
     }

@@ -5,19 +5,19 @@ ghost use Rattle.phase_one.specs.Commands.{command_said};
 ghost use Rattle.phase_one.specs.Turns.{turn_one, phase_after, phase_received, phase_sent};
 
 use crate::commands::CommandOne;
-use refusal::{Refusal, Verdict};
+use refusal::Refusal;
 use session::{Phase, phase_refused};
 
 // Whether it is the turn of a call of phase one: 13 where the session is closed or has ended, 14 in phase two.
-pub fn turn_one(phase: Phase) -> Verdict
+pub fn turn_one(phase: Phase) -> Result<(), Refusal>
     ensures { verdict_said result ≡ turn_one phase }
 {
     match phase {
-        Phase::One => Verdict::Accepted,
-        Phase::Two => Verdict::Refused(Refusal::OutOfTurn),
-        Phase::Awaiting(_) => Verdict::Refused(Refusal::OutOfTurn),
-        Phase::Ended => Verdict::Refused(Refusal::SessionOver),
-        Phase::Closed => Verdict::Refused(Refusal::SessionOver),
+        Phase::One => Ok(()),
+        Phase::Two => Err(Refusal::OutOfTurn),
+        Phase::Awaiting(_) => Err(Refusal::OutOfTurn),
+        Phase::Ended => Err(Refusal::SessionOver),
+        Phase::Closed => Err(Refusal::SessionOver),
     }
 }
 
@@ -37,21 +37,21 @@ fn phase_after(command: CommandOne) -> Phase
 }
 
 // The phase behind a command that was received in a phase.
-pub fn phase_received(phase: Phase, verdict: Verdict, command: CommandOne) -> Phase
+pub fn phase_received(phase: Phase, verdict: Result<(), Refusal>, command: CommandOne) -> Phase
     ensures { (plugin line : List ℕ) (n : ℕ) → result ≡ phase_received phase (verdict_said verdict) (command_said plugin line n command) }
 {
     match verdict {
-        Verdict::Accepted => phase_after(command),
-        Verdict::Refused(r) => phase_refused(phase, r),
+        Ok(()) => phase_after(command),
+        Err(r) => phase_refused(phase, r),
     }
 }
 
 // The phase behind a command that was sent in a phase: no refusal closes the session.
-pub fn phase_sent(phase: Phase, verdict: Verdict, command: CommandOne) -> Phase
+pub fn phase_sent(phase: Phase, verdict: Result<(), Refusal>, command: CommandOne) -> Phase
     ensures { (plugin line : List ℕ) (n : ℕ) → result ≡ phase_sent phase (verdict_said verdict) (command_said plugin line n command) }
 {
     match verdict {
-        Verdict::Accepted => phase_after(command),
-        Verdict::Refused(_) => phase,
+        Ok(()) => phase_after(command),
+        Err(_) => phase,
     }
 }

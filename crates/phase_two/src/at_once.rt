@@ -8,30 +8,23 @@ ghost use Rattle.phase_two.specs.AtOnce.{at_once_said};
 use phase_two_commands::CommandTwo;
 use responses::Response;
 
-// A response, or none.
-#[derive(Clone, Copy)]
-pub enum AtOnce {
-    Writes(Response),
-    Silent,
-}
-
 // What a client with or without a screen answers at once.
-pub fn answer_at_once(screen: bool, command: CommandTwo) -> AtOnce
+pub fn answer_at_once(screen: bool, command: CommandTwo) -> Option<Response>
     ensures { at_once_said result ≡ at_once screen (command_said command) }
 {
     match command {
         CommandTwo::Ask(_) => {
             if screen {
-                return AtOnce::Silent;
+                return None;
             }
-            AtOnce::Writes(Response::Fail)
+            Some(Response::Fail)
         }
-        CommandTwo::Stanza(_) => AtOnce::Writes(Response::Ok),
-        CommandTwo::Key(_) => AtOnce::Writes(Response::Ok),
-        CommandTwo::Error(_) => AtOnce::Writes(Response::Ok),
-        CommandTwo::Done => AtOnce::Silent,
-        CommandTwo::Other => AtOnce::Writes(Response::Unsupported),
-        CommandTwo::Refused(_) => AtOnce::Silent,
+        CommandTwo::Stanza(_) => Some(Response::Ok),
+        CommandTwo::Key(_) => Some(Response::Ok),
+        CommandTwo::Error(_) => Some(Response::Ok),
+        CommandTwo::Done => None,
+        CommandTwo::Other => Some(Response::Unsupported),
+        CommandTwo::Refused(_) => None,
     }
 }
 
@@ -73,21 +66,21 @@ fn write_bare(response: Response, out: &mut [u8])
 }
 
 // How many bytes it has.
-pub fn at_once_size(answer: AtOnce) -> usize
+pub fn at_once_size(answer: Option<Response>) -> usize
     ensures { result ≡ length (text_of (at_once_said answer)) }
 {
     match answer {
-        AtOnce::Writes(response) => size_of(response),
-        AtOnce::Silent => 0,
+        Some(response) => size_of(response),
+        None => 0,
     }
 }
 
 // Its text at the front of `out`; nothing where it is too short.
-pub fn write_at_once(answer: AtOnce, out: &mut [u8])
+pub fn write_at_once(answer: Option<Response>, out: &mut [u8])
     ensures { out.new ≡ filled (text_of (at_once_said answer)) out.old }
 {
     match answer {
-        AtOnce::Writes(response) => write_bare(response, out),
-        AtOnce::Silent => {}
+        Some(response) => write_bare(response, out),
+        None => {}
     }
 }

@@ -12,7 +12,7 @@ ghost use Rattle.phase_two.specs.Entering.{AreLong, Entered};
 use crate::steps::{StepTwo, index_of, mark_of, stepped};
 use phase_one::{rest_of, wide};
 use phase_two_commands::CommandTwo;
-use refusal::Verdict;
+use refusal::Refusal;
 use session::{Kind, Mark, Tables, span_of};
 use tables::{Coding, body_size};
 
@@ -37,8 +37,8 @@ pub fn payload_size(command: CommandTwo, line: &[u8], coding: Coding, source: &[
 // One command of phase two, by what the tables decide of it (`ruled`), how many bytes its payload has (`size`) and how many the buffers have. Where it is
 // refused tables and slots stay as they were. `late` is a fault that is looked for last.
 pub fn enter_two(
-    ruled: Verdict,
-    late: Verdict,
+    ruled: Result<(), Refusal>,
+    late: Result<(), Refusal>,
     tables: Tables,
     command: CommandTwo,
     size: usize,
@@ -52,11 +52,11 @@ pub fn enter_two(
         (tables_in result.tables slots.new hs) }
 {
     match ruled {
-        Verdict::Refused(_) => StepTwo {
+        Err(_) => StepTwo {
             verdict: ruled,
             tables: tables,
         },
-        Verdict::Accepted => enter(
+        Ok(()) => enter(
             late, tables, command, size, errors, stanzas, returned, slots,
         ),
     }
@@ -64,7 +64,7 @@ pub fn enter_two(
 
 // A command that the tables do not refuse: one entry of its kind more, where it fits and nothing is late.
 fn enter(
-    late: Verdict,
+    late: Result<(), Refusal>,
     tables: Tables,
     command: CommandTwo,
     size: usize,

@@ -7,7 +7,7 @@ mod entering;
 mod steps;
 mod turns;
 
-pub use at_once::{AtOnce, answer_at_once, at_once_size, write_at_once};
+pub use at_once::{answer_at_once, at_once_size, write_at_once};
 pub use entering::{enter_two, payload_size};
 pub use steps::{StepTwo, step_two};
 pub use turns::{phase_received_two, phase_sent_two, turn_two};

@@ -15,7 +15,7 @@ ghost use Rattle.phase_two.specs.Steps.{number_stepped};
 
 use phase_one::{rest_of, wide};
 use phase_two_commands::{CommandTwo, Named};
-use refusal::Verdict;
+use refusal::Refusal;
 use session::{Kind, Mark, Tables, span_of};
 use tables::{Coding, Stored, Table};
 
@@ -46,14 +46,14 @@ pub(crate) fn index_of(named: Named) -> usize
 // What a command of phase two came to: the number if it is refused, and the tables.
 #[derive(Clone, Copy)]
 pub struct StepTwo {
-    pub verdict: Verdict,
+    pub verdict: Result<(), Refusal>,
     pub tables: Tables,
 }
 
 // A returned stanza kept: its payload is its tag and arguments, an LF and its body. Nothing changes where it is refused.
 fn keep_stanza(
     table: Table,
-    late: Verdict,
+    late: Result<(), Refusal>,
     line: &[u8],
     coding: Coding,
     source: &[u8],
@@ -89,7 +89,7 @@ fn keep_stanza(
 // A returned file key kept.
 fn keep_key(
     table: Table,
-    late: Verdict,
+    late: Result<(), Refusal>,
     coding: Coding,
     source: &[u8],
     file: u32,
@@ -122,7 +122,7 @@ fn keep_key(
 // An error kept, with the number and the kind of what it names.
 fn keep_error(
     table: Table,
-    late: Verdict,
+    late: Result<(), Refusal>,
     coding: Coding,
     source: &[u8],
     named: Named,
@@ -168,8 +168,8 @@ pub(crate) fn stepped(tables: Tables, kind: Kind, stored: Stored) -> StepTwo
 // One command of phase two, by what the tables decide of it (`ruled`), its arguments' text and its body. Where it is refused tables, slots and buffers stay as
 // they were. `late` is a fault that is looked for last.
 pub fn step_two(
-    ruled: Verdict,
-    late: Verdict,
+    ruled: Result<(), Refusal>,
+    late: Result<(), Refusal>,
     tables: Tables,
     command: CommandTwo,
     line: &[u8],
@@ -200,11 +200,11 @@ pub fn step_two(
         (buffers_of errors.old stanzas.old returned.old) }
 {
     match ruled {
-        Verdict::Refused(_) => StepTwo {
+        Err(_) => StepTwo {
             verdict: ruled,
             tables: tables,
         },
-        Verdict::Accepted => keep(
+        Ok(()) => keep(
             late, tables, command, line, coding, source, slots, errors, stanzas, returned,
         ),
     }
@@ -212,7 +212,7 @@ pub fn step_two(
 
 // A command that the tables do not refuse: one entry of its kind more, where it fits and nothing is late.
 fn keep(
-    late: Verdict,
+    late: Result<(), Refusal>,
     tables: Tables,
     command: CommandTwo,
     line: &[u8],

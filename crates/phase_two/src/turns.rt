@@ -9,19 +9,19 @@ ghost use Rattle.conversation.specs.SendingTwo.{phase_sent};
 ghost use Rattle.phase_two_commands.specs.Commands.{command_said};
 
 use phase_two_commands::CommandTwo;
-use refusal::{Refusal, Verdict};
+use refusal::Refusal;
 use session::{Phase, WordTwo, phase_refused};
 
 // Whether it is the turn of a command of phase two: 13 where the session is closed or has ended, 14 in phase one or while an answer is due.
-pub fn turn_two(phase: Phase) -> Verdict
+pub fn turn_two(phase: Phase) -> Result<(), Refusal>
     ensures { verdict_said result ≡ turn_two phase }
 {
     match phase {
-        Phase::One => Verdict::Refused(Refusal::OutOfTurn),
-        Phase::Two => Verdict::Accepted,
-        Phase::Awaiting(_) => Verdict::Refused(Refusal::OutOfTurn),
-        Phase::Ended => Verdict::Refused(Refusal::SessionOver),
-        Phase::Closed => Verdict::Refused(Refusal::SessionOver),
+        Phase::One => Err(Refusal::OutOfTurn),
+        Phase::Two => Ok(()),
+        Phase::Awaiting(_) => Err(Refusal::OutOfTurn),
+        Phase::Ended => Err(Refusal::SessionOver),
+        Phase::Closed => Err(Refusal::SessionOver),
     }
 }
 
@@ -64,23 +64,23 @@ fn phase_spoken(command: CommandTwo) -> Phase
 pub fn phase_received_two(
     phase: Phase,
     screen: bool,
-    verdict: Verdict,
+    verdict: Result<(), Refusal>,
     command: CommandTwo,
 ) -> Phase
     ensures { result ≡ pick (eqb (verdict_said verdict) 0) (phase_received screen (command_said command)) (phase_refused phase (verdict_said verdict)) }
 {
     match verdict {
-        Verdict::Accepted => phase_taken(screen, command),
-        Verdict::Refused(r) => phase_refused(phase, r),
+        Ok(()) => phase_taken(screen, command),
+        Err(r) => phase_refused(phase, r),
     }
 }
 
 // The phase behind a command that was sent in a phase: no refusal closes the session.
-pub fn phase_sent_two(phase: Phase, verdict: Verdict, command: CommandTwo) -> Phase
+pub fn phase_sent_two(phase: Phase, verdict: Result<(), Refusal>, command: CommandTwo) -> Phase
     ensures { result ≡ pick (eqb (verdict_said verdict) 0) (phase_sent (command_said command)) phase }
 {
     match verdict {
-        Verdict::Accepted => phase_spoken(command),
-        Verdict::Refused(_) => phase,
+        Ok(()) => phase_spoken(command),
+        Err(_) => phase,
     }
 }

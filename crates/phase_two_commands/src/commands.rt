@@ -11,10 +11,8 @@ ghost use Rattle.conversation.specs.CommandsTwo.{work_word, word_two, are_labels
 ghost use Rattle.phase_two_commands.specs.Commands.{named_said, command_said, command_of, late_word, name_of};
 
 use bech32::TextKind;
-use refusal::{Refusal, Written};
+use refusal::Refusal;
 use session::{Machine, WordTwo};
-use stanza::Index;
-use strict_base64::Size;
 
 // The words of phase two, compared with a command's first argument and written where an end sends.
 const MSG: [u8; 3] = *b"msg";
@@ -121,8 +119,8 @@ fn is_base64(text: &[u8]) -> bool
 {
     let size = strict_base64::measure(text);
     match size {
-        Size::Bytes(_) => true,
-        Size::NotBase64 => false,
+        Some(_) => true,
+        None => false,
     }
 }
 
@@ -173,8 +171,8 @@ fn error_at(kind: TextKind, line: &[u8]) -> CommandTwo
     let text = stanza::argument(line, 2);
     let index = stanza::read_index(text);
     match index {
-        Index::Number(i) => CommandTwo::Error(name_of(kind, i)),
-        Index::Refused(r) => CommandTwo::Refused(r),
+        Ok(i) => CommandTwo::Error(name_of(kind, i)),
+        Err(r) => CommandTwo::Refused(r),
     }
 }
 
@@ -187,11 +185,11 @@ fn header_at(line: &[u8]) -> CommandTwo
     let file = stanza::read_index(first);
     let number = stanza::read_index(second);
     match file {
-        Index::Number(f) => match number {
-            Index::Number(i) => CommandTwo::Error(Named::Header(f, i)),
-            Index::Refused(r) => CommandTwo::Refused(r),
+        Ok(f) => match number {
+            Ok(i) => CommandTwo::Error(Named::Header(f, i)),
+            Err(r) => CommandTwo::Refused(r),
         },
-        Index::Refused(r) => CommandTwo::Refused(r),
+        Err(r) => CommandTwo::Refused(r),
     }
 }
 
@@ -258,8 +256,8 @@ fn parse_stanza(line: &[u8]) -> CommandTwo
     let text = stanza::argument(line, 1);
     let index = stanza::read_index(text);
     match index {
-        Index::Number(f) => CommandTwo::Stanza(f),
-        Index::Refused(r) => CommandTwo::Refused(r),
+        Ok(f) => CommandTwo::Stanza(f),
+        Err(r) => CommandTwo::Refused(r),
     }
 }
 
@@ -277,8 +275,8 @@ fn parse_key(line: &[u8], body: usize) -> CommandTwo
     let text = stanza::argument(line, 1);
     let index = stanza::read_index(text);
     match index {
-        Index::Number(f) => CommandTwo::Key(f),
-        Index::Refused(r) => CommandTwo::Refused(r),
+        Ok(f) => CommandTwo::Key(f),
+        Err(r) => CommandTwo::Refused(r),
     }
 }
 
@@ -331,7 +329,7 @@ pub fn word_two_of(command: CommandTwo) -> WordTwo
 
 // The arguments' text of a command that is sent, at the front of `out`: how many bytes, or 15 and nothing written. Any other word stands first in
 // `arguments`.
-pub fn put_line_two(word: WordTwo, arguments: &[u8], out: &mut [u8]) -> Written
+pub fn put_line_two(word: WordTwo, arguments: &[u8], out: &mut [u8]) -> Result<usize, Refusal>
     ensures answer { said result ≡ answered (line_sent word arguments.now) out.old }
     ensures buffer { out.new ≡ filled (line_sent word arguments.now) out.old }
 {

@@ -12,7 +12,7 @@ use crate::questions::{
 use look_up::{count_stanzas, has_file, has_key};
 use phase_one::wide;
 use phase_two_commands::{CommandTwo, Named};
-use refusal::{Refusal, Verdict};
+use refusal::Refusal;
 use session::{Kind, Mark, Tables, span_of};
 
 // Whether a number is not below a count.
@@ -204,17 +204,17 @@ fn is_held_back(
 }
 
 // 4 or 5, where the command was read so.
-fn fault_of(command: CommandTwo) -> Verdict
+fn fault_of(command: CommandTwo) -> Result<(), Refusal>
     ensures { verdict_said result ≡ fault_of (command_said command) }
 {
     match command {
-        CommandTwo::Refused(r) => Verdict::Refused(r),
-        CommandTwo::Stanza(_) => Verdict::Accepted,
-        CommandTwo::Key(_) => Verdict::Accepted,
-        CommandTwo::Error(_) => Verdict::Accepted,
-        CommandTwo::Ask(_) => Verdict::Accepted,
-        CommandTwo::Done => Verdict::Accepted,
-        CommandTwo::Other => Verdict::Accepted,
+        CommandTwo::Refused(r) => Err(r),
+        CommandTwo::Stanza(_) => Ok(()),
+        CommandTwo::Key(_) => Ok(()),
+        CommandTwo::Error(_) => Ok(()),
+        CommandTwo::Ask(_) => Ok(()),
+        CommandTwo::Done => Ok(()),
+        CommandTwo::Other => Ok(()),
     }
 }
 
@@ -241,27 +241,27 @@ pub fn rule_two(
     command: CommandTwo,
     slots: &[[usize; 4]],
     header_slots: &[[usize; 4]],
-) -> Verdict
+) -> Result<(), Refusal>
     ensures { verdict_said result ≡ ruled own (tables_in tables slots.now header_slots.now) (command_said command) }
 {
     let fault = fault_of(command);
-    if let Verdict::Refused(_) = fault {
+    if let Err(_) = fault {
         return fault;
     }
     if is_missing(tables, command, header_slots) {
-        return Verdict::Refused(Refusal::NoSuchIndex);
+        return Err(Refusal::NoSuchIndex);
     }
     if is_second_key(tables, command, slots) {
-        return Verdict::Refused(Refusal::SecondKey);
+        return Err(Refusal::SecondKey);
     }
     if is_too_many(tables, command, slots) {
-        return Verdict::Refused(Refusal::TooManyStanzas);
+        return Err(Refusal::TooManyStanzas);
     }
     if is_clashing(tables, command, slots) {
-        return Verdict::Refused(Refusal::WorkAndError);
+        return Err(Refusal::WorkAndError);
     }
     if is_held_by(own, tables, command, slots, header_slots) {
-        return Verdict::Refused(Refusal::HeldBack);
+        return Err(Refusal::HeldBack);
     }
-    Verdict::Accepted
+    Ok(())
 }

@@ -7,7 +7,6 @@ pub use look_up::{entry, find};
 pub use phase_one::WordOne;
 pub use plugin_receiving::receive;
 pub use plugin_sending::{Sent, send};
-pub use refusal::{Refusal, Verdict, Written, number};
+pub use refusal::{Refusal, number};
 pub use responses::Response;
 pub use session::{Kind, Mark, Opening, Phase, Session, WordTwo, front};
-pub use tables::Found;

@@ -1,5 +1,4 @@
 // Lines of standard output: a label, and what stands behind it. What standard output does not take is left out.
-use plugin::{Verdict, Written};
 
 pub fn print(stdout: &impl Print, label: &[u8], bytes: &[u8]) {
     let _ = stdout.write_all(label);
@@ -13,16 +12,16 @@ pub fn print_number(stdout: &impl Print, label: &[u8], n: usize) {
 }
 
 // As many of the first bytes as were written, or the refusal.
-pub fn print_written(stdout: &impl Print, label: &[u8], written: Written, bytes: &[u8]) {
+pub fn print_written(stdout: &impl Print, label: &[u8], written: Result<usize, Refusal>, bytes: &[u8]) {
     match written {
-        Written::Bytes(n) => print(stdout, label, plugin::front(bytes, n)),
-        Written::Refused(r) => print_number(stdout, b"refused: ", plugin::number(r) as usize),
+        Ok(n) => print(stdout, label, plugin::front(bytes, n)),
+        Err(r) => print_number(stdout, b"refused: ", plugin::number(r) as usize),
     }
 }
 
-pub fn print_verdict(stdout: &impl Print, label: &[u8], verdict: Verdict) {
+pub fn print_verdict(stdout: &impl Print, label: &[u8], verdict: Result<(), Refusal>) {
     match verdict {
-        Verdict::Accepted => print(stdout, label, b"accepted"),
-        Verdict::Refused(r) => print_number(stdout, label, plugin::number(r) as usize),
+        Ok(()) => print(stdout, label, b"accepted"),
+        Err(r) => print_number(stdout, label, plugin::number(r) as usize),
     }
 }

@@ -1,8 +1,7 @@
 -- The commands of a chunk in phase one, one by one from the left.
-use Rattle.std.specs.Prelude.{ℕ, ◌+◌, ◌≡◌, false, List, [], eqb}
+use Rattle.std.specs.Prelude.{ℕ, ◌+◌, ◌≡◌, false, List, [], eqb, Result, Ok, Err}
 use Rattle.refusal.specs.Pick.{pick}
 use Rattle.refusal.specs.Verdict.{verdict_said}
-use Rattle.refusal.specs.declared.Verdict.TheVariants as the_verdict
 use Rattle.stanza.specs.Reading.{Reading, refused}
 use Rattle.session.specs.Session.{session_of}
 use Rattle.session.specs.declared.phases.Phase.{Phase}
@@ -14,21 +13,21 @@ use Rattle.chunks.specs.Uncut.{is_waiting}
 use Rattle.intake.specs.Intake.{last_said}
 use Rattle.intake.specs.declared.answers.Last.TheVariants as the_last
 use Rattle.intake.specs.declared.answers.Received.{Received as CodeReceived}
-use Rattle.plugin_receiving.specs.declared.receiving.Taking.{Taking as CodeTaking}
-use Rattle.plugin_receiving.specs.declared.receiving.Taking.TheVariants as the
+use Rattle.refusal.specs.declared.Refusal.{Refusal}
+use Rattle.plugin_receiving.specs.declared.receiving.Taken.{Taken as CodeTaken}
 
 -- a session's answer before its chunk
 abbrev pub begun_by : CodeSession → CodeReceived
-begun_by s = record { verdict = the_verdict.Accepted; count = 0; last = the_last.Nothing; written = 0; session = s }
+begun_by s = record { verdict = Ok tt; count = 0; last = the_last.Nothing; written = 0; session = s }
 
 -- the next command of a text that reads so: none behind a refusal n, nor in another phase
 abbrev pub next_in : ℕ → Phase → Reading → Reading
 next_in n p q = pick (eqb n 0) (pick (eqb (turn_one p) 0) q (refused (turn_one p))) (refused n)
 
 -- an answer behind one command more
-abbrev pub answer_behind : CodeReceived → CodeTaking → CodeSession → CodeReceived
-answer_behind r (the.Command w k) s = record { verdict = the_verdict.Accepted; count = r.count + 1; last = the_last.CommandOne w; written = r.written; session = s }
-answer_behind r (the.Refused n) s = record { verdict = the_verdict.Refused n; count = r.count; last = r.last; written = r.written; session = s }
+abbrev pub answer_behind : CodeReceived → Result CodeTaken Refusal → CodeSession → CodeReceived
+answer_behind r (Ok t) s = record { verdict = Ok tt; count = r.count + 1; last = the_last.CommandOne t.word; written = r.written; session = s }
+answer_behind r (Err n) s = record { verdict = Err n; count = r.count; last = r.last; written = r.written; session = s }
 
 -- what a text comes to behind the commands of an answer; nothing more is taken where the last was refused
 abbrev pub comes_to : CodeReceived → List (List ℕ) → List (List ℕ) → Buffers → List ℕ → Taken

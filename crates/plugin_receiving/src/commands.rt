@@ -15,22 +15,22 @@ ghost use Rattle.intake.specs.Settling.{Says};
 ghost use Rattle.plugin_receiving.specs.Commands.{next_in, answer_behind, comes_to, NoneDue};
 
 use crate::fronts::{begin, put_together};
-use crate::receiving::{Receipt, Taking, receive_stanza};
+use crate::receiving::{Receipt, receive_stanza};
 use intake::{Last, Received};
-use refusal::Verdict;
+use refusal::Refusal;
 use session::{Phase, Session, front};
-use stanza::{First, Place};
+use stanza::Place;
 
 // The next command of a text: nothing is read behind a refusal, nor behind done.
-fn next_command(verdict: Verdict, phase: Phase, rest: &[u8]) -> First
+fn next_command(verdict: Result<(), Refusal>, phase: Phase, rest: &[u8]) -> Result<Stanza, Refusal>
     ensures { read_said result ≡ next_in (verdict_said verdict) phase (read_first rest.now) }
 {
-    if let Verdict::Refused(r) = verdict {
-        return First::Refused(r);
+    if let Err(r) = verdict {
+        return Err(r);
     }
     let turn = phase_one::turn_one(phase);
-    if let Verdict::Refused(r) = turn {
-        return First::Refused(r);
+    if let Err(r) = turn {
+        return Err(r);
     }
     stanza::read(rest)
 }
@@ -43,17 +43,17 @@ fn answer_behind(so_far: Received, receipt: Receipt) -> Received
     let answer = receipt.answer;
     let session = receipt.session;
     match answer {
-        Taking::Command(word, _) => Received {
-            verdict: Verdict::Accepted,
+        Ok(taken) => Received {
+            verdict: Ok(()),
             count: so_far.count + 1,
-            last: Last::CommandOne(word),
+            last: Last::CommandOne(taken.word),
             written: so_far.written,
             session: session,
         },
-        Taking::Refused(r) => {
+        Err(r) => {
             let last = so_far.last;
             Received {
-                verdict: Verdict::Refused(r),
+                verdict: Err(r),
                 count: so_far.count,
                 last: last,
                 written: so_far.written,
@@ -75,12 +75,12 @@ fn settle_commands(so_far: Received, rest: &[u8], input: &mut [u8]) -> Received
     let verdict = so_far.verdict;
     let session = so_far.session;
     match verdict {
-        Verdict::Accepted => {
+        Ok(()) => {
             let phase = session.phase;
             let turn = intake::turn_plugin(phase);
             intake::settle(so_far, turn, &[], rest, input)
         }
-        Verdict::Refused(_) => {
+        Err(_) => {
             let last = so_far.last;
             Received {
                 verdict: verdict,
@@ -121,7 +121,7 @@ fn receive_text(
         let phase = session.phase;
         let verdict = answer.verdict;
         let next = next_command(verdict, phase, &text[at..]);
-        let First::Stanza(s) = next else {
+        let Ok(s) = next else {
             return settle_commands(answer, &text[at..], input);
         };
         let receipt = receive_stanza(
@@ -170,17 +170,17 @@ fn receive_front(
     let n = put_together(input, kept, chunk, k, &mut store);
     let first = stanza::read(front(&store, n));
     match first {
-        First::Refused(r) => {
+        Err(r) => {
             let phase = session.phase;
             Received {
-                verdict: Verdict::Refused(r),
+                verdict: Err(r),
                 count: 0,
                 last: Last::Nothing,
                 written: 0,
                 session: session.moved(session::phase_refused(phase, r), session.tables),
             }
         }
-        First::Stanza(s) => {
+        Ok(s) => {
             let receipt = receive_stanza(
                 session,
                 front(&store, n),

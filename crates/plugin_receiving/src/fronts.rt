@@ -3,7 +3,6 @@ ghost use Rattle.std.specs.Prelude.{◌≡◌, ◌++◌, ◌+◌, ◌≤◌, len
 ghost use Rattle.plugin_receiving.specs.Commands.{begun_by};
 
 use intake::{Last, Received};
-use refusal::Verdict;
 use session::{Session, front};
 
 // Nothing is taken yet.
@@ -11,7 +10,7 @@ pub(crate) fn begin(session: Session) -> Received
     ensures { result ≡ begun_by session }
 {
     Received {
-        verdict: Verdict::Accepted,
+        verdict: Ok(()),
         count: 0,
         last: Last::Nothing,
         written: 0,

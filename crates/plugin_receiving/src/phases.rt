@@ -13,8 +13,8 @@ ghost use Rattle.intake.specs.Settling.{Says};
 
 use crate::commands::receive_commands;
 use crate::responding::{none_behind, receive_due};
-use intake::{Last, OneByte, Received};
-use refusal::{Refusal, Verdict};
+use intake::{Last, Received};
+use refusal::Refusal;
 use session::{Phase, Session, front};
 use stanza::{Continued, Place};
 
@@ -39,13 +39,13 @@ fn drop_chunk(session: Session, chunk: &[u8], input: &[u8]) -> Received
 }
 
 // 14 where bytes are kept or come.
-fn dropped(kept: usize, came: usize) -> Verdict
+fn dropped(kept: usize, came: usize) -> Result<(), Refusal>
     ensures { verdict_said result ≡ pick (eqb (kept + came) 0) 0 14 }
 {
     if kept == 0 {
         return none_behind(came);
     }
-    Verdict::Refused(Refusal::OutOfTurn)
+    Err(Refusal::OutOfTurn)
 }
 
 // A chunk received: its stanzas one by one, with those that began in earlier chunks. 13, 14, 1, 3, 4, 5, 7, 8, 12, 15 or 20 where it is refused; the stanzas
@@ -76,7 +76,7 @@ pub fn receive(
     let reading = session.reading;
     let turn = intake::turn_plugin(phase);
     let one = intake::read_one(turn, reading, session.kept, chunk, input);
-    if let OneByte::GoesOn(place) = one {
+    if let Some(place) = one {
         return intake::keep_on(session, place, chunk);
     }
     let front = intake::read_front(turn, reading, session.kept, chunk, input);

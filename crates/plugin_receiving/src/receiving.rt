@@ -9,31 +9,34 @@ ghost use Rattle.conversation.specs.Receiving.{answer_of, received_stanza};
 ghost use Rattle.plugin_receiving.specs.Receiving.{taking_said, receipt_said};
 
 use phase_one::{CommandOne, WordOne, step_one};
-use refusal::{Refusal, Verdict};
+use refusal::Refusal;
 use session::{Session, front};
 use stanza::Stanza;
 use tables::Coding;
 
-// Which command was received and how many bytes of the text it took; or the refusal.
+// Which command was received and how many bytes of the text it took.
 #[derive(Clone, Copy)]
-pub(crate) enum Taking {
-    Command(WordOne, usize),
-    Refused(Refusal),
+pub(crate) struct Taken {
+    pub word: WordOne,
+    pub taken: usize,
 }
 
 #[derive(Clone, Copy)]
 pub(crate) struct Receipt {
-    pub answer: Taking,
+    pub answer: Result<Taken, Refusal>,
     pub session: Session,
 }
 
 // The answer to a command that was judged.
-fn answer_to(verdict: Verdict, command: CommandOne, taken: usize) -> Taking
+fn answer_to(verdict: Result<(), Refusal>, command: CommandOne, taken: usize) -> Result<Taken, Refusal>
     ensures { (plugin line : List ℕ) (n : ℕ) → taking_said result ≡ answer_of (verdict_said verdict) (command_said plugin line n command) taken }
 {
     match verdict {
-        Verdict::Accepted => Taking::Command(phase_one::word_of(command), taken),
-        Verdict::Refused(r) => Taking::Refused(r),
+        Ok(()) => Ok(Taken {
+            word: phase_one::word_of(command),
+            taken: taken,
+        }),
+        Err(r) => Err(r),
     }
 }
 
@@ -65,7 +68,7 @@ pub(crate) fn receive_stanza(
         machine,
         front(&bytes, length),
         session.tables,
-        Verdict::Accepted,
+        Ok(()),
         stanza::arguments_of(text, s),
         Coding::Lines,
         stanza::lines_of(text, s),

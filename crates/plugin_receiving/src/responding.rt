@@ -19,10 +19,10 @@ ghost use Rattle.plugin_receiving.specs.Responding.{responded_said, settled_resp
 
 use crate::fronts::{begin, put_together};
 use intake::{Last, Received, Turn};
-use refusal::{Refusal, Verdict, Written};
-use responses::{ReadResponse, Response};
+use refusal::Refusal;
+use responses::Response;
 use session::{Phase, Session, WordTwo, front};
-use stanza::{First, Place, Stanza};
+use stanza::{Place, Stanza};
 
 // Which response was received, how many bytes of the text it took and how many its body has; or the refusal.
 #[derive(Clone, Copy)]
@@ -49,13 +49,13 @@ fn unfit(session: Session) -> Responded
 }
 
 // The decoded body at the front of `out`: how many bytes, or 15 and nothing written. An empty one is not looked for.
-fn write_body(text: &[u8], s: Stanza, out: &mut [u8]) -> Written
+fn write_body(text: &[u8], s: Stanza, out: &mut [u8]) -> Result<usize, Refusal>
     requires { read_first text.now ≡ stanza s.line s.body s.taken }
     ensures answer { said result ≡ answered (body_in text.now s) out.old }
     ensures buffer { out.new ≡ filled (body_in text.now s) out.old }
 {
     if s.body == 0 {
-        return Written::Bytes(0);
+        return Ok(0);
     }
     stanza::body_of(text, s, out)
 }
@@ -79,11 +79,11 @@ fn receive_fitting(
     }
     let written = write_body(text, s, out);
     match written {
-        Written::Bytes(n) => Responded {
+        Ok(n) => Responded {
             answer: Answering::Response(found, s.taken, n),
             session: session.moved(Phase::Two, session.tables),
         },
-        Written::Refused(r) => Responded {
+        Err(r) => Responded {
             answer: Answering::Refused(r),
             session: session,
         },
@@ -105,8 +105,8 @@ fn receive_stanza(
 {
     let reading = responses::read_line(stanza::arguments_of(text, s));
     match reading {
-        ReadResponse::Response(found) => receive_fitting(session, word, found, text, s, out),
-        ReadResponse::Nothing => unfit(session),
+        Some(found) => receive_fitting(session, word, found, text, s, out),
+        None => unfit(session),
     }
 }
 
@@ -119,11 +119,11 @@ fn receive_awaited(session: Session, word: WordTwo, text: &[u8], out: &mut [u8])
     let phase = session.phase;
     let first = stanza::read(text);
     match first {
-        First::Refused(r) => Responded {
+        Err(r) => Responded {
             answer: Answering::Refused(r),
             session: session.moved(session::phase_refused(phase, r), session.tables),
         },
-        First::Stanza(s) => receive_stanza(session, word, text, s, out),
+        Ok(s) => receive_stanza(session, word, text, s, out),
     }
 }
 
@@ -150,7 +150,7 @@ fn settle_response(session: Session, responded: Responded, left: usize) -> Recei
                 return intake::leave(session, r);
             }
             Received {
-                verdict: Verdict::Refused(r),
+                verdict: Err(r),
                 count: 0,
                 last: Last::Nothing,
                 written: 0,
@@ -161,13 +161,13 @@ fn settle_response(session: Session, responded: Responded, left: usize) -> Recei
 }
 
 // Bytes behind a response are 14.
-pub(crate) fn none_behind(left: usize) -> Verdict
+pub(crate) fn none_behind(left: usize) -> Result<(), Refusal>
     ensures { verdict_said result ≡ pick (eqb left 0) 0 14 }
 {
     if left == 0 {
-        return Verdict::Accepted;
+        return Ok(());
     }
-    Verdict::Refused(Refusal::OutOfTurn)
+    Err(Refusal::OutOfTurn)
 }
 
 // A chunk that begins a stanza, while a command awaits its response.
@@ -190,8 +190,8 @@ fn receive_begun(
 {
     let first = stanza::read(chunk);
     match first {
-        First::Refused(_) => intake::settle(begin(session), Turn::Reads, &[], chunk, input),
-        First::Stanza(s) => {
+        Err(_) => intake::settle(begin(session), Turn::Reads, &[], chunk, input),
+        Ok(s) => {
             let responded = receive_stanza(session, word, chunk, s, out);
             let left = chunk.len() - s.taken;
             settle_response(session, responded, left)

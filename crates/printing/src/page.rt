@@ -3,7 +3,6 @@ ghost use Rattle.std.specs.Prelude.{◌≡◌};
 ghost use Rattle.script.specs.Escape.{escaped};
 ghost use Rattle.printing.specs.Page.{page, put, decimal, put_number, put_word};
 
-use refusal::Written;
 
 // Some bytes as they are.
 pub fn put(bytes: &[u8], out: &mut [u8], at: usize) -> usize
@@ -29,8 +28,8 @@ fn put_escaped(bytes: &[u8], out: &mut [u8], at: usize) -> usize
     }
     let w = script::escape(bytes, &mut out[at..]);
     match w {
-        Written::Bytes(n) => at + n,
-        Written::Refused(_) => at,
+        Ok(n) => at + n,
+        Err(_) => at,
     }
 }
 

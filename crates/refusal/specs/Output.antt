@@ -1,9 +1,8 @@
 -- A call that writes to a lent buffer (the paper's output room): what it answers, and what the buffer then holds.
-use Rattle.std.specs.Prelude.{ℕ, ◌<◌, ◌≤◌, ◌≡◌, List, ◌++◌, ◌↔◌, Bool, ltb, length, drop}
+use Rattle.std.specs.Prelude.{ℕ, ◌<◌, ◌≤◌, ◌≡◌, List, ◌++◌, ◌↔◌, Bool, ltb, length, drop, Result, Ok, Err}
 use Rattle.refusal.specs.Number.{number_of}
 use Rattle.refusal.specs.Pick.{pick}
-use Rattle.refusal.specs.declared.Written.{Written}
-use Rattle.refusal.specs.declared.Written.TheVariants.{Bytes, Refused}
+use Rattle.refusal.specs.declared.Refusal.{Refusal}
 
 -- how many bytes were written, or the paper's number
 pub data Answer : Type 0 where
@@ -11,9 +10,9 @@ pub data Answer : Type 0 where
   refused : ℕ → Answer
 
 -- what the code's answer stands for
-abbrev pub said : Written → Answer
-said (Bytes n) = bytes n
-said (Refused r) = refused (number_of r)
+abbrev pub said : Result ℕ Refusal → Answer
+said (Ok n) = bytes n
+said (Err r) = refused (number_of r)
 
 -- the content is longer than the buffer
 abbrev pub overflows : List ℕ → List ℕ → Bool

@@ -1,14 +1,13 @@
 -- What is decided of a call, and the first of several faults (document 01, "Numbers given back": "Several at once").
-use Rattle.std.specs.Prelude.{ℕ, eqb}
+use Rattle.std.specs.Prelude.{ℕ, eqb, Result, Ok, Err}
 use Rattle.refusal.specs.Number.{number_of}
 use Rattle.refusal.specs.Pick.{pick}
-use Rattle.refusal.specs.declared.Verdict.{Verdict}
-use Rattle.refusal.specs.declared.Verdict.TheVariants as the
+use Rattle.refusal.specs.declared.Refusal.{Refusal}
 
 -- the number of a verdict, 0 where nothing is refused
-abbrev pub verdict_said : Verdict → ℕ
-verdict_said the.Accepted = 0
-verdict_said (the.Refused r) = number_of r
+abbrev pub verdict_said : Result Unit Refusal → ℕ
+verdict_said (Ok u) = 0
+verdict_said (Err r) = number_of r
 
 -- the first fault: n, or else the late one
 abbrev pub first_of : ℕ → ℕ → ℕ

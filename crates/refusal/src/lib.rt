@@ -54,20 +54,6 @@ pub enum Refusal {
     LeftoverBits,
 }
 
-// What a call that writes to a lent buffer answers: how many bytes it wrote at its front, or the refusal, nothing written.
-#[derive(Clone, Copy)]
-pub enum Written {
-    Bytes(usize),
-    Refused(Refusal),
-}
-
-// What is decided: accepted, or the refusal.
-#[derive(Clone, Copy)]
-pub enum Verdict {
-    Accepted,
-    Refused(Refusal),
-}
-
 // The papers' number of a refusal.
 pub fn number(r: Refusal) -> u8
     ensures { result ≡ number_of r }
@@ -99,11 +85,11 @@ pub fn number(r: Refusal) -> u8
 }
 
 // The number of a verdict, 0 where nothing is refused.
-pub fn verdict_number(verdict: Verdict) -> u8
+pub fn verdict_number(verdict: Result<(), Refusal>) -> u8
     ensures { result ≡ verdict_said verdict }
 {
     match verdict {
-        Verdict::Accepted => 0,
-        Verdict::Refused(r) => number(r),
+        Ok(()) => 0,
+        Err(r) => number(r),
     }
 }

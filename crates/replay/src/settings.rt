@@ -1,6 +1,5 @@
 // The lines that open a session or change the lengths of its buffers.
 use crate::host::{Host, Turn};
-use refusal::Verdict;
 use replay_answers::Answer;
 use replay_lines::{End, Lengths, Setting, Store, Words, clear_store, lengths_of, word};
 use script::ScreenChoice;
@@ -70,7 +69,7 @@ fn open_client(machine: &[u8], name: &[u8], screen: ScreenChoice) -> Opening {
 // What an opening came to. The buffers of a session that is opened are zeros.
 fn opened(end: End, opening: Opening, given: Lengths, host: Host) -> Setup {
     let verdict = opening.verdict;
-    if let Verdict::Refused(r) = verdict {
+    if let Err(r) = verdict {
         let kept = host.lengths;
         return Setup {
             answer: Answer::Refused(r),

@@ -3,7 +3,7 @@
 use crate::host::{Host, PluginInput, Turn, answered};
 use crate::settings::set;
 use intake::Received;
-use refusal::Written;
+use refusal::Refusal;
 use replay_answers::{ClientInput, HeaderSlots, Output, Slots, answer_of, answer_received, look};
 use replay_calls::call_plain;
 use replay_lines::{
@@ -341,7 +341,7 @@ fn reply(
 }
 
 // What a sending came to.
-fn keep_written(written: Written, session: Session, mut host: Host) -> Turn {
+fn keep_written(written: Result<usize, Refusal>, session: Session, mut host: Host) -> Turn {
     host.session = session;
     Turn {
         answer: answer_of(written),

@@ -2,7 +2,7 @@
 use crate::print::{Output, print_bytes, print_number, print_row, print_word, put_number};
 use intake::{Last, Received};
 use phase_one::WordOne;
-use refusal::{Refusal, Verdict, Written};
+use refusal::Refusal;
 use replay_lines::front;
 use responses::Response;
 use session::WordTwo;
@@ -32,10 +32,10 @@ pub enum Answer {
 }
 
 // The answer of a call that wrote to the front of the buffer lent.
-pub fn answer_of(written: Written) -> Answer {
+pub fn answer_of(written: Result<usize, Refusal>) -> Answer {
     match written {
-        Written::Bytes(n) => Answer::Text(n),
-        Written::Refused(r) => Answer::Refused(r),
+        Ok(n) => Answer::Text(n),
+        Err(r) => Answer::Refused(r),
     }
 }
 
@@ -100,10 +100,10 @@ pub fn answer_received(received: Received) -> Answer {
 }
 
 // The answer of a call that is accepted with nothing to tell, or refused.
-pub fn answer_verdict(verdict: Verdict) -> Answer {
+pub fn answer_verdict(verdict: Result<(), Refusal>) -> Answer {
     match verdict {
-        Verdict::Accepted => Answer::Accepted,
-        Verdict::Refused(r) => Answer::Refused(r),
+        Ok(()) => Answer::Accepted,
+        Err(r) => Answer::Refused(r),
     }
 }
 

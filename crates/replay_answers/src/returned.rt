@@ -4,7 +4,6 @@ use crate::show::{HeaderSlots, Slots};
 use look_up::ErrorNamed;
 use replay_lines::{append, front};
 use session::{Kind, Session, Tables};
-use tables::Found;
 
 // No file has this number: a file's has 32 bits.
 const NO_FILE: usize = usize::MAX;
@@ -35,23 +34,23 @@ pub fn print_errors(
 }
 
 // The line of an error.
-fn print_error(n: usize, named: ErrorNamed, message: &[u8], out: &mut Output, at: usize) -> usize {
+fn print_error(n: usize, named: Option<ErrorNamed>, message: &[u8], out: &mut Output, at: usize) -> usize {
     let mut what = [0u8; 64];
     let k = put_named(named, &mut what);
     print_row(b"error", n, front(&what, k), message, b"", out, at)
 }
 
 // What an error names, as one word: its kind, the file of a header stanza, and the index.
-fn put_named(named: ErrorNamed, what: &mut [u8]) -> usize {
+fn put_named(named: Option<ErrorNamed>, what: &mut [u8]) -> usize {
     match named {
-        ErrorNamed::Internal => append(b"internal", what, 0),
-        ErrorNamed::Identity(i) => put_number(b"identity", i, what, 0),
-        ErrorNamed::Recipient(i) => put_number(b"recipient", i, what, 0),
-        ErrorNamed::Header(file, i) => {
+        Some(ErrorNamed::Internal) => append(b"internal", what, 0),
+        Some(ErrorNamed::Identity(i)) => put_number(b"identity", i, what, 0),
+        Some(ErrorNamed::Recipient(i)) => put_number(b"recipient", i, what, 0),
+        Some(ErrorNamed::Header(file, i)) => {
             let next = put_number(b"stanza", file, what, 0);
             put_number(b"", i, what, next)
         }
-        ErrorNamed::Nothing => append(b"-", what, 0),
+        None => append(b"-", what, 0),
     }
 }
 
@@ -119,7 +118,7 @@ pub fn print_keys(
     let mut n: usize = 0;
     while n < Session::HEADER_STANZAS {
         let found = look_up::find(tables, Kind::Headers, n, slots, header_slots);
-        let Found::Entry(e) = found else {
+        let Some(e) = found else {
             return next;
         };
         let file = e.index;

@@ -3,11 +3,10 @@ use crate::answers::{Answer, NAMES, NO_NAME, answer_verdict, number_two};
 use crate::print::{Output, print_bytes, print_row, print_word};
 use crate::returned::{print_errors, print_keys, print_stanzas};
 use bech32::TextKind;
-use look_up::Awaited;
 use refusal::Refusal;
 use replay_lines::{Lengths, Look, front, least, rear};
 use session::{Kind, Phase, Session, Tables};
-use tables::{Entry, Found};
+use tables::Entry;
 
 // The slots of a session's header stanzas, and of its other kinds.
 pub type HeaderSlots = [[usize; 4]; Session::HEADER_STANZAS];
@@ -149,8 +148,8 @@ fn print_phase(phase: Phase, out: &mut Output, at: usize) -> usize {
 fn number_awaited(phase: Phase) -> usize {
     let awaited = look_up::awaited_command(phase);
     match awaited {
-        Awaited::Command(word) => number_two(word),
-        Awaited::Nothing => NO_NAME,
+        Some(word) => number_two(word),
+        None => NO_NAME,
     }
 }
 
@@ -181,10 +180,10 @@ fn print_table(
     while n < Session::HEADER_STANZAS {
         let found = look_up::find(tables, kind, n, slots, header_slots);
         match found {
-            Found::Nothing => {
+            None => {
                 return next;
             }
-            Found::Entry(e) => {
+            Some(e) => {
                 next = print_slot(number, n, e, tables::payload(found, buffer), out, next);
             }
         }

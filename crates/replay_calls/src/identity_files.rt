@@ -2,7 +2,6 @@
 ghost use Rattle.std.specs.Prelude.{◌≤◌};
 
 use identity_file::MOST_FAULTS;
-use refusal::Written;
 use replay_answers::{Answer, Output, print_bytes, print_word};
 use replay_lines::{Words, front, word};
 
@@ -21,14 +20,14 @@ pub(crate) fn call_identity_file(
     let reading = identity_file::read(word(text, w, 1), &mut faults, buffer);
     let answer = reading.answer;
     match answer {
-        Written::Bytes(n) => {
+        Ok(n) => {
             let a = print_bytes(b"ok", out, at);
             let b = printing::put_number(reading.keys as u64, &mut out.bytes, a);
             let c = printing::put_number(reading.invalid as u64, &mut out.bytes, b);
             let d = print_faults(&faults, listed(reading.invalid), out, c);
             Answer::Printed(print_word(b"", front(buffer, n), out, d))
         }
-        Written::Refused(r) => Answer::Refused(r),
+        Err(r) => Answer::Refused(r),
     }
 }
 

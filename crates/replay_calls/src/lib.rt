@@ -7,13 +7,13 @@ use bech32::{ReadText, TextKind};
 use identity_files::call_identity_file;
 use judging::Judged;
 use profile::Conformity;
-use refusal::{Refusal, Written};
+use refusal::Refusal;
 use replay_answers::{
     Answer, Output, answer_of, print_bytes, print_numbers, print_row, print_word,
 };
 use replay_lines::{Buffer, LONGEST, Request, Words, cut, front, last_word, word};
 use script::{Call, Number};
-use stanza::{First, Index, Stanza};
+use stanza::Stanza;
 
 // A line that needs no session, that no session takes, or that is no call.
 pub fn call_plain(
@@ -94,8 +94,8 @@ fn call_stanza(text: &[u8], w: Words, buffer: &mut Buffer, out: &mut Output, at:
     let t = word(text, w, 1);
     let first = stanza::read(t);
     match first {
-        First::Stanza(s) => print_stanza(t, s, buffer, out, at),
-        First::Refused(r) => Answer::Refused(r),
+        Ok(s) => print_stanza(t, s, buffer, out, at),
+        Err(r) => Answer::Refused(r),
     }
 }
 
@@ -109,11 +109,11 @@ fn print_stanza(
 ) -> Answer {
     let body = stanza::body_of(text, s, buffer);
     match body {
-        Written::Bytes(n) => {
+        Ok(n) => {
             let line = stanza::arguments_of(text, s);
             Answer::Printed(print_row(b"ok", s.taken, line, front(buffer, n), b"", out, at))
         }
-        Written::Refused(r) => Answer::Refused(r),
+        Err(r) => Answer::Refused(r),
     }
 }
 
@@ -132,8 +132,8 @@ fn call_index(text: &[u8], w: Words) -> Answer {
     }
     let i = stanza::read_index(word(text, w, 1));
     match i {
-        Index::Number(n) => Answer::Number(n as u64),
-        Index::Refused(r) => Answer::Refused(r),
+        Ok(n) => Answer::Number(n as u64),
+        Err(r) => Answer::Refused(r),
     }
 }
 
@@ -209,12 +209,12 @@ fn print_reading(reading: ReadText, buffer: &[u8], out: &mut Output, at: usize) 
     let name = reading.name;
     let bytes = name.bytes;
     match answer {
-        Written::Bytes(n) => {
+        Ok(n) => {
             let next = print_bytes(b"ok ", out, at);
             let a = print_bytes(front(&bytes, name.length), out, next);
             Answer::Printed(print_word(b"", front(buffer, n), out, a))
         }
-        Written::Refused(r) => print_refusal(r, reading.place, out, at),
+        Err(r) => print_refusal(r, reading.place, out, at),
     }
 }
 

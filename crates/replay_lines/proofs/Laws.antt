@@ -7,8 +7,8 @@ use lib.ListN.{length}
 use native.Mathlib.Omega.{arith}
 use borrow.Author.Tests.{ltb-false}
 use Rattle.refusal.specs.Output.{bytes, said, answered}
-use Rattle.refusal.specs.declared.Written.{Written}
-use Rattle.refusal.specs.declared.Written.TheVariants.{Bytes}
+use Rattle.std.specs.Prelude.{Result, Ok}
+use Rattle.refusal.specs.declared.Refusal.{Refusal}
 use Rattle.refusal.proofs.Laws.Booleans.{cases}
 use Rattle.script.specs.Escape.{Meaning, word, bad, answered_by, unescaped_said}
 use Rattle.script.specs.declared.unescaping.Unescaped.{Unescaped}
@@ -20,13 +20,13 @@ bytes_fit t buffer n h =
     (λ e. let k = rw e at h in let z : ◌≡◌ {A = ℕ} 0 1 = cc in absurd (omega arith))
     (λ e. let k = rw e at h in let z : n ≡ length t = cc in omega (arith, ltb-false))
 
-pub written_fits : (t buffer : List ℕ) (w : Written) (n : ℕ) → w ≡ Bytes n → said w ≡ answered t buffer → n ≤ length buffer
+pub written_fits : (t buffer : List ℕ) (w : Result ℕ Refusal) (n : ℕ) → w ≡ Ok n → said w ≡ answered t buffer → n ≤ length buffer
 written_fits t buffer w n e h = bytes_fit t buffer n (sym (ap said e) ∙ h)
 
 word_fits : (m : Meaning (List ℕ)) (buffer : List ℕ) (n : ℕ) → word (bytes n) ≡ answered_by m buffer → n ≤ length buffer
 word_fits (word t) buffer n h = bytes_fit t buffer n (cc)
 word_fits bad buffer n h = let z : ◌≡◌ {A = ℕ} 0 1 = cc in absurd (omega arith)
 
-pub unescaped_fits : (m : Meaning (List ℕ)) (buffer : List ℕ) (u : Unescaped) (w : Written) (n : ℕ) → u ≡ Word w → w ≡ Bytes n →
+pub unescaped_fits : (m : Meaning (List ℕ)) (buffer : List ℕ) (u : Unescaped) (w : Result ℕ Refusal) (n : ℕ) → u ≡ Word w → w ≡ Ok n →
     unescaped_said u ≡ answered_by m buffer → n ≤ length buffer
 unescaped_fits m buffer u w n e f h = word_fits m buffer n (sym (ap unescaped_said (e ∙ ap Word f)) ∙ h)

@@ -1,6 +1,5 @@
 // The words of a line, read into one buffer with a space between two.
 use crate::parts::{Buffer, least, part};
-use refusal::Written;
 use script::Unescaped;
 
 // The longest line that is a call, without its LF.
@@ -91,8 +90,8 @@ fn read_word(word: &[u8], text: &mut [u8], at: usize) -> WordEnd {
         return WordEnd::Bad;
     };
     match w {
-        Written::Bytes(n) => WordEnd::At(from + n),
-        Written::Refused(_) => WordEnd::Bad,
+        Ok(n) => WordEnd::At(from + n),
+        Err(_) => WordEnd::Bad,
     }
 }
 

@@ -1,9 +1,7 @@
 -- The responses of phase two (document 01, "Phase two": the table's column of fitting responses, and the sentences below it).
-use Rattle.std.specs.Prelude.{ℕ, Bool, true, false, ◌&&◌, ◌||◌, List, [], ◌∷◌, eqb, length}
+use Rattle.std.specs.Prelude.{ℕ, Bool, true, false, ◌&&◌, ◌||◌, List, [], ◌∷◌, eqb, length, Option, Some, None}
 use Rattle.refusal.specs.Pick.{pick}
 use Rattle.refusal.specs.Same.{same}
-use Rattle.responses.specs.declared.ReadResponse.{ReadResponse}
-use Rattle.responses.specs.declared.ReadResponse.TheVariants as the
 use Rattle.responses.specs.declared.Response.{Response}
 use Rattle.responses.specs.declared.Response.TheVariants.{Ok, Yes, No, Fail, Unsupported}
 use Rattle.session.specs.declared.words.WordTwo.{WordTwo}
@@ -106,9 +104,9 @@ pub data ResponseRead : Type 0 where
   nothing : ResponseRead
 
 -- what the code's reading stands for
-abbrev pub reading_said : ReadResponse → ResponseRead
-reading_said (the.Response r) = response r
-reading_said the.Nothing = nothing
+abbrev pub reading_said : Option Response → ResponseRead
+reading_said (Some r) = response r
+reading_said None = nothing
 
 -- which response an arguments' text is, all of it: the first word alone does not tell
 abbrev pub response_of : List ℕ → ResponseRead

@@ -6,7 +6,7 @@ ghost use Rattle.refusal.specs.Output.{said};
 ghost use Rattle.stanza.specs.Writing.{sized, written, buffer_after};
 ghost use Rattle.responses.specs.Responses.{row_of, column_of, fitting, is_request, may_have_body, response_line, response_of, reading_said};
 
-use refusal::Written;
+use refusal::Refusal;
 use session::WordTwo;
 
 // The responses' arguments, compared with those of a stanza that is read and written where a response is.
@@ -28,13 +28,6 @@ pub enum Response {
     No,
     Fail,
     Unsupported,
-}
-
-// What an arguments' text is read as: a response, or nothing.
-#[derive(Clone, Copy)]
-pub enum ReadResponse {
-    Response(Response),
-    Nothing,
 }
 
 // What fits: a row for each command and a column for each response.
@@ -129,29 +122,29 @@ pub fn fits_whole(word: WordTwo, response: Response, body: usize) -> bool
 }
 
 // Which response an arguments' text is, all of it.
-pub fn read_line(line: &[u8]) -> ReadResponse
+pub fn read_line(line: &[u8]) -> Option<Response>
     ensures { reading_said result ≡ response_of line.now }
 {
     if stanza::is_same(line, &OK) {
-        return ReadResponse::Response(Response::Ok);
+        return Some(Response::Ok);
     }
     if stanza::is_same(line, &OK_YES) {
-        return ReadResponse::Response(Response::Yes);
+        return Some(Response::Yes);
     }
     if stanza::is_same(line, &OK_NO) {
-        return ReadResponse::Response(Response::No);
+        return Some(Response::No);
     }
     if stanza::is_same(line, &FAIL) {
-        return ReadResponse::Response(Response::Fail);
+        return Some(Response::Fail);
     }
     if stanza::is_same(line, &UNSUPPORTED) {
-        return ReadResponse::Response(Response::Unsupported);
+        return Some(Response::Unsupported);
     }
-    ReadResponse::Nothing
+    None
 }
 
 // How many bytes a response with a body has, or 17 where that is no stanza of at most 8,192 bytes.
-pub fn size(response: Response, body: &[u8]) -> Written
+pub fn size(response: Response, body: &[u8]) -> Result<usize, Refusal>
     ensures { said result ≡ sized (response_line response) body.now }
 {
     match response {
@@ -164,7 +157,7 @@ pub fn size(response: Response, body: &[u8]) -> Written
 }
 
 // A response with a body at the front of `out`: how many bytes, or 17 as above, or 15; nothing is written then.
-pub fn write(response: Response, body: &[u8], out: &mut [u8]) -> Written
+pub fn write(response: Response, body: &[u8], out: &mut [u8]) -> Result<usize, Refusal>
     ensures answer { said result ≡ written (response_line response) body.now out.old }
     ensures buffer { out.new ≡ buffer_after (response_line response) body.now out.old }
 {

@@ -4,7 +4,7 @@ ghost use Rattle.std.proofs.lemmas.List.Edits.{sets};
 ghost use Rattle.refusal.specs.Output.{said, answered, filled};
 ghost use Rattle.script.specs.Escape.{hex_digit, letter_of, printed, spelled, escaped, sized};
 
-use refusal::{Refusal, Written};
+use refusal::Refusal;
 
 // How far a hex digit that is a letter stands over its value, from 10 on.
 pub(crate) const LETTER_OVER: u8 = b'a' - 10;
@@ -73,7 +73,7 @@ fn put(b: u8, out: &mut [u8], at: usize) -> usize
 }
 
 // How many bytes print some bytes, or 15 where that is more than `limit`.
-fn spelled_length(bytes: &[u8], limit: usize) -> Written
+fn spelled_length(bytes: &[u8], limit: usize) -> Result<usize, Refusal>
     ensures { said result ≡ sized (length (spelled bytes.now)) limit }
 {
     let mut n: usize = 0;
@@ -81,12 +81,12 @@ fn spelled_length(bytes: &[u8], limit: usize) -> Written
     while i < bytes.len() {
         let w = width(bytes[i]);
         if limit - n < w {
-            return Written::Refused(Refusal::ShortOutput);
+            return Err(Refusal::ShortOutput);
         }
         n += w;
         i += 1;
     }
-    Written::Bytes(n)
+    Ok(n)
 }
 
 // Some bytes printed at the front of `out`, which is long enough.
@@ -103,22 +103,22 @@ fn spell(bytes: &[u8], out: &mut [u8])
 }
 
 // The word of a byte string at the front of `out`: how many bytes, or 15 and nothing written.
-pub fn escape(bytes: &[u8], out: &mut [u8]) -> Written
+pub fn escape(bytes: &[u8], out: &mut [u8]) -> Result<usize, Refusal>
     ensures answer { said result ≡ answered (escaped bytes.now) out.old }
     ensures buffer { out.new ≡ filled (escaped bytes.now) out.old }
 {
     if bytes.len() == 0 {
         if out.len() < 2 {
-            return Written::Refused(Refusal::ShortOutput);
+            return Err(Refusal::ShortOutput);
         }
         out[0] = b'\\';
         out[1] = b'e';
-        return Written::Bytes(2);
+        return Ok(2);
     }
     let w = spelled_length(bytes, out.len());
     match w {
-        Written::Refused(_) => w,
-        Written::Bytes(_) => {
+        Err(_) => w,
+        Ok(_) => {
             spell(bytes, out);
             w
         }

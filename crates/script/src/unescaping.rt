@@ -4,7 +4,7 @@ ghost use Rattle.std.specs.Prelude.{◌≡◌, true};
 ghost use Rattle.script.specs.Escape.{hex_value, plain, letter, digit, effect, step_said, unescaped, measured, size_said, fits, unescaped_said, answered_by, filled_by};
 
 use crate::escaping::LETTER_OVER;
-use refusal::{Refusal, Written};
+use refusal::Refusal;
 
 // What a byte does to a reader: it takes it to a state, it completes a byte of the string, or no word goes on so.
 #[derive(Clone, Copy)]
@@ -24,7 +24,7 @@ enum Size {
 // What reading a word into a buffer came to: how many bytes were written or 15, or that it is no word.
 #[derive(Clone, Copy)]
 pub enum Unescaped {
-    Word(Written),
+    Word(Result<usize, Refusal>),
     Bad,
 }
 
@@ -187,10 +187,10 @@ pub fn unescape(word: &[u8], out: &mut [u8]) -> Unescaped
         Size::Bad => Unescaped::Bad,
         Size::Bytes(n) => {
             if out.len() < n {
-                return Unescaped::Word(Written::Refused(Refusal::ShortOutput));
+                return Unescaped::Word(Err(Refusal::ShortOutput));
             }
             unescape_into(word, out);
-            Unescaped::Word(Written::Bytes(n))
+            Unescaped::Word(Ok(n))
         }
     }
 }

@@ -1,10 +1,10 @@
 -- A line put into a store, and how long its stanza is. Nobody has to believe this: each caller shows that its store is long enough.
-use Rattle.std.specs.Prelude.{ℕ, List, take}
+use Rattle.std.specs.Prelude.{ℕ, List, take, Result, Ok, Err}
 use Rattle.refusal.specs.Number.{number_of}
 use Rattle.refusal.specs.Output.{Answer, bytes, refused}
 use Rattle.stanza.specs.Writing.{sized}
+use Rattle.refusal.specs.declared.Refusal.{Refusal}
 use Rattle.session.specs.declared.output.Composed.{Composed as CodeComposed}
-use Rattle.session.specs.declared.output.Composed.TheVariants as the
 
 -- how many bytes the line has, and how many the stanza; or the number
 pub data Composed : Type 0 where
@@ -12,9 +12,9 @@ pub data Composed : Type 0 where
   unwritten : ℕ → Composed
 
 -- the code's answer
-abbrev pub composed_said : CodeComposed → Composed
-composed_said (the.Line n k) = composed n k
-composed_said (the.Refused r) = unwritten (number_of r)
+abbrev pub composed_said : Result CodeComposed Refusal → Composed
+composed_said (Ok c) = composed c.line c.stanza
+composed_said (Err r) = unwritten (number_of r)
 
 -- a line of n bytes, by the size of its stanza
 abbrev pub sized_as : ℕ → Answer → Composed

@@ -1,5 +1,5 @@
 -- Openings: the machine by its name, byte for byte, and the plugin's name (document 01, "Numbers given back": 18, "neither machine's name", then 17).
-use Rattle.std.specs.Prelude.{ℕ, ◌≡◌, Bool, true, false, List, [], ◌∷◌, ◌⊎◌, ◌↔◌, length, take}
+use Rattle.std.specs.Prelude.{ℕ, ◌≡◌, Bool, true, false, List, [], ◌∷◌, ◌⊎◌, ◌↔◌, length, take, Option, Some, None}
 use Rattle.refusal.specs.Pick.{pick}
 use Rattle.refusal.specs.Same.{same}
 use Rattle.bech32.specs.Calls.{padded}
@@ -11,8 +11,6 @@ use Rattle.session.specs.declared.opening.Machine.{Machine}
 use Rattle.session.specs.declared.opening.Machine.TheVariants.{RecipientV1, IdentityV1}
 use Rattle.session.specs.declared.opening.Screen.{Screen}
 use Rattle.session.specs.declared.opening.Screen.TheVariants.{Shown, Absent}
-use Rattle.session.specs.declared.opening.MachineFound.{MachineFound as CodeFound}
-use Rattle.session.specs.declared.opening.MachineFound.TheVariants as the
 
 -- "recipient-v1"
 abbrev pub recipient_v1 : List ℕ
@@ -28,9 +26,9 @@ pub data MachineFound : Type 0 where
   nameless : MachineFound
 
 -- what the code's answer stands for
-abbrev pub named_said : CodeFound → MachineFound
-named_said (the.Machine m) = named m
-named_said the.Nothing = nameless
+abbrev pub named_said : Option Machine → MachineFound
+named_said (Some m) = named m
+named_said None = nameless
 
 -- the machine of a name
 abbrev pub machine_named : List ℕ → MachineFound

@@ -3,7 +3,7 @@ ghost use Rattle.std.specs.Prelude.{◌≡◌};
 ghost use Rattle.session.specs.Opening.{is_shown, machine_named, named_said, held, settings_said, settings_named, settings};
 
 use bech32::Name;
-use refusal::{Refusal, Verdict};
+use refusal::Refusal;
 
 const RECIPIENT_V1: [u8; 12] = *b"recipient-v1";
 
@@ -31,29 +31,22 @@ pub(crate) fn is_shown(screen: Screen) -> bool
     }
 }
 
-// The machine of a name, or none.
-#[derive(Clone, Copy)]
-pub(crate) enum MachineFound {
-    Machine(Machine),
-    Nothing,
-}
-
-fn machine_named(name: &[u8]) -> MachineFound
+fn machine_named(name: &[u8]) -> Option<Machine>
     ensures { named_said result ≡ machine_named name.now }
 {
     if stanza::is_same(name, &RECIPIENT_V1) {
-        return MachineFound::Machine(Machine::RecipientV1);
+        return Some(Machine::RecipientV1);
     }
     if stanza::is_same(name, &IDENTITY_V1) {
-        return MachineFound::Machine(Machine::IdentityV1);
+        return Some(Machine::IdentityV1);
     }
-    MachineFound::Nothing
+    None
 }
 
 // What an opening is given, judged: accepted with the machine and the plugin's name, or 18 or 17 with no name.
 #[derive(Clone, Copy)]
 pub(crate) struct Settings {
-    pub verdict: Verdict,
+    pub verdict: Result<(), Refusal>,
     pub machine: Machine,
     pub name: Name,
 }
@@ -65,9 +58,9 @@ pub(crate) fn read_settings(machine: &[u8], name: &[u8]) -> Settings
 {
     let named = machine_named(machine);
     match named {
-        MachineFound::Machine(m) => read_name(m, name),
-        MachineFound::Nothing => Settings {
-            verdict: Verdict::Refused(Refusal::NoSuchMachine),
+        Some(m) => read_name(m, name),
+        None => Settings {
+            verdict: Err(Refusal::NoSuchMachine),
             machine: Machine::RecipientV1,
             name: bech32::name_of(b""),
         },
@@ -82,13 +75,13 @@ fn read_name(machine: Machine, text: &[u8]) -> Settings
     let name = bech32::name_of(text);
     if name.length == 0 {
         return Settings {
-            verdict: Verdict::Refused(Refusal::Unwritable),
+            verdict: Err(Refusal::Unwritable),
             machine: Machine::RecipientV1,
             name: name,
         };
     }
     Settings {
-        verdict: Verdict::Accepted,
+        verdict: Ok(()),
         machine: machine,
         name: name,
     }

@@ -6,28 +6,28 @@ ghost use Rattle.stanza.specs.Writing.{written, buffer_after};
 ghost use Rattle.session.specs.Composing.{composed_said, composed_by};
 ghost use Rattle.refusal.specs.Verdict.{verdict_said};
 
-use refusal::{Refusal, Verdict, Written};
+use refusal::Refusal;
 
 // 15 where n bytes are more than the output takes.
-pub fn check_output(n: usize, capacity: usize) -> Verdict
+pub fn check_output(n: usize, capacity: usize) -> Result<(), Refusal>
     ensures { verdict_said result ≡ pick (ltb capacity n) 15 0 }
 {
     if capacity < n {
-        return Verdict::Refused(Refusal::ShortOutput);
+        return Err(Refusal::ShortOutput);
     }
-    Verdict::Accepted
+    Ok(())
 }
 
 // Writes a stanza that was accepted.
-pub fn write_judged(verdict: Verdict, line: &[u8], body: &[u8], out: &mut [u8]) -> Written
+pub fn write_judged(verdict: Result<(), Refusal>, line: &[u8], body: &[u8], out: &mut [u8]) -> Result<usize, Refusal>
     ensures answer { said result ≡
         pick (eqb (verdict_said verdict) 0) (written line.now body.now out.old) (refused (verdict_said verdict)) }
     ensures output { out.new ≡
         pick (eqb (verdict_said verdict) 0) (buffer_after line.now body.now out.old) out.old }
 {
     match verdict {
-        Verdict::Accepted => stanza::write(line, body, out),
-        Verdict::Refused(r) => Written::Refused(r),
+        Ok(()) => stanza::write(line, body, out),
+        Err(r) => Err(r),
     }
 }
 
@@ -41,24 +41,24 @@ pub fn front<'a>(bytes: &'a [u8], length: usize) -> &'a [u8]
     bytes
 }
 
-// The line of a command that is sent, in a store: how many bytes it has, and how many its stanza; or 17.
+// The line of a command that is sent, in a store: how many bytes it has, and how many its stanza.
 #[derive(Clone, Copy)]
-pub enum Composed {
-    Line(usize, usize),
-    Refused(Refusal),
+pub struct Composed {
+    pub line: usize,
+    pub stanza: usize,
 }
 
-// `put` is what putting the line into the store came to; one that the store is too short for cannot be written.
-pub fn compose(put: Written, store: &[u8], body: &[u8]) -> Composed
+// What is composed, or 17. `put` is what putting the line into the store came to; one that the store is too short for cannot be written.
+pub fn compose(put: Result<usize, Refusal>, store: &[u8], body: &[u8]) -> Result<Composed, Refusal>
     ensures { composed_said result ≡ composed_by (said put) store.now body.now }
 {
     match put {
-        Written::Refused(_) => Composed::Refused(Refusal::Unwritable),
-        Written::Bytes(n) => {
+        Err(_) => Err(Refusal::Unwritable),
+        Ok(n) => {
             let size = stanza::size(front(store, n), body);
             match size {
-                Written::Bytes(k) => Composed::Line(n, k),
-                Written::Refused(r) => Composed::Refused(r),
+                Ok(k) => Ok(Composed { line: n, stanza: k }),
+                Err(r) => Err(r),
             }
         }
     }

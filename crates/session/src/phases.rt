@@ -5,7 +5,7 @@ ghost use Rattle.refusal.specs.Verdict.{verdict_said};
 ghost use Rattle.session.specs.Phases.{closes, phase_refused, phase_opened};
 
 use crate::words::WordTwo;
-use refusal::{Refusal, Verdict};
+use refusal::Refusal;
 
 // Phase one is the client's to speak, phase two the plugin's. In phase two a command may await its response. A session ends with the second done, or is closed
 // by a refusal.
@@ -40,11 +40,11 @@ pub fn phase_refused(phase: Phase, refusal: Refusal) -> Phase
 }
 
 // The phase behind an opening.
-pub(crate) fn phase_opened(verdict: Verdict) -> Phase
+pub(crate) fn phase_opened(verdict: Result<(), Refusal>) -> Phase
     ensures { result ≡ phase_opened (verdict_said verdict) }
 {
     match verdict {
-        Verdict::Accepted => Phase::One,
-        Verdict::Refused(_) => Phase::Closed,
+        Ok(()) => Phase::One,
+        Err(_) => Phase::Closed,
     }
 }

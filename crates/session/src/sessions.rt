@@ -7,7 +7,7 @@ use crate::kinds::{Tables, open_tables};
 use crate::opening::{Machine, Screen, is_shown, read_settings};
 use crate::phases::{Phase, phase_opened};
 use bech32::Name;
-use refusal::Verdict;
+use refusal::Refusal;
 use stanza::Place;
 
 // The machine, the plugin's name, whether there is a screen (the client's alone), the phase, and the tables. Of the input: where the reading of an unfinished
@@ -27,7 +27,7 @@ pub struct Session {
 // An opening: accepted, or 18 or 17 with a closed session.
 #[derive(Clone, Copy)]
 pub struct Opening {
-    pub verdict: Verdict,
+    pub verdict: Result<(), Refusal>,
     pub session: Session,
 }
 

@@ -1,10 +1,9 @@
 -- An index (document 01, "Phase one"): "0" or digits without a leading zero, at most 4,294,967,295. Anything else is No. 5.
-use Rattle.std.specs.Prelude.{ℕ, zero, suc, ◌+◌, ◌-◌, ◌*◌, ◌/◌, ◌%◌, Bool, true, false, ◌&&◌, not, List, [], ◌∷◌, ◌++◌, leb, ltb, eqb}
+use Rattle.std.specs.Prelude.{ℕ, zero, suc, ◌+◌, ◌-◌, ◌*◌, ◌/◌, ◌%◌, Bool, true, false, ◌&&◌, not, List, [], ◌∷◌, ◌++◌, leb, ltb, eqb, Result, Ok, Err}
 use Rattle.refusal.specs.Number.{number_of}
 use Rattle.refusal.specs.Pick.{pick}
 use Rattle.refusal.specs.Run.{all}
-use Rattle.stanza.specs.declared.indices.Index.{Index}
-use Rattle.stanza.specs.declared.indices.Index.TheVariants.{Number, Refused}
+use Rattle.refusal.specs.declared.Refusal.{Refusal}
 
 -- what reading an index gives: the number, or the paper's number of the refusal
 pub data ReadIndex : Type 0 where
@@ -12,9 +11,9 @@ pub data ReadIndex : Type 0 where
   refused : ℕ → ReadIndex
 
 -- what the code's answer stands for
-abbrev pub index_said : Index → ReadIndex
-index_said (Number n) = number n
-index_said (Refused r) = refused (number_of r)
+abbrev pub index_said : Result ℕ Refusal → ReadIndex
+index_said (Ok n) = number n
+index_said (Err r) = refused (number_of r)
 
 -- "0" to "9"
 abbrev pub is_digit : ℕ → Bool

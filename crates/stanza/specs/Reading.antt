@@ -1,13 +1,13 @@
 -- Reading the first stanza of a text (document 01, "Stanza text"): "the first byte that no stanza, of any length, can have there gives 1. If 8,192
 -- bytes pass and the stanza hasn't ended, 3. If the text ends sooner, 2."
-use Rattle.std.specs.Prelude.{ℕ, ◌+◌, Bool, not, List, ltb, eqb, length, take, drop}
+use Rattle.std.specs.Prelude.{ℕ, ◌+◌, Bool, not, List, ltb, eqb, length, take, drop, Result, Ok, Err}
 use Rattle.refusal.specs.Number.{number_of}
 use Rattle.refusal.specs.Pick.{pick}
 use Rattle.refusal.specs.Run.{run}
 use Rattle.strict_base64.specs.Lines.{body_of}
 use Rattle.stanza.specs.Automaton.{Scan, bad, short, whole, scan, start}
-use Rattle.stanza.specs.declared.reading.First.{First}
-use Rattle.stanza.specs.declared.reading.First.TheVariants as first
+use Rattle.refusal.specs.declared.Refusal.{Refusal}
+use Rattle.stanza.specs.declared.reading.Stanza.{Stanza}
 
 -- what reading gives: where the first line's LF stands, how many bytes the body has and how many were taken; or the paper's number
 pub data Reading : Type 0 where
@@ -15,9 +15,9 @@ pub data Reading : Type 0 where
   refused : ℕ → Reading
 
 -- what the code's answer stands for
-abbrev pub read_said : First → Reading
-read_said (first.Stanza s) = stanza s.line s.body s.taken
-read_said (first.Refused r) = refused (number_of r)
+abbrev pub read_said : Result Stanza Refusal → Reading
+read_said (Ok s) = stanza s.line s.body s.taken
+read_said (Err r) = refused (number_of r)
 
 -- no LF
 abbrev pub is_not_lf : ℕ → Bool

@@ -7,15 +7,8 @@ use refusal::Refusal;
 // The largest index.
 const LARGEST: u64 = 4294967295;
 
-// What reading an index gives: its number, or 5.
-#[derive(Clone, Copy)]
-pub enum Index {
-    Number(u32),
-    Refused(Refusal),
-}
-
 // The number whose digits a text is, leading zeros and all; 0 for no digits.
-fn read_digits(text: &[u8]) -> Index
+fn read_digits(text: &[u8]) -> Result<u32, Refusal>
     ensures { index_said result ≡ digits 0 text.now }
 {
     let mut v: u64 = 0;
@@ -23,32 +16,32 @@ fn read_digits(text: &[u8]) -> Index
     while i < text.len() {
         let b = text[i];
         if b < b'0' {
-            return Index::Refused(Refusal::BadIndex);
+            return Err(Refusal::BadIndex);
         }
         if b'9' < b {
-            return Index::Refused(Refusal::BadIndex);
+            return Err(Refusal::BadIndex);
         }
         v = v * 10 + wide(b - b'0');
         if LARGEST < v {
-            return Index::Refused(Refusal::BadIndex);
+            return Err(Refusal::BadIndex);
         }
         i += 1;
     }
-    Index::Number(v as u32)
+    Ok(v as u32)
 }
 
 // The index that a text is, or 5.
-pub fn read_index(text: &[u8]) -> Index
+pub fn read_index(text: &[u8]) -> Result<u32, Refusal>
     ensures { index_said result ≡ read_index text.now }
 {
     if text.len() == 0 {
-        return Index::Refused(Refusal::BadIndex);
+        return Err(Refusal::BadIndex);
     }
     if text.len() == 1 {
         return read_digits(text);
     }
     if text[0] == b'0' {
-        return Index::Refused(Refusal::BadIndex);
+        return Err(Refusal::BadIndex);
     }
     read_digits(text)
 }

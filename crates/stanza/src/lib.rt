@@ -9,10 +9,10 @@ mod reading;
 mod writing;
 
 pub use arguments::{argument, count, is_graphic, is_same};
-pub use indices::{Index, read_index};
+pub use indices::read_index;
 pub use parts::{arguments_of, body_of, lines_of};
 pub use places::{Continued, Place, read_on};
-pub use reading::{First, Stanza, read};
+pub use reading::{Stanza, read};
 pub use writing::{copy, join, size, write};
 
 // The longest stanza.

@@ -6,7 +6,7 @@ ghost use Rattle.stanza.specs.Parts.{arguments_in, lines_in, body_in};
 
 use crate::FRONT;
 use crate::reading::Stanza;
-use refusal::Written;
+use refusal::Refusal;
 
 // The text of the arguments, a part of the stanza's text: between "-> " and the first LF.
 pub fn arguments_of<'a>(text: &'a [u8], s: Stanza) -> &'a [u8]
@@ -19,7 +19,7 @@ pub fn arguments_of<'a>(text: &'a [u8], s: Stanza) -> &'a [u8]
 }
 
 // The decoded body at the front of `out`: how many bytes, or 15 and nothing written.
-pub fn body_of(text: &[u8], s: Stanza, out: &mut [u8]) -> Written
+pub fn body_of(text: &[u8], s: Stanza, out: &mut [u8]) -> Result<usize, Refusal>
     ensures answer { said result ≡ answered (body_in text.now s) out.old }
     ensures buffer { out.new ≡ filled (body_in text.now s) out.old }
 {

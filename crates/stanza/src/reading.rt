@@ -1,11 +1,11 @@
 // Reading the first stanza of a text: one pass over at most 8,192 bytes, by runs of bytes of one class. Nothing is copied.
-ghost use Rattle.std.specs.Prelude.{◌≡◌, false, ◌+◌, ◌<◌, ◌≤◌, min, ltb, length, drop};
+ghost use Rattle.std.specs.Prelude.{◌≡◌, ℕ, List, false, ◌+◌, ◌<◌, ◌≤◌, min, ltb, length, drop};
 ghost use Rattle.refusal.specs.Number.{number_of};
 ghost use Rattle.refusal.specs.Pick.{pick};
 ghost use Rattle.strict_base64.specs.Lines.{is_full};
 ghost use Rattle.stanza.specs.Automaton.{scan, start, gap, line};
-ghost use Rattle.stanza.specs.Reading.{read_said, read_first, found, line_end};
-ghost use Rattle.stanza.specs.Steps.{goes_on, EndsAt, body_said};
+ghost use Rattle.stanza.specs.Reading.{read_said, read_first, refused, found, line_end};
+ghost use Rattle.stanza.specs.Steps.{fault_said, goes_on, EndsAt, body_said};
 
 use crate::arguments::graphic_end;
 use crate::{FRONT, LONGEST};
@@ -20,56 +20,38 @@ pub struct Stanza {
     pub taken: usize,
 }
 
-// What reading gives: the first stanza, or 1, 2 or 3.
+// Why a part of a text has no end: no stanza goes on so, or the text is too short.
 #[derive(Clone, Copy)]
-pub enum First {
-    Stanza(Stanza),
-    Refused(Refusal),
-}
-
-// The first line: where its LF stands.
-#[derive(Clone, Copy)]
-enum FirstLine {
+enum Fault {
     Bad,
     Short,
-    Ends(usize),
-}
-
-// The body: where it ends, behind its last LF.
-#[derive(Clone, Copy)]
-enum Body {
-    Bad,
-    Short,
-    Ends(usize),
 }
 
 // The first stanza of a text, or 1, 2 or 3.
-pub fn read(text: &[u8]) -> First
+pub fn read(text: &[u8]) -> Result<Stanza, Refusal>
     ensures { read_said result ≡ read_first text.now }
 {
     let n = window(text.len());
     let w = &text[..n];
     let l = first_line(w);
     match l {
-        FirstLine::Bad => First::Refused(Refusal::NotStanza),
-        FirstLine::Short => First::Refused(unfinished(n)),
-        FirstLine::Ends(e) => read_body(w, e),
+        Err(fault) => Err(refusal_of(fault, w.len())),
+        Ok(e) => read_body(w, e),
     }
 }
 
 // The stanza of a window whose first line ends at e, by its body.
-fn read_body(w: &[u8], e: usize) -> First
+fn read_body(w: &[u8], e: usize) -> Result<Stanza, Refusal>
     requires w_value { line_end w.now ≡ e }
     requires e_in_bounds { e < length w.now }
     ensures { read_said result ≡ found (length w.now) w.now (scan (line 0 0) (e + 1) (drop (e + 1) w.now)) }
 {
     let b = body_end(w, e + 1);
     match b {
-        Body::Bad => First::Refused(Refusal::NotStanza),
-        Body::Short => First::Refused(unfinished(w.len())),
-        Body::Ends(taken) => {
+        Err(fault) => Err(refusal_of(fault, w.len())),
+        Ok(taken) => {
             let size = strict_base64::body_length(taken - e - 1);
-            First::Stanza(Stanza {
+            Ok(Stanza {
                 line: e,
                 body: size,
                 taken: taken,
@@ -85,6 +67,16 @@ fn window(n: usize) -> usize
     if LONGEST < n { LONGEST } else { n }
 }
 
+// What a part without an end makes of a window of n bytes.
+fn refusal_of(fault: Fault, n: usize) -> Refusal
+    ensures { (w : List ℕ) → refused (number_of result) ≡ found n w (fault_said fault) }
+{
+    match fault {
+        Fault::Bad => Refusal::NotStanza,
+        Fault::Short => unfinished(n),
+    }
+}
+
 // The fault of n bytes in which the stanza has not ended.
 fn unfinished(n: usize) -> Refusal
     ensures { number_of result ≡ pick (ltb n 8192) 2 3 }
@@ -96,33 +88,33 @@ fn unfinished(n: usize) -> Refusal
 }
 
 // "-> " and the arguments up to their LF.
-fn first_line(text: &[u8]) -> FirstLine
+fn first_line(text: &[u8]) -> Result<usize, Fault>
     ensures text_value { scan start 0 text.now ≡ goes_on result text.now }
     ensures ends_at { EndsAt result (line_end text.now) (length text.now) }
 {
     if text.len() == 0 {
-        return FirstLine::Short;
+        return Err(Fault::Short);
     }
     if text[0] != b'-' {
-        return FirstLine::Bad;
+        return Err(Fault::Bad);
     }
     if text.len() == 1 {
-        return FirstLine::Short;
+        return Err(Fault::Short);
     }
     if text[1] != b'>' {
-        return FirstLine::Bad;
+        return Err(Fault::Bad);
     }
     if text.len() == 2 {
-        return FirstLine::Short;
+        return Err(Fault::Short);
     }
     if text[2] != b' ' {
-        return FirstLine::Bad;
+        return Err(Fault::Bad);
     }
     words(text, FRONT)
 }
 
 // The arguments from `from` on, up to their LF.
-fn words(text: &[u8], from: usize) -> FirstLine
+fn words(text: &[u8], from: usize) -> Result<usize, Fault>
     requires { from ≤ length text.now }
     ensures text_value { scan gap from (drop from text.now) ≡ goes_on result text.now }
     ensures ends_at { EndsAt result (from + line_end (drop from text.now)) (length text.now) }
@@ -131,25 +123,25 @@ fn words(text: &[u8], from: usize) -> FirstLine
     while i < text.len() {
         let e = graphic_end(text, i);
         if e == i {
-            return FirstLine::Bad;
+            return Err(Fault::Bad);
         }
         if e == text.len() {
-            return FirstLine::Short;
+            return Err(Fault::Short);
         }
         let b = text[e];
         if b == b'\n' {
-            return FirstLine::Ends(e);
+            return Ok(e);
         }
         if b != b' ' {
-            return FirstLine::Bad;
+            return Err(Fault::Bad);
         }
         i = e + 1;
     }
-    FirstLine::Short
+    Err(Fault::Short)
 }
 
 // The body's lines from `from` on: full ones, and then the last.
-fn body_end(text: &[u8], from: usize) -> Body
+fn body_end(text: &[u8], from: usize) -> Result<usize, Fault>
     requires { from ≤ length text.now }
     ensures { scan (line 0 0) from (drop from text.now) ≡ body_said result }
 {
@@ -161,7 +153,7 @@ fn body_end(text: &[u8], from: usize) -> Body
 }
 
 // The line from `from` on, which is no full one.
-fn last_line(text: &[u8], from: usize) -> Body
+fn last_line(text: &[u8], from: usize) -> Result<usize, Fault>
     requires from_in_bounds { from ≤ length text.now }
     requires text_value { is_full (drop from text.now) ≡ false }
     ensures { scan (line 0 0) from (drop from text.now) ≡ body_said result }
@@ -169,19 +161,19 @@ fn last_line(text: &[u8], from: usize) -> Body
     let e = strict_base64::characters(text, from);
     let k = e - from;
     if strict_base64::LINE_CHARACTERS < k {
-        return Body::Bad;
+        return Err(Fault::Bad);
     }
     if e == text.len() {
-        return Body::Short;
+        return Err(Fault::Short);
     }
     if text[e] != b'\n' {
-        return Body::Bad;
+        return Err(Fault::Bad);
     }
     if k == 0 {
-        return Body::Ends(e + 1);
+        return Ok(e + 1);
     }
     if strict_base64::ends_well(k, text[e - 1]) {
-        return Body::Ends(e + 1);
+        return Ok(e + 1);
     }
-    Body::Bad
+    Err(Fault::Bad)
 }

@@ -7,40 +7,40 @@ ghost use Rattle.stanza.specs.Writing.{sized, written, buffer_after};
 
 use crate::arguments::is_line;
 use crate::{AROUND, FRONT, LONGEST};
-use refusal::{Refusal, Written};
+use refusal::Refusal;
 
 // How many bytes a stanza has, or 17 where arguments and body make no stanza of at most 8,192 bytes. `line` is the arguments' text, the command first.
-pub fn size(line: &[u8], body: &[u8]) -> Written
+pub fn size(line: &[u8], body: &[u8]) -> Result<usize, Refusal>
     ensures { said result ≡ sized line.now body.now }
 {
     if !is_line(line) {
-        return Written::Refused(Refusal::Unwritable);
+        return Err(Refusal::Unwritable);
     }
     // No sum below can wrap then.
     if LONGEST < line.len() {
-        return Written::Refused(Refusal::Unwritable);
+        return Err(Refusal::Unwritable);
     }
     if LONGEST < body.len() {
-        return Written::Refused(Refusal::Unwritable);
+        return Err(Refusal::Unwritable);
     }
     let n = line.len() + AROUND + strict_base64::lines_length(body);
     if LONGEST < n {
-        return Written::Refused(Refusal::Unwritable);
+        return Err(Refusal::Unwritable);
     }
-    Written::Bytes(n)
+    Ok(n)
 }
 
 // A stanza at the front of `out`: how many bytes, or 17 as above, or 15; nothing is written then.
-pub fn write(line: &[u8], body: &[u8], out: &mut [u8]) -> Written
+pub fn write(line: &[u8], body: &[u8], out: &mut [u8]) -> Result<usize, Refusal>
     ensures answer { said result ≡ written line.now body.now out.old }
     ensures buffer { out.new ≡ buffer_after line.now body.now out.old }
 {
     let size = size(line, body);
     match size {
-        Written::Refused(_) => size,
-        Written::Bytes(n) => {
+        Err(_) => size,
+        Ok(n) => {
             if out.len() < n {
-                return Written::Refused(Refusal::ShortOutput);
+                return Err(Refusal::ShortOutput);
             }
             write_into(line, body, out);
             size
@@ -56,7 +56,7 @@ fn write_into(line: &[u8], body: &[u8], out: &mut [u8])
 {
     write_line(line, out);
     let at = line.len() + AROUND;
-    strict_base64::encode_lines(body, &mut out[at..]);
+    let _ = strict_base64::encode_lines(body, &mut out[at..]);
 }
 
 // "-> ", the arguments and LF.
@@ -73,7 +73,7 @@ fn write_line(line: &[u8], out: &mut [u8])
 }
 
 // The arguments' text of a command and what stands behind it at the front of `out`: how many bytes, or 15 and nothing written.
-pub fn join(command: &[u8], arguments: &[u8], out: &mut [u8]) -> Written
+pub fn join(command: &[u8], arguments: &[u8], out: &mut [u8]) -> Result<usize, Refusal>
     ensures answer { said result ≡ answered (line_with command.now arguments.now) out.old }
     ensures buffer { out.new ≡ filled (line_with command.now arguments.now) out.old }
 {
@@ -81,18 +81,18 @@ pub fn join(command: &[u8], arguments: &[u8], out: &mut [u8]) -> Written
     let m = arguments.len();
     let capacity = out.len();
     if capacity < n {
-        return Written::Refused(Refusal::ShortOutput);
+        return Err(Refusal::ShortOutput);
     }
     let left = capacity - n;
     if m == 0 {
         copy(command, out);
-        return Written::Bytes(n);
+        return Ok(n);
     }
     if left <= m {
-        return Written::Refused(Refusal::ShortOutput);
+        return Err(Refusal::ShortOutput);
     }
     join_into(command, arguments, out);
-    Written::Bytes(n + 1 + m)
+    Ok(n + 1 + m)
 }
 
 // The two with a space between them at the front of `out`, which is long enough.

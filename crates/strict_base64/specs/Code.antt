@@ -1,10 +1,8 @@
 -- Base64 without padding: three bytes are four characters, and what is left over two or three (document 01, "Stanza text").
-use Rattle.std.specs.Prelude.{ℕ, ◌+◌, ◌-◌, ◌*◌, ◌/◌, ◌%◌, Bool, true, false, ◌&&◌, List, [], ◌∷◌, eqb, length, get_or}
+use Rattle.std.specs.Prelude.{ℕ, ◌+◌, ◌-◌, ◌*◌, ◌/◌, ◌%◌, Bool, true, false, ◌&&◌, List, [], ◌∷◌, eqb, length, get_or, Option, Some, None}
 use Rattle.refusal.specs.Pick.{pick}
 use Rattle.strict_base64.specs.Alphabet.{is_character, value_of, character_of}
 use Rattle.refusal.specs.Run.{all}
-use Rattle.strict_base64.specs.declared.decoding.Size.{Size}
-use Rattle.strict_base64.specs.declared.decoding.Size.TheVariants as size_is
 
 -- the text of some bytes
 unfoldable pub encoded : List ℕ → List ℕ
@@ -43,9 +41,9 @@ pub data Judged (X : Type 0) : Type 0 where
   not_base64 : Judged X
 
 -- what the code's answer stands for
-abbrev pub size_said : Size → Judged ℕ
-size_said (size_is.Bytes n) = base64 n
-size_said size_is.NotBase64 = not_base64
+abbrev pub size_said : Option ℕ → Judged ℕ
+size_said (Some n) = base64 n
+size_said None = not_base64
 
 -- measuring: how many bytes the text decodes to
 abbrev pub measured : List ℕ → Judged ℕ

@@ -6,44 +6,37 @@ ghost use Rattle.strict_base64.specs.Tables.{Values, decoded_size};
 ghost use Rattle.refusal.specs.Output.{said, answered, filled};
 
 use crate::alphabet::{characters, ends_well, values};
-use refusal::{Refusal, Written};
-
-// How many bytes a text decodes to, if it is base64.
-#[derive(Clone, Copy)]
-pub enum Size {
-    Bytes(usize),
-    NotBase64,
-}
+use refusal::Refusal;
 
 // How many bytes a text decodes to, or that it is no base64.
-pub fn measure(text: &[u8]) -> Size
+pub fn measure(text: &[u8]) -> Option<usize>
     ensures { size_said result ≡ measured text.now }
 {
     let n = text.len();
     if n == 0 {
-        return Size::Bytes(0);
+        return Some(0);
     }
     if characters(text, 0) < n {
-        return Size::NotBase64;
+        return None;
     }
     if ends_well(n, text[n - 1]) {
-        return Size::Bytes(n / 4 * 3 + n % 4 * 3 / 4);
+        return Some(n / 4 * 3 + n % 4 * 3 / 4);
     }
-    Size::NotBase64
+    None
 }
 
 // The bytes of a text at the front of `out`: how many, or 15 and nothing written. Of a text that is no base64 it makes what the definition says.
-pub fn decode(text: &[u8], out: &mut [u8]) -> Written
+pub fn decode(text: &[u8], out: &mut [u8]) -> Result<usize, Refusal>
     ensures answer { said result ≡ answered (decoded text.now) out.old }
     ensures buffer { out.new ≡ filled (decoded text.now) out.old }
 {
     let n = text.len() / 4 * 3 + text.len() % 4 * 3 / 4;
     if out.len() < n {
-        return Written::Refused(Refusal::ShortOutput);
+        return Err(Refusal::ShortOutput);
     }
     let table = values();
     decode_into(&table, text, out);
-    Written::Bytes(n)
+    Ok(n)
 }
 
 fn wide(b: u8) -> usize

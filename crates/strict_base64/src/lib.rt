@@ -9,7 +9,7 @@ mod encoding;
 mod lines;
 
 pub use alphabet::{characters, ends_well, is_character};
-pub use decoding::{Size, decode, measure};
+pub use decoding::{decode, measure};
 pub use lines::{
     LINE_CHARACTERS, LINE_LENGTH, body_length, decode_lines, encode_lines, full_line, lines_length,
 };

@@ -9,7 +9,7 @@ ghost use Rattle.refusal.specs.Output.{said, answered, filled};
 use crate::alphabet::{alphabet_characters, is_character, values};
 use crate::decoding::decode_into;
 use crate::encoding::{encode_into, encoded_length};
-use refusal::{Refusal, Written};
+use refusal::Refusal;
 
 // A full line: its characters, its bytes with the LF, and how many bytes of the body it has.
 pub const LINE_CHARACTERS: usize = 64;
@@ -63,17 +63,17 @@ pub fn body_length(n: usize) -> usize
 }
 
 // The body of some lines at the front of `out`: how many bytes, or 15 and nothing written.
-pub fn decode_lines(lines: &[u8], out: &mut [u8]) -> Written
+pub fn decode_lines(lines: &[u8], out: &mut [u8]) -> Result<usize, Refusal>
     ensures answer { said result ≡ answered (body_of lines.now) out.old }
     ensures buffer { out.new ≡ filled (body_of lines.now) out.old }
 {
     let n = body_length(lines.len());
     if out.len() < n {
-        return Written::Refused(Refusal::ShortOutput);
+        return Err(Refusal::ShortOutput);
     }
     let table = values();
     body_into(&table, lines, out);
-    Written::Bytes(n)
+    Ok(n)
 }
 
 // The same where the buffer is long enough: line by line, the last without its LF.
@@ -110,17 +110,17 @@ pub fn lines_length(body: &[u8]) -> usize
 }
 
 // The lines of a body at the front of `out`: how many bytes, or 15 and nothing written.
-pub fn encode_lines(body: &[u8], out: &mut [u8]) -> Written
+pub fn encode_lines(body: &[u8], out: &mut [u8]) -> Result<usize, Refusal>
     ensures answer { said result ≡ answered (lines_of body.now) out.old }
     ensures buffer { out.new ≡ filled (lines_of body.now) out.old }
 {
     let n = lines_length(body);
     if out.len() < n {
-        return Written::Refused(Refusal::ShortOutput);
+        return Err(Refusal::ShortOutput);
     }
     let table = alphabet_characters();
     lines_into(&table, body, out);
-    Written::Bytes(n)
+    Ok(n)
 }
 
 // The same where the buffer is long enough: 48 bytes to a full line, and the rest to the last.

@@ -1,13 +1,11 @@
 -- The tables (document 01, "Phase one": "Each kind has its own numbering from 0 and its own lent room", there called places and rooms).
-use Rattle.std.specs.Prelude.{ℕ, ◌+◌, ◌<◌, ◌≤◌, ◌≡◌, ◌⊎◌, ◌↔◌, Bool, ◌&&◌, List, [], ◌++◌, map, ltb, leb, length, take, drop, set, get_or, replicate}
+use Rattle.std.specs.Prelude.{ℕ, ◌+◌, ◌<◌, ◌≤◌, ◌≡◌, ◌⊎◌, ◌↔◌, Bool, ◌&&◌, List, [], ◌++◌, map, ltb, leb, length, take, drop, set, get_or, replicate, Option, Some, None}
 use Rattle.refusal.specs.Pick.{pick}
 use Rattle.refusal.specs.Verdict.{first_of}
 use Rattle.tables.specs.declared.slots.Entry.{Entry}
 use Rattle.tables.specs.Slots.{slots_of}
 use Rattle.tables.specs.declared.slots.Span.{Span}
 use Rattle.tables.specs.declared.tables.Table.{Table as CodeTable}
-use Rattle.tables.specs.declared.tables.Found.{Found as CodeFound}
-use Rattle.tables.specs.declared.tables.Found.TheVariants as the
 
 -- `width` slots, of which the first `count` are entries; their payloads take the first `used` bytes of the kind's buffer
 pub record Table : Type 0 where
@@ -81,9 +79,9 @@ pub data Found : Type 0 where
   nothing : Found
 
 -- what the code's answer stands for
-abbrev pub found_said : CodeFound → Found
-found_said (the.Entry e) = entry e
-found_said the.Nothing = nothing
+abbrev pub found_said : Option Entry → Found
+found_said (Some e) = entry e
+found_said None = nothing
 
 -- the entry of a number
 abbrev pub found : Table → ℕ → Found

@@ -27,7 +27,7 @@ pub(crate) fn put_body(coding: Coding, source: &[u8], out: &mut [u8])
     match coding {
         Coding::Bytes => stanza::copy(source, out),
         Coding::Lines => {
-            strict_base64::decode_lines(source, out);
+            let _ = strict_base64::decode_lines(source, out);
         }
     }
 }

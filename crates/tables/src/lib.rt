@@ -8,4 +8,4 @@ mod tables;
 
 pub use copying::{Coding, body_size};
 pub use slots::{EMPTY, Entry, Span, entry_at, slots_in};
-pub use tables::{Found, Stored, Table, payload};
+pub use tables::{Stored, Table, payload};

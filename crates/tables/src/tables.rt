@@ -11,14 +11,7 @@ ghost use Rattle.tables.specs.Tables.{table_in, storing, entered, kept, found_sa
 
 use crate::copying::{Coding, body_size, put_body, put_lines};
 use crate::slots::{Entry, Span, entry_at, put_entry, slots_in};
-use refusal::{Refusal, Verdict};
-
-// What stands at a number of a table.
-#[derive(Clone, Copy)]
-pub enum Found {
-    Entry(Entry),
-    Nothing,
-}
+use refusal::Refusal;
 
 // What a session keeps of a kind: the first `count` of its slots are entries, whose payloads take the first `used` bytes of the buffer.
 #[derive(Clone, Copy)]
@@ -30,7 +23,7 @@ pub struct Table {
 // What storing came to: the number if it is refused, and the table.
 #[derive(Clone, Copy)]
 pub struct Stored {
-    pub verdict: Verdict,
+    pub verdict: Result<(), Refusal>,
     pub table: Table,
 }
 
@@ -56,16 +49,16 @@ impl Table {
     }
 
     // What stands at a number.
-    pub fn find(self, span: Span, n: usize, slots: &[[usize; 4]]) -> Found
+    pub fn find(self, span: Span, n: usize, slots: &[[usize; 4]]) -> Option<Entry>
         ensures { found_said result ≡ found (table_in span self slots.now) n }
     {
         if self.count <= n {
-            return Found::Nothing;
+            return None;
         }
         if span.width <= n {
-            return Found::Nothing;
+            return None;
         }
-        Found::Entry(entry_at(span, n, slots))
+        Some(entry_at(span, n, slots))
     }
 
     // Whether an entry already shows a text. One that the buffer is too short for shows none. Bytes are compared from the last: recipients have their front
@@ -114,7 +107,7 @@ impl Table {
     pub fn enter(
         self,
         span: Span,
-        late: Verdict,
+        late: Result<(), Refusal>,
         n: usize,
         index: usize,
         mark: usize,
@@ -131,16 +124,16 @@ impl Table {
         let used = self.used;
         if !has_space(count, span.width, used, n, capacity) {
             return Stored {
-                verdict: Verdict::Refused(Refusal::NoSpace),
+                verdict: Err(Refusal::NoSpace),
                 table: self,
             };
         }
         match late {
-            Verdict::Refused(_) => Stored {
+            Err(_) => Stored {
                 verdict: late,
                 table: self,
             },
-            Verdict::Accepted => {
+            Ok(()) => {
                 let e = Entry {
                     start: used,
                     length: n,
@@ -163,7 +156,7 @@ impl Table {
     pub fn store(
         self,
         span: Span,
-        late: Verdict,
+        late: Result<(), Refusal>,
         coding: Coding,
         source: &[u8],
         index: usize,
@@ -188,8 +181,8 @@ impl Table {
         let stored = self.enter(span, late, n, index, mark, buffer.len(), slots);
         let verdict = stored.verdict;
         match verdict {
-            Verdict::Refused(_) => stored,
-            Verdict::Accepted => {
+            Err(_) => stored,
+            Ok(()) => {
                 put_body(coding, source, &mut buffer[used..]);
                 stored
             }
@@ -200,7 +193,7 @@ impl Table {
     pub fn store_lines(
         self,
         span: Span,
-        late: Verdict,
+        late: Result<(), Refusal>,
         line: &[u8],
         coding: Coding,
         source: &[u8],
@@ -229,8 +222,8 @@ impl Table {
         let stored = self.enter(span, late, n, index, mark, buffer.len(), slots);
         let verdict = stored.verdict;
         match verdict {
-            Verdict::Refused(_) => stored,
-            Verdict::Accepted => {
+            Err(_) => stored,
+            Ok(()) => {
                 put_lines(line, coding, source, &mut buffer[used..]);
                 stored
             }
@@ -239,13 +232,13 @@ impl Table {
 }
 
 // The payload of what was found, a part of its kind's buffer; empty where there is no entry, or the buffer is too short for it.
-pub fn payload<'a>(found: Found, buffer: &'a [u8]) -> &'a [u8]
+pub fn payload<'a>(found: Option<Entry>, buffer: &'a [u8]) -> &'a [u8]
     ensures { result.now ≡ shown (found_said found) buffer.now }
 {
     let capacity = buffer.len();
     match found {
-        Found::Nothing => &buffer[capacity..],
-        Found::Entry(e) => part(e.start, e.length, buffer),
+        None => &buffer[capacity..],
+        Some(e) => part(e.start, e.length, buffer),
     }
 }
 

@@ -10,7 +10,7 @@ use native.Mathlib.Omega.{arith}
 use borrow.Author.Tests.{leb-true}
 use Rattle.refusal.specs.Number.{number_of}
 use Rattle.refusal.specs.declared.Refusal.{Refusal}
-use Rattle.refusal.specs.declared.Verdict.TheVariants.{Refused}
+use Rattle.std.specs.Prelude.{Err}
 use Rattle.refusal.proofs.Laws.Booleans.{and_true}
 use Rattle.stanza.specs.declared.places.Place.TheVariants as place
 use Rattle.stanza.specs.Reading.{stanza, refused, read_first}
@@ -65,7 +65,7 @@ none_front Closed a h = refl
 -- a refusal behind what was taken
 abbrev pub stopped_at : Refusal → CodeSession → CodeReceived → CodeReceived
 stopped_at n s g = record {
-  verdict = Refused n;
+  verdict = Err n;
   count = g.count;
   last = g.last;
   written = g.written;
@@ -75,7 +75,7 @@ stopped_at n s g = record {
 -- a refusal of the first text
 abbrev pub stopped : Refusal → CodeSession → CodeReceived
 stopped n s = record {
-  verdict = Refused n;
+  verdict = Err n;
   count = 0;
   last = Nothing;
   written = 0;

@@ -10,7 +10,7 @@ use native.Mathlib.Omega.{arith}
 use borrow.Author.Tests.{leb-true}
 use Rattle.refusal.specs.Output.{Answer, bytes, refused, filled}
 use Rattle.refusal.specs.Pick.{pick}
-use Rattle.refusal.specs.declared.Verdict.TheVariants.{Accepted}
+use Rattle.std.specs.Prelude.{Ok}
 use Rattle.refusal.proofs.Laws.Booleans.{and_true}
 use Rattle.stanza.specs.Automaton.{start}
 use Rattle.stanza.specs.Grammar.{stanza_text}
@@ -117,7 +117,7 @@ reply_room w u n m e h = ap (λ m. has_room u (n - m)) (sym e) ∙ sym (more_roo
 
 -- a reply that is begun
 abbrev pub begun_with : ℕ → CodeSession → CodeReceived
-begun_with n s = record { verdict = Accepted; count = 0; last = Nothing; written = n; session = s }
+begun_with n s = record { verdict = Ok tt; count = 0; last = Nothing; written = n; session = s }
 
 -- the session with the reply given
 abbrev pub given_to : CodeSession → CodeSession

@@ -9,11 +9,11 @@ use Rattle.exports.specs.Results.{number_in, length_or}
 use Rattle.exports.proofs.Laws.Results.{name_made, name_kept}
 use Rattle.exports.proofs.read_text.Goals as goal
 
-pub returns-in-Bytes : goal.returns-in-Bytes
-returns-in-Bytes c = let read = c.read-reading.ensures in
+pub returns-in-Ok : goal.returns-in-Ok
+returns-in-Ok c = let read = c.read-reading.ensures in
     let p = parse (form_of c.args.kind) c.args.text.now in
     let b = c.args.out.now in
-    let told : bytes c.in-Bytes.size ≡ read_answer p b = sym (ap said c.in-Bytes.is) ∙ read.answer in
+    let told : bytes c.in-Ok.size ≡ read_answer p b = sym (ap said c.in-Ok.is) ∙ read.answer in
     record {
       number = ap number_in told;
       name = read.bytes ∙ name_made padded _ p b _ told;
@@ -23,11 +23,11 @@ returns-in-Bytes c = let read = c.read-reading.ensures in
       place = read.place;
     }
 
-pub returns-in-Refused : goal.returns-in-Refused
-returns-in-Refused c = let read = c.read-reading.ensures in
+pub returns-in-Err : goal.returns-in-Err
+returns-in-Err c = let read = c.read-reading.ensures in
     let p = parse (form_of c.args.kind) c.args.text.now in
     let b = c.args.out.now in
-    let told : refused (number_of c.in-Refused.r) ≡ read_answer p b = sym (ap said c.in-Refused.is) ∙ read.answer in
+    let told : refused (number_of c.in-Err.r) ≡ read_answer p b = sym (ap said c.in-Err.is) ∙ read.answer in
     record {
       number = c.number.ensures ∙ ap number_in told;
       name = name_kept padded _ p b _ told;

@@ -2,8 +2,8 @@
 use mathlib.Core.Path.{refl}
 use Rattle.exports.proofs.tell.Goals as goal
 
-pub returns-in-Refused : goal.returns-in-Refused
-returns-in-Refused c = record {
-  number = rw c.in-Refused.is c.number.ensures;
-  length = rw c.in-Refused.is refl;
+pub returns-in-Err : goal.returns-in-Err
+returns-in-Err c = record {
+  number = rw c.in-Err.is c.number.ensures;
+  length = rw c.in-Err.is refl;
 }

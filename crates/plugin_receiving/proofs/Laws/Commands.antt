@@ -12,7 +12,7 @@ use Rattle.refusal.specs.Number.{number_of}
 use Rattle.refusal.specs.Pick.{pick}
 use Rattle.refusal.specs.Verdict.{verdict_said}
 use Rattle.refusal.specs.declared.Refusal.{Refusal}
-use Rattle.refusal.specs.declared.Verdict.TheVariants as the_verdict
+use Rattle.std.specs.Prelude.{Result, Ok, Err}
 use Rattle.refusal.proofs.Laws.Number.{number_not_zero}
 use Rattle.strict_base64.specs.Lines.{body_of}
 use Rattle.stanza.specs.Reading.{Reading, stanza, refused, read_first}
@@ -52,8 +52,7 @@ use Rattle.intake.specs.Settling.{MaySettle, Says}
 use Rattle.intake.specs.declared.answers.Received.{Received as CodeReceived}
 use Rattle.plugin_receiving.specs.Commands.{begun_by, next_in, answer_behind, comes_to, NoneDue}
 use Rattle.plugin_receiving.specs.Receiving.{taking_said}
-use Rattle.plugin_receiving.specs.declared.receiving.Taking.{Taking as CodeTaking}
-use Rattle.plugin_receiving.specs.declared.receiving.Taking.TheVariants as the
+use Rattle.plugin_receiving.specs.declared.receiving.Taken.{Taken as CodeTaken}
 
 -- ---- one command
 
@@ -125,7 +124,7 @@ command_phase s b x (stanza l m k) first = stanza_phase s b (drop 3 (take l x)) 
 command_phase s b x (refused n) first = either (λ (s : Session). is_waiting client s.phase ≡ false) (closes n) (closed s) s refl (ap (is_waiting client) first)
 
 -- .. behind the commands of an answer
-module _ (r : CodeReceived) (xs hs xs' hs' : List (List ℕ)) (b b' : BuffersOne) (x : List ℕ) (answer : CodeTaking) (after : CodeSession)
+module _ (r : CodeReceived) (xs hs xs' hs' : List (List ℕ)) (b b' : BuffersOne) (x : List ℕ) (answer : Result CodeTaken Refusal) (after : CodeSession)
     (first : r.session.phase ≡ One)
     (is : record { answer = taking_said answer; session = session_of after xs' hs'; buffers = b' } ≡
     received_as (read_first x) (session_of r.session xs hs) x b) where
@@ -134,14 +133,14 @@ module _ (r : CodeReceived) (xs hs xs' hs' : List (List ℕ)) (b b' : BuffersOne
       comes_to (answer_behind r answer after) xs' hs' (buffers_of b' c) rest
   comes_on c t rest = by answer is
     where
-      by : (a : CodeTaking)
+      by : (a : Result CodeTaken Refusal)
           (is : record { answer = taking_said a; session = session_of after xs' hs'; buffers = b' } ≡ received_as (read_first x) (session_of r.session xs hs) x b) →
           behind r.count (last_said r.last) [] (call_taken (session_of r.session xs hs) b c x first _ is t rest) ≡
           comes_to (answer_behind r a after) xs' hs' (buffers_of b' c) rest
-      by (the.Command w j) is =
-          ap (behind r.count (last_said r.last) []) (command_taken (session_of r.session xs hs) b c x first _ is t rest (word_said w) j refl)
-          ∙ behind_more r.count (last_said r.last) (command (one.text_of_word (word_said w))) [] [] (taken_text plugin (session_of after xs' hs') (buffers_of b' c) [] rest)
-      by (the.Refused q) is =
+      by (Ok y) is =
+          ap (behind r.count (last_said r.last) []) (command_taken (session_of r.session xs hs) b c x first _ is t rest (word_said y.word) y.taken refl)
+          ∙ behind_more r.count (last_said r.last) (command (one.text_of_word (word_said y.word))) [] [] (taken_text plugin (session_of after xs' hs') (buffers_of b' c) [] rest)
+      by (Err q) is =
           ap (behind r.count (last_said r.last) []) (command_refused (session_of r.session xs hs) b c x first _ is t rest (number_of q) (number_not_zero q) refl)
           ∙ ap (λ f. behind r.count (last_said r.last) [] (pick f (taken_text plugin (session_of after xs' hs') (buffers_of b' c) [] rest)
           (no_more (number_of q) (emptied (session_of after xs' hs') []) (buffers_of b' c)))) (sym (number_not_zero q))
@@ -149,9 +148,9 @@ module _ (r : CodeReceived) (xs hs xs' hs' : List (List ℕ)) (b b' : BuffersOne
   none_due_on : NoneDue (answer_behind r answer after)
   none_due_on = by answer (ap (λ (r : Received). is_waiting client r.session.phase) is ∙ command_phase (session_of r.session xs hs) b x (read_first x) first)
     where
-      by : (a : CodeTaking) → is_waiting client after.phase ≡ false → NoneDue (answer_behind r a after)
-      by (the.Command w j) e z = e
-      by (the.Refused q) e z = e
+      by : (a : Result CodeTaken Refusal) → is_waiting client after.phase ≡ false → NoneDue (answer_behind r a after)
+      by (Ok y) e z = e
+      by (Err q) e z = e
 
   -- what it does to the answer
   record Stepped (r' : CodeReceived) : Type 0 where
@@ -165,17 +164,17 @@ module _ (r : CodeReceived) (xs hs xs' hs' : List (List ℕ)) (b b' : BuffersOne
   stepped : (r' : CodeReceived) → r' ≡ answer_behind r answer after → Stepped r'
   stepped r' e = subst Stepped (sym e) (record { comes = comes_on; none_due = none_due_on; count = more answer; written = wrote answer; session = left answer })
     where
-      more : (a : CodeTaking) → (answer_behind r a after).count ≤ r.count + 1
-      more (the.Command w j) = omega arith
-      more (the.Refused q) = omega arith
+      more : (a : Result CodeTaken Refusal) → (answer_behind r a after).count ≤ r.count + 1
+      more (Ok y) = omega arith
+      more (Err q) = omega arith
 
-      wrote : (a : CodeTaking) → (answer_behind r a after).written ≡ r.written
-      wrote (the.Command w j) = refl
-      wrote (the.Refused q) = refl
+      wrote : (a : Result CodeTaken Refusal) → (answer_behind r a after).written ≡ r.written
+      wrote (Ok y) = refl
+      wrote (Err q) = refl
 
-      left : (a : CodeTaking) → (answer_behind r a after).session ≡ after
-      left (the.Command w j) = refl
-      left (the.Refused q) = refl
+      left : (a : Result CodeTaken Refusal) → (answer_behind r a after).session ≡ after
+      left (Ok y) = refl
+      left (Err q) = refl
 
 -- ---- what is left
 
@@ -217,7 +216,7 @@ module _ (r : CodeReceived) (text : List ℕ) (at : ℕ) (in-text : at ≤ lengt
   pub stanza_within : at + s.taken ≤ length text
   stanza_within = omega (arith, ((taken_iff x s.taken).0 (s.line, s.body, reads_so)).within, ap length (part_is text at), length-drop at text)
 
-  pub advanced : (r' : CodeReceived) (xs hs xs' hs' : List (List ℕ)) (b b' : BuffersOne) (answer : CodeTaking) (after : CodeSession) →
+  pub advanced : (r' : CodeReceived) (xs hs xs' hs' : List (List ℕ)) (b b' : BuffersOne) (answer : Result CodeTaken Refusal) (after : CodeSession) →
       record { answer = taking_said answer; session = session_of after xs' hs'; buffers = b' } ≡
       received_stanza (session_of r.session xs hs) b (arguments_in x s) (body_in x s) s.taken →
       r' ≡ answer_behind r answer after → Advanced r r' xs hs xs' hs' b b' text at s.taken after
@@ -271,7 +270,7 @@ may_settle n p t rest input z w e long none = record {
     plugin_keeps Closed h = keeps_not_drops 13 (sym h)
 
 -- nothing is taken behind a refusal, and nothing is kept
-pub refusal_stands : (r : CodeReceived) (q : Refusal) (s : CodeSession) (xs hs : List (List ℕ)) (b : Buffers) (input rest : List ℕ) → r.verdict ≡ the_verdict.Refused q →
+pub refusal_stands : (r : CodeReceived) (q : Refusal) (s : CodeSession) (xs hs : List (List ℕ)) (b : Buffers) (input rest : List ℕ) → r.verdict ≡ Err q →
     s ≡ record {
       machine = r.session.machine;
       phase = r.session.phase;
@@ -323,7 +322,7 @@ pub record Fronted (s : CodeSession) (xs hs xs' hs' : List (List ℕ)) (b b' : B
   pub written : r.written ≡ 0
   pub session : r.session ≡ after
 
-pub fronted : (s : CodeSession) (xs hs xs' hs' : List (List ℕ)) (b b' : BuffersOne) (input chunk : List ℕ) (k : ℕ) (r : CodeReceived) (answer : CodeTaking) (after : CodeSession) →
+pub fronted : (s : CodeSession) (xs hs xs' hs' : List (List ℕ)) (b b' : BuffersOne) (input chunk : List ℕ) (k : ℕ) (r : CodeReceived) (answer : Result CodeTaken Refusal) (after : CodeSession) →
     8192 ≤ length input → s.phase ≡ One → front_of s.reading (min s.kept 8191) chunk ≡ whole k → (k ≡ 0 → ⊥) →
     (text : List ℕ) → text ≡ take (min s.kept 8191) input ++ take k chunk →
     record { answer = taking_said answer; session = session_of after xs' hs'; buffers = b' } ≡ received_as (read_first text) (session_of s xs hs) text b →

@@ -60,8 +60,8 @@ overflow_sub-end c = let t = c.args.text.now in
     let s : c.find_separator-at.result ≡ separator t = c.find_separator-at.ensures in
     omega (arith, head_long k t e)
 
-pub overflow_sub-end-in-Accepted : goal.overflow_sub-end-in-Accepted
-overflow_sub-end-in-Accepted c = let t = c.args.text.now in
+pub overflow_sub-end-in-Ok : goal.overflow_sub-end-in-Ok
+overflow_sub-end-in-Ok c = let t = c.args.text.now in
     let k = form_of c.args.kind in
     let e = is_head k t (λ z. c.if-name-eq0.false (c.name_at-name.ensures.length ∙ z)) in
     let s : c.find_separator-at.result ≡ separator t = c.find_separator-at.ensures in
@@ -79,7 +79,7 @@ returns-then-out-n c = let t = c.args.text.now in
     let m : length d ≡ length t - 6 - (at + 1) = length-take-le (length t - 6 - (at + 1)) (drop (at + 1) t) (simp length-drop (omega arith)) in
     let p = bytes (map value_at d) in
     let v : length p ≡ c.bytes_length-n.result = bytes_length (map value_at d) ∙ ap bytes_size (length-map d value_at ∙ m) ∙ sym c.bytes_length-n.ensures in
-    let z : tail_number (map lower t) ≡ 0 = sym c.judge_tail-verdict.ensures ∙ ap verdict_said c.in-Accepted.is in
+    let z : tail_number (map lower t) ≡ 0 = sym c.judge_tail-verdict.ensures ∙ ap verdict_said c.in-Ok.is in
     let x : parse k t ≡ parsed (name_at k t) p = text_is k t e z ∙ ap (λ vs. parsed (name_at k t) (bytes vs)) y in
     let o = c.args.out.now in
     let q = reads_short k t o (name_at k t) p x (omega arith) in
@@ -117,7 +117,7 @@ returns-else-out-n c = let t = c.args.text.now in
     let m : length d ≡ length t - 6 - (at + 1) = length-take-le (length t - 6 - (at + 1)) (drop (at + 1) t) (simp length-drop (omega arith)) in
     let p = bytes (map value_at d) in
     let v : length p ≡ c.bytes_length-n.result = bytes_length (map value_at d) ∙ ap bytes_size (length-map d value_at ∙ m) ∙ sym c.bytes_length-n.ensures in
-    let z : tail_number (map lower t) ≡ 0 = sym c.judge_tail-verdict.ensures ∙ ap verdict_said c.in-Accepted.is in
+    let z : tail_number (map lower t) ≡ 0 = sym c.judge_tail-verdict.ensures ∙ ap verdict_said c.in-Ok.is in
     let x : parse k t ≡ parsed (name_at k t) p = text_is k t e z ∙ ap (λ vs. parsed (name_at k t) (bytes vs)) y in
     let o = c.args.out.now in
     let f : filled (bytes (map (symbol_in c.values-table.result) d)) o ≡ p ++ drop (length p) o =
@@ -131,17 +131,17 @@ returns-else-out-n c = let t = c.args.text.now in
       buffer = c.decode.ensures ∙ f ∙ q.3;
     }
 
-pub returns-in-Refused : goal.returns-in-Refused
-returns-in-Refused c = let t = c.args.text.now in
+pub returns-in-Err : goal.returns-in-Err
+returns-in-Err c = let t = c.args.text.now in
     let k = form_of c.args.kind in
     let e = is_head k t (λ z. c.if-name-eq0.false (c.name_at-name.ensures.length ∙ z)) in
-    let r = c.in-Refused.r in
-    let n : text_number (parse k t) ≡ number_of r = number_is k t e ∙ sym c.judge_tail-verdict.ensures ∙ ap verdict_said c.in-Refused.is in
+    let r = c.in-Err.r in
+    let n : text_number (parse k t) ≡ number_of r = number_is k t e ∙ sym c.judge_tail-verdict.ensures ∙ ap verdict_said c.in-Err.is in
     let q = refuses k t c.args.out.now (number_of r) n (number_not_zero r) in
     record {
-      answer = ap said c.refuse-in-Refused.ensures.answer ∙ q.0;
-      place = c.refuse-in-Refused.ensures.place ∙ q.1;
-      bytes = c.refuse-in-Refused.ensures.bytes ∙ ap padded q.2;
-      length = c.refuse-in-Refused.ensures.length ∙ ap length q.2;
+      answer = ap said c.refuse-in-Err.ensures.answer ∙ q.0;
+      place = c.refuse-in-Err.ensures.place ∙ q.1;
+      bytes = c.refuse-in-Err.ensures.bytes ∙ ap padded q.2;
+      length = c.refuse-in-Err.ensures.length ∙ ap length q.2;
       buffer = q.3;
     }

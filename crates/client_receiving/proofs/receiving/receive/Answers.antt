@@ -20,19 +20,19 @@ use Rattle.client_receiving.proofs.Laws.Texts.{none_lent}
 use Rattle.client_receiving.proofs.Laws.Receiving.{out_of_turn, no_room, with_room, untaken_input}
 use Rattle.client_receiving.proofs.receiving.receive.Goals as goal
 
-pub returns-in-Refused : goal.returns-in-Refused
-returns-in-Refused c = let a = c.args in
-    let n = sym (ap verdict_said c.in-Refused.is) ∙ c.turn_two-turn.ensures in
+pub returns-in-Err : goal.returns-in-Err
+returns-in-Err c = let a = c.args in
+    let n = sym (ap verdict_said c.in-Err.is) ∙ c.turn_two-turn.ensures in
     let i = intake_of client a.session a.slots.now a.header_slots.now a.input.now in
     let f = c.leave.ensures.outcome client a.slots.now a.header_slots.now a.input.now in
     record {
-      outcome = (λ b. let l = lent b a.errors.now a.stanzas.now a.returned.now in f l a.out.now ∙ out_of_turn i l a.chunk.now a.out.now (number_of c.in-Refused.r) n (number_not_zero c.in-Refused.r));
-      input = untaken_input a.session a.slots.now a.header_slots.now a.input.now (number_of c.in-Refused.r) _ a.out.now c.leave.result (f (lent none_lent [] [] []) a.out.now);
+      outcome = (λ b. let l = lent b a.errors.now a.stanzas.now a.returned.now in f l a.out.now ∙ out_of_turn i l a.chunk.now a.out.now (number_of c.in-Err.r) n (number_not_zero c.in-Err.r));
+      input = untaken_input a.session a.slots.now a.header_slots.now a.input.now (number_of c.in-Err.r) _ a.out.now c.leave.result (f (lent none_lent [] [] []) a.out.now);
       name = c.leave.ensures.name;
     }
 
-pub returns-in-GoesOn : goal.returns-in-GoesOn
-returns-in-GoesOn c = let a = c.args in
+pub returns-in-Some : goal.returns-in-Some
+returns-in-Some c = let a = c.args in
     let x = a.chunk.now in
     let o = a.input.now in
     let xs = a.slots.now in
@@ -42,7 +42,7 @@ returns-in-GoesOn c = let a = c.args in
     let n = sym (ap verdict_said c.in_default.is) ∙ c.turn_two-turn.ensures in
     let second = turn_second a.session.phase (sym n) in
     let g = c.read_one-one in
-    let s = subst (OneByteSays reads a.session.reading k x o g.new.input) c.in-GoesOn.is g.ensures in
+    let s = subst (OneByteSays reads a.session.reading k x o g.new.input) c.in-Some.is g.ensures in
     let long : 8192 ≤ length o = omega (arith, c.read_one-arg-1.given) in
     let answered : (b : BuffersOne) → Answered client a.session x c.keep_on.result xs hs o g.new.input (lent b a.errors.now a.stanzas.now a.returned.now) out = λ b. subst (λ i. Answered client a.session x c.keep_on.result xs hs o i (lent b a.errors.now a.stanzas.now a.returned.now) out) (sym s.2) (c.keep_on.ensures.outcome client xs hs o (lent b a.errors.now a.stanzas.now a.returned.now) out (ap (turn_at client) second) long s.1) in
     record {
@@ -75,8 +75,8 @@ returns-in-Unfinished c = let a = c.args in
       name = c.keep_on-in-Unfinished.ensures.name;
     }
 
-pub returns-in-Refused-front : goal.returns-in-Refused-front
-returns-in-Refused-front c = let a = c.args in
+pub returns-in-Err-front : goal.returns-in-Err-front
+returns-in-Err-front c = let a = c.args in
     let x = a.chunk.now in
     let o = a.input.now in
     let xs = a.slots.now in
@@ -88,8 +88,8 @@ returns-in-Refused-front c = let a = c.args in
     let g = c.read_one-one in
     let f = c.read_front-front in
     let same = subst (OneByteSays reads a.session.reading k x o g.new.input) c.in_default-one.is g.ensures in
-    let front = sym f.ensures.front ∙ ap continued_said c.in-Refused-front.is in
-    let input = f.ensures.input ∙ ap (λ r. input_behind (continued_said r) k x g.new.input) c.in-Refused-front.is in
+    let front = sym f.ensures.front ∙ ap continued_said c.in-Err-front.is in
+    let input = f.ensures.input ∙ ap (λ r. input_behind (continued_said r) k x g.new.input) c.in-Err-front.is in
     let i = f.new.input in
     let long : 8192 ≤ length o = omega (arith, c.read_one-arg-1.given) in
     let answered : (b : BuffersOne) → Answered client a.session x c.close.result xs hs o (i) (lent b a.errors.now a.stanzas.now a.returned.now) out = λ b. subst (λ i. Answered client a.session x c.close.result xs hs o i (lent b a.errors.now a.stanzas.now a.returned.now) out) (sym (input ∙ same)) (c.close.ensures.outcome client xs hs o x (lent b a.errors.now a.stanzas.now a.returned.now) out (ap (turn_at client) second) long front) in

@@ -18,18 +18,18 @@ use Rattle.client_receiving.proofs.replying.reply.Goals as goal
 
 pub reply_ahead-requires : goal.reply_ahead-requires
 reply_ahead-requires c = let a = c.args in
-    let n = c.in-Bytes.size in
+    let n = c.in-Ok.size in
     let z = reply_fits (intake_of client a.session a.slots.now a.header_slots.now a.input.now) (lent none_lent [] [] []) a.response a.body.now a.out.now n
-    (sym (ap said c.in-Bytes.is) ∙ c.reply_size-sized.ensures) in
+    (sym (ap said c.in-Ok.is) ∙ c.reply_size-sized.ensures) in
     (z.writable, z.size, search rules)
 
 pub returns-then-session-eq0 : goal.returns-then-session-eq0
 returns-then-session-eq0 c = let a = c.args in
-    let n = c.in-Bytes.size in
+    let n = c.in-Ok.size in
     let xs = a.slots.now in
     let hs = a.header_slots.now in
     let i = intake_of client a.session xs hs a.input.now in
-    let h = sym (ap said c.in-Bytes.is) ∙ c.reply_size-sized.ensures in
+    let h = sym (ap said c.in-Ok.is) ∙ c.reply_size-sized.ensures in
     let f = c.reply_ahead in
     record {
       outcome = (λ b. let l = lent b a.errors.now a.stanzas.now a.returned.now in
@@ -43,29 +43,29 @@ returns-then-session-eq0 c = let a = c.args in
 
 pub reply_back-requires : goal.reply_back-requires
 reply_back-requires c = let a = c.args in
-    let n = c.in-Bytes.size in
+    let n = c.in-Ok.size in
     let z = reply_fits (intake_of client a.session a.slots.now a.header_slots.now a.input.now) (lent none_lent [] [] []) a.response a.body.now a.out.now n
-    (sym (ap said c.in-Bytes.is) ∙ c.reply_size-sized.ensures) in
+    (sym (ap said c.in-Ok.is) ∙ c.reply_size-sized.ensures) in
     (z.writable, z.size, search rules, z.waits)
 
-pub returns-in-Refused : goal.returns-in-Refused
-returns-in-Refused c = let a = c.args in
+pub returns-in-Err : goal.returns-in-Err
+returns-in-Err c = let a = c.args in
     let xs = a.slots.now in
     let hs = a.header_slots.now in
     let f = c.leave.ensures.outcome client xs hs a.input.now in
     record {
       outcome = (λ b. let l = lent b a.errors.now a.stanzas.now a.returned.now in
           f l a.out.now
-          ∙ reply_refused (intake_of client a.session xs hs a.input.now) l a.response a.body.now a.out.now (number_of c.in-Refused.r) (sym (ap said c.in-Refused.is) ∙ c.reply_size-sized.ensures));
-      input = untaken_input a.session xs hs a.input.now (number_of c.in-Refused.r) _ a.out.now c.leave.result (f (lent none_lent [] [] []) a.out.now);
+          ∙ reply_refused (intake_of client a.session xs hs a.input.now) l a.response a.body.now a.out.now (number_of c.in-Err.r) (sym (ap said c.in-Err.is) ∙ c.reply_size-sized.ensures));
+      input = untaken_input a.session xs hs a.input.now (number_of c.in-Err.r) _ a.out.now c.leave.result (f (lent none_lent [] [] []) a.out.now);
       name = c.leave.ensures.name;
     }
 
 pub returns-else-session-eq0 : goal.returns-else-session-eq0
 returns-else-session-eq0 c = let a = c.args in
-    let n = c.in-Bytes.size in
+    let n = c.in-Ok.size in
     let i = intake_of client a.session a.slots.now a.header_slots.now a.input.now in
-    let h = sym (ap said c.in-Bytes.is) ∙ c.reply_size-sized.ensures in
+    let h = sym (ap said c.in-Ok.is) ∙ c.reply_size-sized.ensures in
     let f = c.reply_back in
     record {
       outcome = (λ b. f.ensures.outcome b ∙ (reply_fits i (lent b a.errors.now a.stanzas.now a.returned.now) a.response a.body.now a.out.now n h).same);

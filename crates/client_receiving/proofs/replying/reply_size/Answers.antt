@@ -12,15 +12,15 @@ use Rattle.client_receiving.proofs.replying.reply_size.Goals as goal
 pub returns-then-not-fits_whole : goal.returns-then-not-fits_whole
 returns-then-not-fits_whole c = let a = c.args in
     sym
-    (ap (λ d. due_sized d a.response a.body.now) (sym c.answer_due-due.ensures ∙ ap due_said c.in-Command.is)
+    (ap (λ d. due_sized d a.response a.body.now) (sym c.answer_due-due.ensures ∙ ap due_said c.in-Ok.is)
     ∙ ap (λ f. pick f (sized (response_line a.response) a.body.now) (refused 12)) (sym c.fits_whole.ensures ∙ not-true c.fits_whole.result c.if-not-fits_whole.true-raw))
 
-pub returns-in-Refused : goal.returns-in-Refused
-returns-in-Refused c = let a = c.args in ap (λ d. due_sized d a.response a.body.now) (sym (ap due_said c.in-Refused.is) ∙ c.answer_due-due.ensures)
+pub returns-in-Err : goal.returns-in-Err
+returns-in-Err c = let a = c.args in ap (λ d. due_sized d a.response a.body.now) (sym (ap due_said c.in-Err.is) ∙ c.answer_due-due.ensures)
 
 pub returns-else-not-fits_whole : goal.returns-else-not-fits_whole
 returns-else-not-fits_whole c = let a = c.args in
     c.size.ensures
     ∙ sym
-    (ap (λ d. due_sized d a.response a.body.now) (sym c.answer_due-due.ensures ∙ ap due_said c.in-Command.is)
+    (ap (λ d. due_sized d a.response a.body.now) (sym c.answer_due-due.ensures ∙ ap due_said c.in-Ok.is)
     ∙ ap (λ f. pick f (sized (response_line a.response) a.body.now) (refused 12)) (sym c.fits_whole.ensures ∙ not-false c.fits_whole.result c.if-not-fits_whole.false-raw))

@@ -18,10 +18,10 @@ use Rattle.client_receiving.proofs.texts.take_front.Goals as goal
 pub go_on-done-requires : goal.go_on-done-requires
 go_on-done-requires c = let a = c.args in
     let pre = c.requires in
-    let h = sym c.read-first.ensures ∙ ap read_said c.in-Stanza.is in
+    let h = sym c.read-first.ensures ∙ ap read_said c.in-Ok.is in
     let begun = c.begin-begun.ensures in
     let y = c.receive_stanza-step in
-    let w = front_fits a.session a.slots.now a.header_slots.now a.errors.now a.stanzas.now a.returned.now a.front.now a.text.now a.out.now pre.phase_value.0 c.in-Stanza.s.line c.in-Stanza.s.body c.in-Stanza.s.taken h y.result y.new.slots y.new.errors y.new.stanzas y.new.returned y.new.out y.ensures.outcome pre.out_value _ _ _ (ap taking_said c.in-Command.is) in
+    let w = front_fits a.session a.slots.now a.header_slots.now a.errors.now a.stanzas.now a.returned.now a.front.now a.text.now a.out.now pre.phase_value.0 c.in-Ok.s.line c.in-Ok.s.body c.in-Ok.s.taken h y.result y.new.slots y.new.errors y.new.stanzas y.new.returned y.new.out y.ensures.outcome pre.out_value _ _ _ (ap taking_said c.in-Ok.is) in
     (omega (arith, ap (λ r. r.count) begun), omega (arith, w, ap (λ r. r.written) begun, c.well_formed))
 
 pub shape_of-errors-then-is_waiting : goal.shape_of-errors-then-is_waiting
@@ -36,20 +36,20 @@ shape_of-returned-then-is_waiting c = c.receive_stanza-step.auto.returned
 pub returns-then-is_waiting : goal.returns-then-is_waiting
 returns-then-is_waiting c = let a = c.args in
     let pre = c.requires in
-    let h = sym c.read-first.ensures ∙ ap read_said c.in-Stanza.is in
+    let h = sym c.read-first.ensures ∙ ap read_said c.in-Ok.is in
     let begun = c.begin-begun.ensures in
     let y = c.receive_stanza-step in
     let g = c.go_on-done in
     let count : g.result.count ≡ 1 = omega (arith, ap (λ r. r.count) g.ensures, ap (λ r. r.count) begun) in
     let last = ap (λ r. r.last) g.ensures in
-    let written : g.result.written ≡ c.in-Command.size = omega (arith, ap (λ r. r.written) g.ensures, ap (λ r. r.written) begun) in
+    let written : g.result.written ≡ c.in-Ok.size = omega (arith, ap (λ r. r.written) g.ensures, ap (λ r. r.written) begun) in
     let session = ap (λ r. r.session) g.ensures in
     let v = ap (λ s. is_waiting client s.phase) session ∙ sym c.is_waiting.ensures ∙ c.if-is_waiting.true in
     let r = c.settle in
     record {
       outcome = (λ b.
-          let may = front_settles a.session a.slots.now a.header_slots.now a.errors.now a.stanzas.now a.returned.now a.front.now a.text.now a.out.now pre.phase_value.0 c.in-Stanza.s.line c.in-Stanza.s.body c.in-Stanza.s.taken h y.result y.new.slots y.new.errors y.new.stanzas y.new.returned y.new.out y.ensures.outcome pre.out_value _ _ _ (ap taking_said c.in-Command.is) g.result count last written session b a.input.now v pre.phase_value.1 pre.phase_value.2 in
-          front_settled a.session a.slots.now a.header_slots.now a.errors.now a.stanzas.now a.returned.now a.front.now a.text.now a.out.now pre.phase_value.0 c.in-Stanza.s.line c.in-Stanza.s.body c.in-Stanza.s.taken h y.result y.new.slots y.new.errors y.new.stanzas y.new.returned y.new.out y.ensures.outcome pre.out_value _ _ _ (ap taking_said c.in-Command.is) g.result count last written session b r.result a.input.now r.new.input v
+          let may = front_settles a.session a.slots.now a.header_slots.now a.errors.now a.stanzas.now a.returned.now a.front.now a.text.now a.out.now pre.phase_value.0 c.in-Ok.s.line c.in-Ok.s.body c.in-Ok.s.taken h y.result y.new.slots y.new.errors y.new.stanzas y.new.returned y.new.out y.ensures.outcome pre.out_value _ _ _ (ap taking_said c.in-Ok.is) g.result count last written session b a.input.now v pre.phase_value.1 pre.phase_value.2 in
+          front_settled a.session a.slots.now a.header_slots.now a.errors.now a.stanzas.now a.returned.now a.front.now a.text.now a.out.now pre.phase_value.0 c.in-Ok.s.line c.in-Ok.s.body c.in-Ok.s.taken h y.result y.new.slots y.new.errors y.new.stanzas y.new.returned y.new.out y.ensures.outcome pre.out_value _ _ _ (ap taking_said c.in-Ok.is) g.result count last written session b r.result a.input.now r.new.input v
           (r.ensures.outcome client y.new.slots a.header_slots.now (take g.result.written y.new.out) (lent b y.new.errors y.new.stanzas y.new.returned) may) r.ensures.rest.0);
       name = r.ensures.rest.1 ∙ ap (λ s. s.name) session ∙ ap (λ s. s.name) y.ensures.carried;
     }
@@ -57,37 +57,37 @@ returns-then-is_waiting c = let a = c.args in
 pub take_text-requires : goal.take_text-requires
 take_text-requires c = let a = c.args in
     let pre = c.requires in
-    let h = sym c.read-first.ensures ∙ ap read_said c.in-Stanza.is in
+    let h = sym c.read-first.ensures ∙ ap read_said c.in-Ok.is in
     let begun = c.begin-begun.ensures in
     let y = c.receive_stanza-step in
     let g = c.go_on-done in
     let count : g.result.count ≡ 1 = omega (arith, ap (λ r. r.count) g.ensures, ap (λ r. r.count) begun) in
     let last = ap (λ r. r.last) g.ensures in
-    let written : g.result.written ≡ c.in-Command.size = omega (arith, ap (λ r. r.written) g.ensures, ap (λ r. r.written) begun) in
+    let written : g.result.written ≡ c.in-Ok.size = omega (arith, ap (λ r. r.written) g.ensures, ap (λ r. r.written) begun) in
     let session = ap (λ r. r.session) g.ensures in
     let v = ap (λ s. is_waiting client s.phase) session ∙ sym c.is_waiting.ensures ∙ c.if-is_waiting.false in
-    front_takes a.session a.slots.now a.header_slots.now a.errors.now a.stanzas.now a.returned.now a.front.now a.text.now a.out.now pre.phase_value.0 c.in-Stanza.s.line c.in-Stanza.s.body c.in-Stanza.s.taken h y.result y.new.slots y.new.errors y.new.stanzas y.new.returned y.new.out y.ensures.outcome pre.out_value _ _ _ (ap taking_said c.in-Command.is) g.result count last written session a.input.now v pre.phase_value.2
+    front_takes a.session a.slots.now a.header_slots.now a.errors.now a.stanzas.now a.returned.now a.front.now a.text.now a.out.now pre.phase_value.0 c.in-Ok.s.line c.in-Ok.s.body c.in-Ok.s.taken h y.result y.new.slots y.new.errors y.new.stanzas y.new.returned y.new.out y.ensures.outcome pre.out_value _ _ _ (ap taking_said c.in-Ok.is) g.result count last written session a.input.now v pre.phase_value.2
 
-pub returns-in-Refused : goal.returns-in-Refused
-returns-in-Refused c = let a = c.args in
+pub returns-in-Err : goal.returns-in-Err
+returns-in-Err c = let a = c.args in
     let s = a.session in
     record {
-      outcome = (λ b. front_fault a.session a.slots.now a.header_slots.now a.errors.now a.stanzas.now a.returned.now a.front.now a.text.now a.out.now c.requires.phase_value.0 b c.in-Refused.r c.moved.result c.stop.result a.input.now
-          (sym c.read-first.ensures ∙ ap read_said c.in-Refused.is)
-          (rw (c.moved.ensures, c.phase_refused.ensures) (ap (λ r. r.session) (refusal_is s.machine (name_of s.name) s.screen s.phase (tables_in s.tables a.slots.now a.header_slots.now) (two.buffers_of a.errors.now a.stanzas.now a.returned.now) ample (number_of c.in-Refused.r))))
-          (c.stop.ensures ∙ ap (stopped_at c.in-Refused.r c.moved.result) c.begin-begun.ensures));
+      outcome = (λ b. front_fault a.session a.slots.now a.header_slots.now a.errors.now a.stanzas.now a.returned.now a.front.now a.text.now a.out.now c.requires.phase_value.0 b c.in-Err.r c.moved.result c.stop.result a.input.now
+          (sym c.read-first.ensures ∙ ap read_said c.in-Err.is)
+          (rw (c.moved.ensures, c.phase_refused.ensures) (ap (λ r. r.session) (refusal_is s.machine (name_of s.name) s.screen s.phase (tables_in s.tables a.slots.now a.header_slots.now) (two.buffers_of a.errors.now a.stanzas.now a.returned.now) ample (number_of c.in-Err.r))))
+          (c.stop.ensures ∙ ap (stopped_at c.in-Err.r c.moved.result) c.begin-begun.ensures));
       name = ap (λ r. r.session.name) c.stop.ensures ∙ ap (λ s. s.name) c.moved.ensures;
     }
 
-pub returns-in-Refused-answer : goal.returns-in-Refused-answer
-returns-in-Refused-answer c = let a = c.args in
+pub returns-in-Err-answer : goal.returns-in-Err-answer
+returns-in-Err-answer c = let a = c.args in
     let pre = c.requires in
-    let h = sym c.read-first.ensures ∙ ap read_said c.in-Stanza.is in
+    let h = sym c.read-first.ensures ∙ ap read_said c.in-Ok.is in
     let begun = c.begin-begun.ensures in
     let y = c.receive_stanza-step in
     record {
-      outcome = (λ b. front_refused a.session a.slots.now a.header_slots.now a.errors.now a.stanzas.now a.returned.now a.front.now a.text.now a.out.now pre.phase_value.0 c.in-Stanza.s.line c.in-Stanza.s.body c.in-Stanza.s.taken h y.result y.new.slots y.new.errors y.new.stanzas y.new.returned y.new.out y.ensures.outcome pre.out_value b c.in-Refused-answer.r c.stop-in-Refused-answer.result a.input.now (ap taking_said c.in-Refused-answer.is) (c.stop-in-Refused-answer.ensures ∙ ap (stopped_at c.in-Refused-answer.r y.result.session) begun));
-      name = ap (λ r. r.session.name) c.stop-in-Refused-answer.ensures ∙ ap (λ s. s.name) y.ensures.carried;
+      outcome = (λ b. front_refused a.session a.slots.now a.header_slots.now a.errors.now a.stanzas.now a.returned.now a.front.now a.text.now a.out.now pre.phase_value.0 c.in-Ok.s.line c.in-Ok.s.body c.in-Ok.s.taken h y.result y.new.slots y.new.errors y.new.stanzas y.new.returned y.new.out y.ensures.outcome pre.out_value b c.in-Err-answer.r c.stop-in-Err-answer.result a.input.now (ap taking_said c.in-Err-answer.is) (c.stop-in-Err-answer.ensures ∙ ap (stopped_at c.in-Err-answer.r y.result.session) begun));
+      name = ap (λ r. r.session.name) c.stop-in-Err-answer.ensures ∙ ap (λ s. s.name) y.ensures.carried;
     }
 
 pub shape_of-errors-else-is_waiting : goal.shape_of-errors-else-is_waiting
@@ -105,17 +105,17 @@ shape_of-out-else-is_waiting c = c.take_text.auto.out ∙ c.receive_stanza-step.
 pub returns-else-is_waiting : goal.returns-else-is_waiting
 returns-else-is_waiting c = let a = c.args in
     let pre = c.requires in
-    let h = sym c.read-first.ensures ∙ ap read_said c.in-Stanza.is in
+    let h = sym c.read-first.ensures ∙ ap read_said c.in-Ok.is in
     let begun = c.begin-begun.ensures in
     let y = c.receive_stanza-step in
     let g = c.go_on-done in
     let count : g.result.count ≡ 1 = omega (arith, ap (λ r. r.count) g.ensures, ap (λ r. r.count) begun) in
     let last = ap (λ r. r.last) g.ensures in
-    let written : g.result.written ≡ c.in-Command.size = omega (arith, ap (λ r. r.written) g.ensures, ap (λ r. r.written) begun) in
+    let written : g.result.written ≡ c.in-Ok.size = omega (arith, ap (λ r. r.written) g.ensures, ap (λ r. r.written) begun) in
     let session = ap (λ r. r.session) g.ensures in
     let v = ap (λ s. is_waiting client s.phase) session ∙ sym c.is_waiting.ensures ∙ c.if-is_waiting.false in
     let r = c.take_text in
     record {
-      outcome = (λ b. front_taken a.session a.slots.now a.header_slots.now a.errors.now a.stanzas.now a.returned.now a.front.now a.text.now a.out.now pre.phase_value.0 c.in-Stanza.s.line c.in-Stanza.s.body c.in-Stanza.s.taken h y.result y.new.slots y.new.errors y.new.stanzas y.new.returned y.new.out y.ensures.outcome pre.out_value _ _ _ (ap taking_said c.in-Command.is) g.result count last written session b r.result r.new.slots a.input.now r.new.input r.new.errors r.new.stanzas r.new.returned r.new.out v (r.ensures.outcome b));
+      outcome = (λ b. front_taken a.session a.slots.now a.header_slots.now a.errors.now a.stanzas.now a.returned.now a.front.now a.text.now a.out.now pre.phase_value.0 c.in-Ok.s.line c.in-Ok.s.body c.in-Ok.s.taken h y.result y.new.slots y.new.errors y.new.stanzas y.new.returned y.new.out y.ensures.outcome pre.out_value _ _ _ (ap taking_said c.in-Ok.is) g.result count last written session b r.result r.new.slots a.input.now r.new.input r.new.errors r.new.stanzas r.new.returned r.new.out v (r.ensures.outcome b));
       name = r.ensures.name ∙ ap (λ s. s.name) session ∙ ap (λ s. s.name) y.ensures.carried;
     }

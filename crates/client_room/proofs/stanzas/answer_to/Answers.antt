@@ -4,8 +4,8 @@ use Rattle.refusal.proofs.Laws.Number.{number_not_zero}
 use Rattle.conversation.specs.ReceivingTwo.{took}
 use Rattle.client_room.proofs.stanzas.answer_to.Goals as goal
 
-pub returns-in-Accepted : goal.returns-in-Accepted
-returns-in-Accepted c = let a = c.args in rw c.in-Accepted.is (ap (λ w. took w a.taken a.written) c.word_two_of.ensures)
+pub returns-in-Ok : goal.returns-in-Ok
+returns-in-Ok c = let a = c.args in rw c.in-Ok.is (ap (λ w. took w a.taken a.written) c.word_two_of.ensures)
 
-pub returns-in-Refused : goal.returns-in-Refused
-returns-in-Refused c = rw (c.in-Refused.is, number_not_zero c.in-Refused.r)
+pub returns-in-Err : goal.returns-in-Err
+returns-in-Err c = rw (c.in-Err.is, number_not_zero c.in-Err.r)

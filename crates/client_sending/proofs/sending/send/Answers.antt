@@ -9,18 +9,18 @@ use Rattle.phase_one.specs.PhaseOne.{buffers_of}
 use Rattle.conversation.proofs.Laws.Sending.{sent_out_of_turn, sent_in_turn}
 use Rattle.client_sending.proofs.sending.send.Goals as goal
 
-pub returns-in-Refused : goal.returns-in-Refused
-returns-in-Refused c = let a = c.args in
+pub returns-in-Err : goal.returns-in-Err
+returns-in-Err c = let a = c.args in
     record {
-      outcome = sent_out_of_turn (session_of a.session a.slots.now a.header_slots.now) (word_said a.word) a.arguments.now a.body.now (buffers_of a.recipients.now a.identities.now a.keys.now a.headers.now) a.out.now (number_of c.in-Refused.r)
-          (sym (ap verdict_said c.in-Refused.is) ∙ c.turn_one-turn.ensures) (number_not_zero c.in-Refused.r);
+      outcome = sent_out_of_turn (session_of a.session a.slots.now a.header_slots.now) (word_said a.word) a.arguments.now a.body.now (buffers_of a.recipients.now a.identities.now a.keys.now a.headers.now) a.out.now (number_of c.in-Err.r)
+          (sym (ap verdict_said c.in-Err.is) ∙ c.turn_one-turn.ensures) (number_not_zero c.in-Err.r);
       carried = refl;
     }
 
-pub returns-in-Accepted : goal.returns-in-Accepted
-returns-in-Accepted c = let a = c.args in
+pub returns-in-Ok : goal.returns-in-Ok
+returns-in-Ok c = let a = c.args in
     record {
       outcome = c.send_due.ensures.outcome
-          ∙ sent_in_turn (session_of a.session a.slots.now a.header_slots.now) (word_said a.word) a.arguments.now a.body.now (buffers_of a.recipients.now a.identities.now a.keys.now a.headers.now) a.out.now (sym (ap verdict_said c.in-Accepted.is) ∙ c.turn_one-turn.ensures);
+          ∙ sent_in_turn (session_of a.session a.slots.now a.header_slots.now) (word_said a.word) a.arguments.now a.body.now (buffers_of a.recipients.now a.identities.now a.keys.now a.headers.now) a.out.now (sym (ap verdict_said c.in-Ok.is) ∙ c.turn_one-turn.ensures);
       carried = c.send_due.ensures.carried;
     }

@@ -23,19 +23,19 @@ use Rattle.client_sending.proofs.sending.send_in.Goals as goal
 pub slice_bounds-front-end : goal.slice_bounds-front-end
 slice_bounds-front-end c = let g = c.well_formed in search rules
 
-pub returns-in-Refused : goal.returns-in-Refused
-returns-in-Refused c = let a = c.args in
+pub returns-in-Err : goal.returns-in-Err
+returns-in-Err c = let a = c.args in
     let l = line_sent (word_said a.word) a.arguments.now in
     let p = c.put_line-put.ensures in
-    let e = composed_not l a.store.now _ a.body.now (said c.put_line-put.result) p.answer p.buffer (number_of c.in-Refused.r) c.requires (sym (ap composed_said c.in-Refused.is) ∙ c.compose-composed.ensures) in
+    let e = composed_not l a.store.now _ a.body.now (said c.put_line-put.result) p.answer p.buffer (number_of c.in-Err.r) c.requires (sym (ap composed_said c.in-Err.is) ∙ c.compose-composed.ensures) in
     record {
       outcome = rw e.1
           (sent_unwritable (session_of a.session a.slots.now a.header_slots.now) (buffers_of a.recipients.now a.identities.now a.keys.now a.headers.now) l a.body.now a.out.now e.0);
       carried = refl;
     }
 
-pub shape_of-store-in-Line : goal.shape_of-store-in-Line
-shape_of-store-in-Line c = c.put_line-put.auto.out
+pub shape_of-store-in-Ok : goal.shape_of-store-in-Ok
+shape_of-store-in-Ok c = c.put_line-put.auto.out
 
 pub shape_of-slots : goal.shape_of-slots
 shape_of-slots c = c.step_one-step.auto.slots
@@ -43,8 +43,8 @@ shape_of-slots c = c.step_one-step.auto.slots
 pub shape_of-header_slots : goal.shape_of-header_slots
 shape_of-header_slots c = c.step_one-step.auto.header_slots
 
-pub returns-in-Line : goal.returns-in-Line
-returns-in-Line c = let a = c.args in
+pub returns-in-Ok : goal.returns-in-Ok
+returns-in-Ok c = let a = c.args in
     let s = a.session in
     let l = line_sent (word_said a.word) a.arguments.now in
     let y = a.body.now in
@@ -52,10 +52,10 @@ returns-in-Line c = let a = c.args in
     let t = tables_in s.tables a.slots.now a.header_slots.now in
     let b = buffers_of a.recipients.now a.identities.now a.keys.now a.headers.now in
     let p = c.put_line-put.ensures in
-    let d = composed_line l a.store.now _ y (said c.put_line-put.result) p.answer p.buffer c.in-Line.n c.in-Line.size (sym (ap composed_said c.in-Line.is) ∙ c.compose-composed.ensures) in
+    let d = composed_line l a.store.now _ y (said c.put_line-put.result) p.answer p.buffer c.in-Ok.n c.in-Ok.size (sym (ap composed_said c.in-Ok.is) ∙ c.compose-composed.ensures) in
     let line = c.front-line.result.now in
     let same : line ≡ l = c.front-line.ensures ∙ d.0 in
-    let w = size_bytes line y o c.in-Line.size (d.1 ∙ ap (λ x. sized x y) (sym same)) in
+    let w = size_bytes line y o c.in-Ok.size (d.1 ∙ ap (λ x. sized x y) (sym same)) in
     let g = c.front.result.now in
     let e = c.step_one-step.ensures in
     record {

@@ -2,7 +2,7 @@
 use mathlib.Core.Path.{refl, sym, ap, ◌∙◌}
 use mathlib.Core.List.{[]}
 use Rattle.refusal.specs.Number.{number_of}
-use Rattle.refusal.specs.declared.Verdict.TheVariants.{Refused}
+use Rattle.std.specs.Prelude.{Err}
 use Rattle.chunks.specs.Chunks.{taken}
 use Rattle.chunks.proofs.Laws.Taking.{closed_waits, turn_reads}
 use Rattle.intake.specs.Intake.{intake_of}
@@ -15,7 +15,7 @@ use Rattle.intake.proofs.answers.close.Goals as goal
 
 pub returns : goal.returns
 returns c = let a = c.args in
-    let r : CodeReceived = record { verdict = Refused a.refusal; count = 0; last = Nothing; written = 0; session = c.keeping.result } in
+    let r : CodeReceived = record { verdict = Err a.refusal; count = 0; last = Nothing; written = 0; session = c.keeping.result } in
     record {
       outcome = (λ e xs hs o chunk b out t m h.
           let says : Says e r xs hs o o [] b (taken e (intake_of e a.session xs hs o) b chunk) = record {

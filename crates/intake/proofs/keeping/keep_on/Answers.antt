@@ -6,7 +6,7 @@ use lib.ListN.{length, take, drop, length-append}
 use lib.Seq.{length-take-le}
 use native.Mathlib.Omega.{arith}
 use Rattle.refusal.specs.Output.{filled}
-use Rattle.refusal.specs.declared.Verdict.TheVariants.{Accepted}
+use Rattle.std.specs.Prelude.{Ok}
 use Rattle.stanza.specs.Resuming.{place_said}
 use Rattle.session.specs.Session.{session_of}
 use Rattle.chunks.specs.Chunks.{taken}
@@ -26,7 +26,7 @@ returns c = let a = c.args in
     let k = min a.session.kept 8191 in
     let p = a.chunk.now in
     let n = c.kept_of-kept.result in
-    let r : CodeReceived = record { verdict = Accepted; count = 0; last = Nothing; written = 0; session = c.keeping.result } in
+    let r : CodeReceived = record { verdict = Ok tt; count = 0; last = Nothing; written = 0; session = c.keeping.result } in
     let kept : n ≡ k = c.kept_of-kept.ensures in
     record {
       outcome = (λ e xs hs o b out t m h.

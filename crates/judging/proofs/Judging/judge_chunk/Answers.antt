@@ -8,14 +8,14 @@ use Rattle.judging.specs.Said.{buffers_in}
 use Rattle.judging.proofs.Laws.Steps.{received_judged}
 use Rattle.judging.proofs.Judging.judge_chunk.Goals as goal
 
-pub returns-in-Stopped : goal.returns-in-Stopped
-returns-in-Stopped c = record {
-  state = (λ d. rw c.in-Stopped.is);
+pub returns-in-Some : goal.returns-in-Some
+returns-in-Some c = record {
+  state = (λ d. rw c.in-Some.is);
   name = refl;
 }
 
-pub returns-in-GoesOn : goal.returns-in-GoesOn
-returns-in-GoesOn c = let a = c.args in
+pub returns-in-None : goal.returns-in-None
+returns-in-None c = let a = c.args in
     let r = c.receive-received in
     let xs = r.new.slots in
     let hs = r.new.header_slots in
@@ -25,7 +25,7 @@ returns-in-GoesOn c = let a = c.args in
     let k3 = r.new.keys in
     let k4 = r.new.headers in
     record {
-      state = (λ d. rw c.in-GoesOn.is
+      state = (λ d. rw c.in-None.is
           (received_judged (received_said plugin r.result xs hs input (buffers_of (one.buffers_of k1 k2 k3 k4) d) r.new.out) (intake_of plugin a.self.session a.slots.now a.header_slots.now a.input.now) k1 k2 k3 k4 d _
           (buffers_in a.recipients.now a.identities.now a.keys.now d) a.chunk.now r.auto.headers (r.ensures.outcome d) refl (c.behind_chunk.ensures xs hs input)));
       name = r.ensures.name;

@@ -4,8 +4,8 @@ use Rattle.session.specs.Tables.{tables_in}
 use Rattle.judging.specs.Judging.{counted}
 use Rattle.judging.proofs.Judging.numbers.Goals as goal
 
-pub returns-in-Stopped : goal.returns-in-Stopped
-returns-in-Stopped c = λ xs hs input. rw c.in-Stopped.is
+pub returns-in-Some : goal.returns-in-Some
+returns-in-Some c = λ xs hs input. rw c.in-Some.is
 
-pub returns-in-GoesOn : goal.returns-in-GoesOn
-returns-in-GoesOn c = λ xs hs input. rw c.in-GoesOn.is (c.count.ensures xs hs ∙ ap (counted (tables_in c.args.self.session.tables xs hs)) (c.verdict_number.ensures ∙ c.finish.ensures))
+pub returns-in-None : goal.returns-in-None
+returns-in-None c = λ xs hs input. rw c.in-None.is (c.count.ensures xs hs ∙ ap (counted (tables_in c.args.self.session.tables xs hs)) (c.verdict_number.ensures ∙ c.finish.ensures))

@@ -9,12 +9,12 @@ use Rattle.phase_one.proofs.commands.parse_header.Goals as goal
 pub returns-then-count-lt3 : goal.returns-then-count-lt3
 returns-then-count-lt3 c = λ plugin. rw (lt-leb 3 (count_of c.args.line.now) (omega (arith, c.count.ensures)))
 
-pub returns-in-Number : goal.returns-in-Number
-returns-in-Number c = λ plugin.
-    let e = ap read_index (sym c.argument-text.ensures) ∙ sym c.read_index-index.ensures ∙ ap index_said c.in-Number.is in
+pub returns-in-Ok : goal.returns-in-Ok
+returns-in-Ok c = λ plugin.
+    let e = ap read_index (sym c.argument-text.ensures) ∙ sym c.read_index-index.ensures ∙ ap index_said c.in-Ok.is in
     rw (le-leb 3 (count_of c.args.line.now) (omega (arith, c.count.ensures)), e)
 
-pub returns-in-Refused : goal.returns-in-Refused
-returns-in-Refused c = λ plugin.
-    let e = ap read_index (sym c.argument-text.ensures) ∙ sym c.read_index-index.ensures ∙ ap index_said c.in-Refused.is in
+pub returns-in-Err : goal.returns-in-Err
+returns-in-Err c = λ plugin.
+    let e = ap read_index (sym c.argument-text.ensures) ∙ sym c.read_index-index.ensures ∙ ap index_said c.in-Err.is in
     rw (le-leb 3 (count_of c.args.line.now) (omega (arith, c.count.ensures)), e)

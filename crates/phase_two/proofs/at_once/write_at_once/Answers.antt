@@ -2,8 +2,8 @@
 use Rattle.phase_two.proofs.Laws.AtOnce.{silent_is}
 use Rattle.phase_two.proofs.at_once.write_at_once.Goals as goal
 
-pub returns-in-Writes : goal.returns-in-Writes
-returns-in-Writes c = rw c.in-Writes.is c.write_bare.ensures
+pub returns-in-Some : goal.returns-in-Some
+returns-in-Some c = rw c.in-Some.is c.write_bare.ensures
 
-pub returns-in-Silent : goal.returns-in-Silent
-returns-in-Silent c = rw c.in-Silent.is (silent_is c.args.out.now)
+pub returns-in-None : goal.returns-in-None
+returns-in-None c = rw c.in-None.is (silent_is c.args.out.now)

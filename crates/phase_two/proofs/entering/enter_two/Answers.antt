@@ -7,10 +7,10 @@ use Rattle.phase_two_commands.specs.Commands.{command_said}
 use Rattle.phase_two.proofs.Laws.Entering.{enter_ruled}
 use Rattle.phase_two.proofs.entering.enter_two.Goals as goal
 
-pub returns-in-Refused : goal.returns-in-Refused
-returns-in-Refused c = let a = c.args in
-    let r = c.in-Refused.field-0 in
-    rw c.in-Refused.is (λ hs b p l e. enter_ruled (tables_in a.tables a.slots.now hs) b p (verdict_said a.late) (number_of r) (command_said a.command) (number_not_zero r))
+pub returns-in-Err : goal.returns-in-Err
+returns-in-Err c = let a = c.args in
+    let r = c.in-Err.field-0 in
+    rw c.in-Err.is (λ hs b p l e. enter_ruled (tables_in a.tables a.slots.now hs) b p (verdict_said a.late) (number_of r) (command_said a.command) (number_not_zero r))
 
-pub returns-in-Accepted : goal.returns-in-Accepted
-returns-in-Accepted c = rw c.in-Accepted.is c.enter.ensures
+pub returns-in-Ok : goal.returns-in-Ok
+returns-in-Ok c = rw c.in-Ok.is c.enter.ensures

@@ -10,18 +10,18 @@ use Rattle.conversation.specs.PhaseTwo.{buffers_of}
 use Rattle.phase_two.proofs.Laws.Steps.{step_ruled}
 use Rattle.phase_two.proofs.steps.step_two.Goals as goal
 
-pub returns-in-Refused : goal.returns-in-Refused
-returns-in-Refused c = let a = c.args in
+pub returns-in-Err : goal.returns-in-Err
+returns-in-Err c = let a = c.args in
     let b = buffers_of a.errors.now a.stanzas.now a.returned.now in
     record {
-      number = rw c.in-Refused.is ((λ hs. (step_ruled (tables_in a.tables a.slots.now hs) b (payload_of (command_said a.command) a.line.now (body_from a.coding a.source.now)) (verdict_said a.late) (number_of c.in-Refused.field-0) (command_said a.command) (number_not_zero c.in-Refused.field-0)).0));
-      tables = rw c.in-Refused.is ((λ hs. (step_ruled (tables_in a.tables a.slots.now hs) b (payload_of (command_said a.command) a.line.now (body_from a.coding a.source.now)) (verdict_said a.late) (number_of c.in-Refused.field-0) (command_said a.command) (number_not_zero c.in-Refused.field-0)).1.0));
-      buffers = rw c.in-Refused.is ((λ hs. (step_ruled (tables_in a.tables a.slots.now hs) b (payload_of (command_said a.command) a.line.now (body_from a.coding a.source.now)) (verdict_said a.late) (number_of c.in-Refused.field-0) (command_said a.command) (number_not_zero c.in-Refused.field-0)).1.1));
+      number = rw c.in-Err.is ((λ hs. (step_ruled (tables_in a.tables a.slots.now hs) b (payload_of (command_said a.command) a.line.now (body_from a.coding a.source.now)) (verdict_said a.late) (number_of c.in-Err.field-0) (command_said a.command) (number_not_zero c.in-Err.field-0)).0));
+      tables = rw c.in-Err.is ((λ hs. (step_ruled (tables_in a.tables a.slots.now hs) b (payload_of (command_said a.command) a.line.now (body_from a.coding a.source.now)) (verdict_said a.late) (number_of c.in-Err.field-0) (command_said a.command) (number_not_zero c.in-Err.field-0)).1.0));
+      buffers = rw c.in-Err.is ((λ hs. (step_ruled (tables_in a.tables a.slots.now hs) b (payload_of (command_said a.command) a.line.now (body_from a.coding a.source.now)) (verdict_said a.late) (number_of c.in-Err.field-0) (command_said a.command) (number_not_zero c.in-Err.field-0)).1.1));
     }
 
-pub returns-in-Accepted : goal.returns-in-Accepted
-returns-in-Accepted c = record {
-  number = rw c.in-Accepted.is c.keep.ensures.number;
-  tables = rw c.in-Accepted.is c.keep.ensures.tables;
-  buffers = rw c.in-Accepted.is c.keep.ensures.buffers;
+pub returns-in-Ok : goal.returns-in-Ok
+returns-in-Ok c = record {
+  number = rw c.in-Ok.is c.keep.ensures.number;
+  tables = rw c.in-Ok.is c.keep.ensures.tables;
+  buffers = rw c.in-Ok.is c.keep.ensures.buffers;
 }

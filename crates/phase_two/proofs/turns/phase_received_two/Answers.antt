@@ -2,8 +2,8 @@
 use Rattle.refusal.proofs.Laws.Number.{number_not_zero}
 use Rattle.phase_two.proofs.turns.phase_received_two.Goals as goal
 
-pub returns-in-Accepted : goal.returns-in-Accepted
-returns-in-Accepted c = rw c.in-Accepted.is c.phase_taken.ensures
+pub returns-in-Ok : goal.returns-in-Ok
+returns-in-Ok c = rw c.in-Ok.is c.phase_taken.ensures
 
-pub returns-in-Refused : goal.returns-in-Refused
-returns-in-Refused c = rw (c.in-Refused.is, number_not_zero c.in-Refused.r) c.phase_refused.ensures
+pub returns-in-Err : goal.returns-in-Err
+returns-in-Err c = rw (c.in-Err.is, number_not_zero c.in-Err.r) c.phase_refused.ensures

@@ -4,8 +4,8 @@ use Rattle.stanza.specs.Index.{read_index, index_said}
 use Rattle.conversation.specs.CommandsTwo.{error}
 use Rattle.phase_two_commands.proofs.commands.error_at.Goals as goal
 
-pub returns-in-Number : goal.returns-in-Number
-returns-in-Number c = rw (ap read_index (sym c.argument-text.ensures) ∙ sym c.read_index-index.ensures ∙ ap index_said c.in-Number.is) (ap error c.name_of.ensures)
+pub returns-in-Ok : goal.returns-in-Ok
+returns-in-Ok c = rw (ap read_index (sym c.argument-text.ensures) ∙ sym c.read_index-index.ensures ∙ ap index_said c.in-Ok.is) (ap error c.name_of.ensures)
 
-pub returns-in-Refused : goal.returns-in-Refused
-returns-in-Refused c = rw (ap read_index (sym c.argument-text.ensures) ∙ sym c.read_index-index.ensures ∙ ap index_said c.in-Refused.is)
+pub returns-in-Err : goal.returns-in-Err
+returns-in-Err c = rw (ap read_index (sym c.argument-text.ensures) ∙ sym c.read_index-index.ensures ∙ ap index_said c.in-Err.is)

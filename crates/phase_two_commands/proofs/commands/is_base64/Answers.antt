@@ -4,8 +4,8 @@ use Rattle.strict_base64.specs.Code.{size_said}
 use Rattle.strict_base64.proofs.Laws.Code.{measured_is, measured_not}
 use Rattle.phase_two_commands.proofs.commands.is_base64.Goals as goal
 
-pub returns-in-Bytes : goal.returns-in-Bytes
-returns-in-Bytes c = rw (measured_is c.args.text.now _ (sym c.measure-size.ensures ∙ ap size_said c.in-Bytes.is)).0
+pub returns-in-Some : goal.returns-in-Some
+returns-in-Some c = rw (measured_is c.args.text.now _ (sym c.measure-size.ensures ∙ ap size_said c.in-Some.is)).0
 
-pub returns-in-NotBase64 : goal.returns-in-NotBase64
-returns-in-NotBase64 c = rw (measured_not c.args.text.now (sym c.measure-size.ensures ∙ ap size_said c.in-NotBase64.is))
+pub returns-in-None : goal.returns-in-None
+returns-in-None c = rw (measured_not c.args.text.now (sym c.measure-size.ensures ∙ ap size_said c.in-None.is))

@@ -11,8 +11,8 @@ returns-then-count-ne2 c = rw (ne_eqb (count_of c.args.line.now) 2 (λ e. c.if-c
 pub returns-then-body-ne16 : goal.returns-then-body-ne16
 returns-then-body-ne16 c = rw (eq-eqb (count_of c.args.line.now) 2 (sym c.count.ensures ∙ c.if-count-ne2.false), ne_eqb c.args.body 16 c.if-body-ne16.true)
 
-pub returns-in-Number : goal.returns-in-Number
-returns-in-Number c = rw (eq-eqb (count_of c.args.line.now) 2 (sym c.count.ensures ∙ c.if-count-ne2.false), eq-eqb c.args.body 16 c.if-body-ne16.false, ap read_index (sym c.argument-text.ensures) ∙ sym c.read_index-index.ensures ∙ ap index_said c.in-Number.is)
+pub returns-in-Ok : goal.returns-in-Ok
+returns-in-Ok c = rw (eq-eqb (count_of c.args.line.now) 2 (sym c.count.ensures ∙ c.if-count-ne2.false), eq-eqb c.args.body 16 c.if-body-ne16.false, ap read_index (sym c.argument-text.ensures) ∙ sym c.read_index-index.ensures ∙ ap index_said c.in-Ok.is)
 
-pub returns-in-Refused : goal.returns-in-Refused
-returns-in-Refused c = rw (eq-eqb (count_of c.args.line.now) 2 (sym c.count.ensures ∙ c.if-count-ne2.false), eq-eqb c.args.body 16 c.if-body-ne16.false, ap read_index (sym c.argument-text.ensures) ∙ sym c.read_index-index.ensures ∙ ap index_said c.in-Refused.is)
+pub returns-in-Err : goal.returns-in-Err
+returns-in-Err c = rw (eq-eqb (count_of c.args.line.now) 2 (sym c.count.ensures ∙ c.if-count-ne2.false), eq-eqb c.args.body 16 c.if-body-ne16.false, ap read_index (sym c.argument-text.ensures) ∙ sym c.read_index-index.ensures ∙ ap index_said c.in-Err.is)

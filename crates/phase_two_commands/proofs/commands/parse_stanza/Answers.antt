@@ -9,8 +9,8 @@ use Rattle.phase_two_commands.proofs.commands.parse_stanza.Goals as goal
 pub returns-then-count-lt3 : goal.returns-then-count-lt3
 returns-then-count-lt3 c = rw (lt-leb 3 (count_of c.args.line.now) (omega (arith, c.count.ensures)))
 
-pub returns-in-Number : goal.returns-in-Number
-returns-in-Number c = rw (le-leb 3 (count_of c.args.line.now) (omega (arith, c.count.ensures)), ap read_index (sym c.argument-text.ensures) ∙ sym c.read_index-index.ensures ∙ ap index_said c.in-Number.is)
+pub returns-in-Ok : goal.returns-in-Ok
+returns-in-Ok c = rw (le-leb 3 (count_of c.args.line.now) (omega (arith, c.count.ensures)), ap read_index (sym c.argument-text.ensures) ∙ sym c.read_index-index.ensures ∙ ap index_said c.in-Ok.is)
 
-pub returns-in-Refused : goal.returns-in-Refused
-returns-in-Refused c = rw (le-leb 3 (count_of c.args.line.now) (omega (arith, c.count.ensures)), ap read_index (sym c.argument-text.ensures) ∙ sym c.read_index-index.ensures ∙ ap index_said c.in-Refused.is)
+pub returns-in-Err : goal.returns-in-Err
+returns-in-Err c = rw (le-leb 3 (count_of c.args.line.now) (omega (arith, c.count.ensures)), ap read_index (sym c.argument-text.ensures) ∙ sym c.read_index-index.ensures ∙ ap index_said c.in-Err.is)

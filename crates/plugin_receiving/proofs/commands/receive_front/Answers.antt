@@ -18,7 +18,7 @@ use Rattle.chunks.specs.Taking.{client, plugin, turn_at}
 use Rattle.chunks.specs.Uncut.{is_waiting}
 use Rattle.intake.specs.declared.answers.Received.{Received}
 use Rattle.plugin_receiving.specs.Commands.{answer_behind, comes_to}
-use Rattle.plugin_receiving.specs.declared.receiving.Taking.TheVariants as the
+use Rattle.std.specs.Prelude.{Err}
 use Rattle.intake.proofs.Laws.Fronts.{front_within}
 use Rattle.plugin_receiving.proofs.Laws.Commands.{chunk_begun, fronted}
 use borrow.Author.Rules.{rules}
@@ -48,36 +48,36 @@ put_together-n-requires c = let a = c.args in
     }
 
 pub answer_behind-requires : goal.answer_behind-requires
-answer_behind-requires c = rw c.begin-in-Stanza.ensures (omega arith)
+answer_behind-requires c = rw c.begin-in-Ok.ensures (omega arith)
 
-pub returns-in-Refused : goal.returns-in-Refused
-returns-in-Refused c = let a = c.args in
-    let q = c.in-Refused.r in
+pub returns-in-Err : goal.returns-in-Err
+returns-in-Err c = let a = c.args in
+    let q = c.in-Err.r in
     let s = session_of a.session a.slots.now a.header_slots.now in
     let b = one.buffers_of a.recipients.now a.identities.now a.keys.now a.headers.now in
     let text = c.front.result.now in
     let long : 8192 ≤ length a.input.now = omega (arith, c.put_together-arg-1.given) in
     let at = c.front.ensures ∙ c.put_together-n.ensures ∙ ap (λ j. take j a.input.now ++ take a.k a.chunk.now) c.kept_of-kept.ensures in
-    let f = fronted a.session a.slots.now a.header_slots.now a.slots.now a.header_slots.now b b a.input.now a.chunk.now a.k _ (the.Refused q) c.moved.result long c.requires.phase_value c.requires.chunk_value (λ z. c.if-k-eq0.false z) text at
-    (rw (c.moved.ensures, c.phase_refused.ensures) (refusal_is a.session.machine (name_of a.session.name) a.session.screen a.session.phase (tables_in a.session.tables a.slots.now a.header_slots.now) b (number_of q) ∙ ap (λ r. received_as r s text b) (sym (ap read_said c.in-Refused.is) ∙ c.read-first.ensures)))
+    let f = fronted a.session a.slots.now a.header_slots.now a.slots.now a.header_slots.now b b a.input.now a.chunk.now a.k _ (Err q) c.moved.result long c.requires.phase_value c.requires.chunk_value (λ z. c.if-k-eq0.false z) text at
+    (rw (c.moved.ensures, c.phase_refused.ensures) (refusal_is a.session.machine (name_of a.session.name) a.session.screen a.session.phase (tables_in a.session.tables a.slots.now a.header_slots.now) b (number_of q) ∙ ap (λ r. received_as r s text b) (sym (ap read_said c.in-Err.is) ∙ c.read-first.ensures)))
     refl in
     record {
       outcome = f.comes;
       rest = (f.none_due, f.count, f.written, ap (λ s. s.name) c.moved.ensures);
     }
 
-pub returns-in-Stanza : goal.returns-in-Stanza
-returns-in-Stanza c = let a = c.args in
-    let v = c.in-Stanza.s in
+pub returns-in-Ok : goal.returns-in-Ok
+returns-in-Ok c = let a = c.args in
+    let v = c.in-Ok.s in
     let n = c.receive_stanza-receipt in
     let s = session_of a.session a.slots.now a.header_slots.now in
     let b = one.buffers_of a.recipients.now a.identities.now a.keys.now a.headers.now in
-    let text = c.front-in-Stanza.result.now in
+    let text = c.front-in-Ok.result.now in
     let long : 8192 ≤ length a.input.now = omega (arith, c.put_together-arg-1.given) in
-    let at = c.front-in-Stanza.ensures ∙ c.put_together-n.ensures ∙ ap (λ j. take j a.input.now ++ take a.k a.chunk.now) c.kept_of-kept.ensures in
-    let reading : stanza v.line v.body v.taken ≡ read_first text = sym (ap read_said c.in-Stanza.is) ∙ c.read-first.ensures ∙ ap read_first (c.front.ensures ∙ sym c.front-in-Stanza.ensures) in
+    let at = c.front-in-Ok.ensures ∙ c.put_together-n.ensures ∙ ap (λ j. take j a.input.now ++ take a.k a.chunk.now) c.kept_of-kept.ensures in
+    let reading : stanza v.line v.body v.taken ≡ read_first text = sym (ap read_said c.in-Ok.is) ∙ c.read-first.ensures ∙ ap read_first (c.front.ensures ∙ sym c.front-in-Ok.ensures) in
     let f = fronted a.session a.slots.now a.header_slots.now n.new.slots n.new.header_slots b (one.buffers_of n.new.recipients n.new.identities n.new.keys n.new.headers) a.input.now a.chunk.now a.k c.answer_behind.result n.result.answer n.result.session long c.requires.phase_value c.requires.chunk_value (λ z. c.if-k-eq0.false z) text at
-    (n.ensures.outcome ∙ ap (λ r. received_as r s text b) reading) (c.answer_behind.ensures ∙ ap (λ z. answer_behind z n.result.answer n.result.session) c.begin-in-Stanza.ensures) in
+    (n.ensures.outcome ∙ ap (λ r. received_as r s text b) reading) (c.answer_behind.ensures ∙ ap (λ z. answer_behind z n.result.answer n.result.session) c.begin-in-Ok.ensures) in
     record {
       outcome = f.comes;
       rest = (f.none_due, f.count, f.written, ap (λ s. s.name) f.session ∙ ap (λ (x : Carried). x.name) n.ensures.carried);

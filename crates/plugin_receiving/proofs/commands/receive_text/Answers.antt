@@ -76,18 +76,18 @@ answer_behind-answer-requires c = omega (arith, c.well_formed, c.loop-s.invarian
 pub overflow_add-at : goal.overflow_add-at
 overflow_add-at c = let a = c.args in
     let l = c.loop-s in
-    omega (arith, c.well_formed, stanza_within l.answer a.text.now l.at l.invariant.0 c.in-Stanza.s (sym (ap read_said c.in-Stanza.is) ∙ c.next_command-next.ensures))
+    omega (arith, c.well_formed, stanza_within l.answer a.text.now l.at l.invariant.0 c.in-Ok.s (sym (ap read_said c.in-Ok.is) ∙ c.next_command-next.ensures))
 
 pub loop-s-smaller : goal.loop-s-smaller
 loop-s-smaller c = let a = c.args in
     let l = c.loop-s in
     let n = c.receive_stanza-receipt in
-    let v = advanced l.answer a.text.now l.at l.invariant.0 c.in-Stanza.s (sym (ap read_said c.in-Stanza.is) ∙ c.next_command-next.ensures) c.answer_behind-answer.result l.slots l.header_slots n.new.slots n.new.header_slots (one.buffers_of l.recipients l.identities l.keys l.headers) (one.buffers_of n.new.recipients n.new.identities n.new.keys n.new.headers) n.result.answer n.result.session n.ensures.outcome c.answer_behind-answer.ensures in
+    let v = advanced l.answer a.text.now l.at l.invariant.0 c.in-Ok.s (sym (ap read_said c.in-Ok.is) ∙ c.next_command-next.ensures) c.answer_behind-answer.result l.slots l.header_slots n.new.slots n.new.header_slots (one.buffers_of l.recipients l.identities l.keys l.headers) (one.buffers_of n.new.recipients n.new.identities n.new.keys n.new.headers) n.result.answer n.result.session n.ensures.outcome c.answer_behind-answer.ensures in
     omega (arith, v.within, v.long)
 
 pub loop-s-preserved : goal.loop-s-preserved
 loop-s-preserved c = let a = c.args in
     let l = c.loop-s in
     let n = c.receive_stanza-receipt in
-    let v = advanced l.answer a.text.now l.at l.invariant.0 c.in-Stanza.s (sym (ap read_said c.in-Stanza.is) ∙ c.next_command-next.ensures) c.answer_behind-answer.result l.slots l.header_slots n.new.slots n.new.header_slots (one.buffers_of l.recipients l.identities l.keys l.headers) (one.buffers_of n.new.recipients n.new.identities n.new.keys n.new.headers) n.result.answer n.result.session n.ensures.outcome c.answer_behind-answer.ensures in
+    let v = advanced l.answer a.text.now l.at l.invariant.0 c.in-Ok.s (sym (ap read_said c.in-Ok.is) ∙ c.next_command-next.ensures) c.answer_behind-answer.result l.slots l.header_slots n.new.slots n.new.header_slots (one.buffers_of l.recipients l.identities l.keys l.headers) (one.buffers_of n.new.recipients n.new.identities n.new.keys n.new.headers) n.result.answer n.result.session n.ensures.outcome c.answer_behind-answer.ensures in
     (v.within, omega (arith, v.count, v.long, l.invariant.1), l.invariant.2, v.none_due, λ d. l.invariant.4 d ∙ v.comes d, n.auto.recipients ∙ l.invariant.5, n.auto.identities ∙ l.invariant.6, n.auto.keys ∙ l.invariant.7, n.auto.headers ∙ l.invariant.8, v.written ∙ l.invariant.9, ap (λ s. s.name) v.session ∙ ap (λ (x : Carried). x.name) n.ensures.carried ∙ l.invariant.10)

@@ -26,15 +26,15 @@ use Rattle.plugin_receiving.proofs.phases.receive.Goals as goal
 none : two.BuffersTwo
 none = two.buffers_of [] [] []
 
-pub returns-in-GoesOn : goal.returns-in-GoesOn
-returns-in-GoesOn c = let a = c.args in
+pub returns-in-Some : goal.returns-in-Some
+returns-in-Some c = let a = c.args in
     let x = a.chunk.now in
     let o = a.input.now in
     let k = min a.session.kept 8191 in
     let g = c.read_one-one in
     let u = c.turn_plugin-turn in
     let long : 8192 ≤ length o = omega (arith, c.read_one-arg-1.given) in
-    let s = subst (OneByteSays (turn_said u.result) a.session.reading k x o g.new.input) c.in-GoesOn.is g.ensures in
+    let s = subst (OneByteSays (turn_said u.result) a.session.reading k x o g.new.input) c.in-Some.is g.ensures in
     let answered : (d : two.BuffersTwo) → Answered plugin a.session x c.keep_on.result a.slots.now a.header_slots.now o g.new.input (buffers_of (one.buffers_of a.recipients.now a.identities.now a.keys.now a.headers.now) d) a.out.now = λ d. subst (λ i. Answered plugin a.session x c.keep_on.result a.slots.now a.header_slots.now o i (buffers_of (one.buffers_of a.recipients.now a.identities.now a.keys.now a.headers.now) d) a.out.now) (sym s.2) (c.keep_on.ensures.outcome plugin a.slots.now a.header_slots.now o (buffers_of (one.buffers_of a.recipients.now a.identities.now a.keys.now a.headers.now) d) a.out.now (sym u.ensures ∙ s.0) long s.1) in
     record {
       outcome = λ d. (answered d).outcome;

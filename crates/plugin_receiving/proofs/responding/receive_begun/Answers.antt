@@ -18,22 +18,22 @@ use Rattle.plugin_receiving.proofs.Laws.Responses.{no_buffers, may_settle_due, b
 use Rattle.plugin_receiving.proofs.responding.receive_begun.Goals as goal
 
 pub receive_stanza-responded-requires : goal.receive_stanza-responded-requires
-receive_stanza-responded-requires c = sym c.read-first.ensures ∙ ap read_said c.in-Stanza.is
+receive_stanza-responded-requires c = sym c.read-first.ensures ∙ ap read_said c.in-Ok.is
 
 pub overflow_sub-left : goal.overflow_sub-left
 overflow_sub-left c = let a = c.args in
-    let v = c.in-Stanza.s in
-    omega (arith, ((taken_iff a.chunk.now v.taken).0 (v.line, v.body, sym c.read-first.ensures ∙ ap read_said c.in-Stanza.is)).within)
+    let v = c.in-Ok.s in
+    omega (arith, ((taken_iff a.chunk.now v.taken).0 (v.line, v.body, sym c.read-first.ensures ∙ ap read_said c.in-Ok.is)).within)
 
 pub settle_response-requires : goal.settle_response-requires
 settle_response-requires c = ap (λ (x : Carried). x.name) c.receive_stanza-responded.ensures.carried
 
-pub returns-in-Refused : goal.returns-in-Refused
-returns-in-Refused c = let a = c.args in
+pub returns-in-Err : goal.returns-in-Err
+returns-in-Err c = let a = c.args in
     let p = c.requires in
     let n = c.settle in
     let e = c.begin.ensures in
-    let reading : read_first a.chunk.now ≡ refused (number_of c.in-Refused.field-0) = sym c.read-first.ensures ∙ ap read_said c.in-Refused.is in
+    let reading : read_first a.chunk.now ≡ refused (number_of c.in-Err.field-0) = sym c.read-first.ensures ∙ ap read_said c.in-Err.is in
     let may = subst (λ (r : Received). MaySettle plugin r.session.phase reads [] a.chunk.now a.input.now) (sym e) (may_settle_due a.session a.word p.phase_value a.input.now p.in_bounds a.chunk.now _ reading) in
     record {
       outcome = λ xs hs b.
@@ -47,12 +47,12 @@ returns-in-Refused c = let a = c.args in
       name = n.ensures.rest.1 ∙ ap (λ (r : Received). r.session.name) e;
     }
 
-pub returns-in-Stanza : goal.returns-in-Stanza
-returns-in-Stanza c = let a = c.args in
+pub returns-in-Ok : goal.returns-in-Ok
+returns-in-Ok c = let a = c.args in
     let p = c.requires in
-    let v = c.in-Stanza.s in
+    let v = c.in-Ok.s in
     let n = c.receive_stanza-responded in
-    let reading : read_first a.chunk.now ≡ stanza v.line v.body v.taken = sym c.read-first.ensures ∙ ap read_said c.in-Stanza.is in
+    let reading : read_first a.chunk.now ≡ stanza v.line v.body v.taken = sym c.read-first.ensures ∙ ap read_said c.in-Ok.is in
     record {
       outcome = λ xs hs b. c.settle_response.ensures.outcome xs hs a.input.now b _ ∙ begun_settled a.session a.word p.phase_value a.input.now p.in_bounds a.chunk.now xs hs b n.result a.out.now _ p.chunk_value v.line v.body v.taken reading (n.ensures.outcome xs hs);
       stored = λ xs hs. sym (stored_own plugin c.settle_response.result.session xs hs a.input.now);

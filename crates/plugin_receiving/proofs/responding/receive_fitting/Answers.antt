@@ -27,22 +27,22 @@ returns-then-not-fits_whole c = record {
 pub write_body-written-requires : goal.write_body-written-requires
 write_body-written-requires c = c.requires
 
-pub returns-in-Bytes : goal.returns-in-Bytes
-returns-in-Bytes c = record {
+pub returns-in-Ok : goal.returns-in-Ok
+returns-in-Ok c = record {
   outcome = λ xs hs.
       let a = c.args in
       let y = body_in a.text.now a.s in
       let e : fits_whole a.word a.found y ≡ true = ap (λ n. fitting a.word a.found && (eqb n 0 || may_have_body a.word a.found)) (written_read a.text.now a.s.line a.s.body a.s.taken c.requires).body ∙ sym c.fits_whole.ensures ∙ not-false c.fits_whole.result c.if-not-fits_whole.false-raw in
-      rw c.moved.ensures (responded_whole a.session.machine (name_of a.session.name) a.session.screen a.session.phase (tables_in a.session.tables xs hs) a.word a.found y a.s.taken a.out.now c.in-Bytes.n _ e (sym (ap said c.in-Bytes.is) ∙ c.write_body-written.ensures.answer) c.write_body-written.ensures.buffer);
+      rw c.moved.ensures (responded_whole a.session.machine (name_of a.session.name) a.session.screen a.session.phase (tables_in a.session.tables xs hs) a.word a.found y a.s.taken a.out.now c.in-Ok.n _ e (sym (ap said c.in-Ok.is) ∙ c.write_body-written.ensures.answer) c.write_body-written.ensures.buffer);
   carried = ap carried_by c.moved.ensures;
 }
 
-pub returns-in-Refused : goal.returns-in-Refused
-returns-in-Refused c = record {
+pub returns-in-Err : goal.returns-in-Err
+returns-in-Err c = record {
   outcome = λ xs hs.
       let a = c.args in
       let y = body_in a.text.now a.s in
       let e : fits_whole a.word a.found y ≡ true = ap (λ n. fitting a.word a.found && (eqb n 0 || may_have_body a.word a.found)) (written_read a.text.now a.s.line a.s.body a.s.taken c.requires).body ∙ sym c.fits_whole.ensures ∙ not-false c.fits_whole.result c.if-not-fits_whole.false-raw in
-      responded_short a.session.machine (name_of a.session.name) a.session.screen a.session.phase (tables_in a.session.tables xs hs) a.word a.found y a.s.taken a.out.now (number_of c.in-Refused.r) _ e (sym (ap said c.in-Refused.is) ∙ c.write_body-written.ensures.answer) c.write_body-written.ensures.buffer;
+      responded_short a.session.machine (name_of a.session.name) a.session.screen a.session.phase (tables_in a.session.tables xs hs) a.word a.found y a.s.taken a.out.now (number_of c.in-Err.r) _ e (sym (ap said c.in-Err.is) ∙ c.write_body-written.ensures.answer) c.write_body-written.ensures.buffer;
   carried = refl;
 }

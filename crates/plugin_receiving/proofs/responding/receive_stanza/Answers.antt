@@ -9,23 +9,23 @@ use Rattle.conversation.specs.Responding.{responded_as}
 use Rattle.conversation.proofs.Laws.Responding.{responded_nothing}
 use Rattle.plugin_receiving.proofs.responding.receive_stanza.Goals as goal
 
-pub returns-in-Response : goal.returns-in-Response
-returns-in-Response c = record {
+pub returns-in-Some : goal.returns-in-Some
+returns-in-Some c = record {
   outcome = λ xs hs.
       let a = c.args in
       let e : reading_said c.read_line-reading.result ≡ response_of (arguments_in a.text.now a.s) = c.read_line-reading.ensures ∙ ap response_of c.arguments_of.ensures in
       c.receive_fitting.ensures.outcome xs hs
-      ∙ ap (λ r. responded_as a.word (session_of a.session xs hs) r (body_in a.text.now a.s) a.s.taken a.out.now) (sym (ap reading_said c.in-Response.is) ∙ e);
+      ∙ ap (λ r. responded_as a.word (session_of a.session xs hs) r (body_in a.text.now a.s) a.s.taken a.out.now) (sym (ap reading_said c.in-Some.is) ∙ e);
   carried = c.receive_fitting.ensures.carried;
 }
 
-pub returns-in-Nothing : goal.returns-in-Nothing
-returns-in-Nothing c = record {
+pub returns-in-None : goal.returns-in-None
+returns-in-None c = record {
   outcome = λ xs hs.
       let a = c.args in
       let e : reading_said c.read_line-reading.result ≡ response_of (arguments_in a.text.now a.s) = c.read_line-reading.ensures ∙ ap response_of c.arguments_of.ensures in
       c.unfit.ensures.outcome xs hs a.out.now
       ∙ responded_nothing a.session.machine (name_of a.session.name) a.session.screen a.session.phase (tables_in a.session.tables xs hs) a.word (body_in a.text.now a.s) a.s.taken a.out.now
-      ∙ ap (λ r. responded_as a.word (session_of a.session xs hs) r (body_in a.text.now a.s) a.s.taken a.out.now) (sym (ap reading_said c.in-Nothing.is) ∙ e);
+      ∙ ap (λ r. responded_as a.word (session_of a.session xs hs) r (body_in a.text.now a.s) a.s.taken a.out.now) (sym (ap reading_said c.in-None.is) ∙ e);
   carried = c.unfit.ensures.carried;
 }

@@ -7,7 +7,7 @@ use Rattle.plugin_receiving.proofs.responding.settle_response.Goals as goal
 
 pub returns-then-number-eq15 : goal.returns-then-number-eq15
 returns-then-number-eq15 c = record {
-  outcome = λ xs hs input b out. rw (c.in-Refused.is, eq-eqb (number_of c.in-Refused.r) 15 (sym c.number.ensures ∙ c.if-number-eq15.true)) (c.leave.ensures.outcome plugin xs hs input b out);
+  outcome = λ xs hs input b out. rw (c.in-Err.is, eq-eqb (number_of c.in-Err.r) 15 (sym c.number.ensures ∙ c.if-number-eq15.true)) (c.leave.ensures.outcome plugin xs hs input b out);
   name = c.leave.ensures.name;
 }
 
@@ -19,6 +19,6 @@ returns-in-Response c = record {
 
 pub returns-else-number-eq15 : goal.returns-else-number-eq15
 returns-else-number-eq15 c = record {
-  outcome = λ xs hs input b out. rw (c.keeping-emptied.ensures, c.in-Refused.is, ne_eqb (number_of c.in-Refused.r) 15 (λ h. c.if-number-eq15.false (c.number.ensures ∙ h)));
+  outcome = λ xs hs input b out. rw (c.keeping-emptied.ensures, c.in-Err.is, ne_eqb (number_of c.in-Err.r) 15 (λ h. c.if-number-eq15.false (c.number.ensures ∙ h)));
   name = ap (λ s. s.name) c.keeping-emptied.ensures ∙ c.requires;
 }

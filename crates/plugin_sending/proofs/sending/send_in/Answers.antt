@@ -19,30 +19,30 @@ use Rattle.conversation.proofs.Laws.SendingTwo.{sent_from, sent_unwritable}
 use Rattle.phase_two_commands.specs.Commands.{command_said}
 use Rattle.plugin_sending.proofs.sending.send_in.Goals as goal
 
-pub returns-in-Refused : goal.returns-in-Refused
-returns-in-Refused c = let a = c.args in
+pub returns-in-Err : goal.returns-in-Err
+returns-in-Err c = let a = c.args in
     let l = line_sent a.word a.arguments.now in
-    let r = number_of c.in-Refused.r in
+    let r = number_of c.in-Err.r in
     let put = c.put_line_two-put.ensures in
-    let z = composed_not l a.store.now _ a.body.now _ put.answer put.buffer r c.requires (sym (ap composed_said c.in-Refused.is) ∙ c.compose-composed.ensures) in
+    let z = composed_not l a.store.now _ a.body.now _ put.answer put.buffer r c.requires (sym (ap composed_said c.in-Err.is) ∙ c.compose-composed.ensures) in
     record {
       outcome = rw z.1 (sent_unwritable (session_of a.session a.slots.now a.header_slots.now) (buffers_of a.errors.now a.stanzas.now a.returned.now) l a.body.now a.out.now z.0);
       carried = refl;
     }
 
-pub shape_of-store-in-Line : goal.shape_of-store-in-Line
-shape_of-store-in-Line c = c.put_line_two-put.auto.out
+pub shape_of-store-in-Ok : goal.shape_of-store-in-Ok
+shape_of-store-in-Ok c = c.put_line_two-put.auto.out
 
-pub returns-in-Line : goal.returns-in-Line
-returns-in-Line c = let a = c.args in
+pub returns-in-Ok : goal.returns-in-Ok
+returns-in-Ok c = let a = c.args in
     let l = line_sent a.word a.arguments.now in
     let y = a.body.now in
     let o = a.out.now in
     let put = c.put_line_two-put.ensures in
-    let z = composed_line l a.store.now _ y _ put.answer put.buffer c.in-Line.n c.in-Line.size (sym (ap composed_said c.in-Line.is) ∙ c.compose-composed.ensures) in
+    let z = composed_line l a.store.now _ y _ put.answer put.buffer c.in-Ok.n c.in-Ok.size (sym (ap composed_said c.in-Ok.is) ∙ c.compose-composed.ensures) in
     let f = c.front-line.result.now in
     let e : f ≡ l = c.front-line.ensures ∙ z.0 in
-    let w = size_bytes f y o c.in-Line.size (z.1 ∙ ap (λ x. sized x y) (sym e)) in
+    let w = size_bytes f y o c.in-Ok.size (z.1 ∙ ap (λ x. sized x y) (sym e)) in
     let step = c.step_two-step in
     let hs = a.header_slots.now in
     record {

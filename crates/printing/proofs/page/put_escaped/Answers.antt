@@ -18,19 +18,19 @@ pub overflow_add-result : goal.overflow_add-result
 overflow_add-result c = let o = c.args.out.now in
     let t = escaped c.args.bytes.now in
     let n = c.args.at in
-    let w = written_front t (drop n o) c.in-Bytes.n _ (sym (ap said c.in-Bytes.is) ∙ c.escape-w.ensures.answer ∙ ap (λ x. answered t x) (part_rest n o)) (c.escape-w.ensures.buffer ∙ ap (λ x. filled t x) (part_rest n o)) in
+    let w = written_front t (drop n o) c.in-Ok.n _ (sym (ap said c.in-Ok.is) ∙ c.escape-w.ensures.answer ∙ ap (λ x. answered t x) (part_rest n o)) (c.escape-w.ensures.buffer ∙ ap (λ x. filled t x) (part_rest n o)) in
     omega (arith, w.size, simp length-drop at w.fits)
 
-pub returns-in-Bytes : goal.returns-in-Bytes
-returns-in-Bytes c = let o = c.args.out.now in
+pub returns-in-Ok : goal.returns-in-Ok
+returns-in-Ok c = let o = c.args.out.now in
     let t = escaped c.args.bytes.now in
     let n = c.args.at in
     let f = c.escape-w.ensures.buffer ∙ ap (λ x. filled t x) (part_rest n o) in
-    let w = written_front t (drop n o) c.in-Bytes.n _ (sym (ap said c.in-Bytes.is) ∙ c.escape-w.ensures.answer ∙ ap (λ x. answered t x) (part_rest n o)) f in
+    let w = written_front t (drop n o) c.in-Ok.n _ (sym (ap said c.in-Ok.is) ∙ c.escape-w.ensures.answer ∙ ap (λ x. answered t x) (part_rest n o)) f in
     put_whole t o n _ _ (put_rest n o _ ∙ ap (λ p. take n o ++ p) f) (ap (λ k. n + k) w.size) (simp length-drop at w.fits)
 
-pub returns-in-Refused : goal.returns-in-Refused
-returns-in-Refused c = let o = c.args.out.now in
+pub returns-in-Err : goal.returns-in-Err
+returns-in-Err c = let o = c.args.out.now in
     let t = escaped c.args.bytes.now in
     let n = c.args.at in
-    put_over t o n _ (put_rest n o _ ∙ ap (λ p. take n o ++ p) (c.escape-w.ensures.buffer ∙ ap (λ x. filled t x) (part_rest n o))) (simp length-drop at (refused_over t (drop n o) _ (sym (ap said c.in-Refused.is) ∙ c.escape-w.ensures.answer ∙ ap (λ x. answered t x) (part_rest n o))))
+    put_over t o n _ (put_rest n o _ ∙ ap (λ p. take n o ++ p) (c.escape-w.ensures.buffer ∙ ap (λ x. filled t x) (part_rest n o))) (simp length-drop at (refused_over t (drop n o) _ (sym (ap said c.in-Err.is) ∙ c.escape-w.ensures.answer ∙ ap (λ x. answered t x) (part_rest n o))))

@@ -30,20 +30,20 @@ returns-then-bytes-eq0 c = let bytes = c.args.bytes.now in
 pub spell-requires : goal.spell-requires
 spell-requires c = let out = c.args.out.now in
     let bytes = c.args.bytes.now in
-    ltb-false (length out) (length (spelled bytes)) (sized_bytes (length (spelled bytes)) (length out) c.in-Bytes.field-0 (sym (ap said c.in-Bytes.is) ∙ c.spelled_length-w.ensures))
+    ltb-false (length out) (length (spelled bytes)) (sized_bytes (length (spelled bytes)) (length out) c.in-Ok.field-0 (sym (ap said c.in-Ok.is) ∙ c.spelled_length-w.ensures))
 
-pub returns-in-Refused : goal.returns-in-Refused
-returns-in-Refused c = let bytes = c.args.bytes.now in
+pub returns-in-Err : goal.returns-in-Err
+returns-in-Err c = let bytes = c.args.bytes.now in
     let out = c.args.out.now in
     record {
       answer = rw (escaped_some bytes (omega arith)) (c.spelled_length-w.ensures);
-      buffer = rw (escaped_some bytes (omega arith)) (rw (sized_refused (length (spelled bytes)) (length out) (number_of c.in-Refused.field-0) (sym (ap said c.in-Refused.is) ∙ c.spelled_length-w.ensures)));
+      buffer = rw (escaped_some bytes (omega arith)) (rw (sized_refused (length (spelled bytes)) (length out) (number_of c.in-Err.field-0) (sym (ap said c.in-Err.is) ∙ c.spelled_length-w.ensures)));
     }
 
-pub returns-in-Bytes : goal.returns-in-Bytes
-returns-in-Bytes c = let bytes = c.args.bytes.now in
+pub returns-in-Ok : goal.returns-in-Ok
+returns-in-Ok c = let bytes = c.args.bytes.now in
     let out = c.args.out.now in
     record {
       answer = rw (escaped_some bytes (omega arith)) (c.spelled_length-w.ensures);
-      buffer = rw (escaped_some bytes (omega arith)) (rw (sized_bytes (length (spelled bytes)) (length out) c.in-Bytes.field-0 (sym (ap said c.in-Bytes.is) ∙ c.spelled_length-w.ensures)) c.spell.ensures);
+      buffer = rw (escaped_some bytes (omega arith)) (rw (sized_bytes (length (spelled bytes)) (length out) c.in-Ok.field-0 (sym (ap said c.in-Ok.is) ∙ c.spelled_length-w.ensures)) c.spell.ensures);
     }

@@ -4,13 +4,13 @@ use Rattle.refusal.specs.Output.{said}
 use Rattle.stanza.specs.Writing.{sized}
 use Rattle.session.proofs.output.compose.Goals as goal
 
-pub returns-in-Refused : goal.returns-in-Refused
-returns-in-Refused c = rw c.in-Refused.is
+pub returns-in-Err : goal.returns-in-Err
+returns-in-Err c = rw c.in-Err.is
 
-pub returns-in-Bytes-size : goal.returns-in-Bytes-size
-returns-in-Bytes-size c = let e = ap (λ x. sized x c.args.body.now) (sym c.front.ensures) ∙ sym c.size-size.ensures ∙ ap said c.in-Bytes-size.is in
-    rw (c.in-Bytes.is, e)
+pub returns-in-Ok-size : goal.returns-in-Ok-size
+returns-in-Ok-size c = let e = ap (λ x. sized x c.args.body.now) (sym c.front.ensures) ∙ sym c.size-size.ensures ∙ ap said c.in-Ok-size.is in
+    rw (c.in-Ok.is, e)
 
-pub returns-in-Refused-size : goal.returns-in-Refused-size
-returns-in-Refused-size c = let e = ap (λ x. sized x c.args.body.now) (sym c.front.ensures) ∙ sym c.size-size.ensures ∙ ap said c.in-Refused-size.is in
-    rw (c.in-Bytes.is, e)
+pub returns-in-Err-size : goal.returns-in-Err-size
+returns-in-Err-size c = let e = ap (λ x. sized x c.args.body.now) (sym c.front.ensures) ∙ sym c.size-size.ensures ∙ ap said c.in-Err-size.is in
+    rw (c.in-Ok.is, e)

@@ -10,16 +10,11 @@ pub slice_bounds-w-end : goal.slice_bounds-w-end
 slice_bounds-w-end c = sym (length-take-le _ c.args.text.now (omega (arith, c.window-n.ensures)))
 
 pub read_body-requires : goal.read_body-requires
-read_body-requires c = let whole = rw c.in-Ends.is at c.first_line-l.ensures.ends_at in
+read_body-requires c = let whole = rw c.in-Ok.is at c.first_line-l.ensures.ends_at in
     record { w_value = whole.0; e_in_bounds = whole.1 }
 
-pub returns-in-Bad : goal.returns-in-Bad
-unfolding found
-returns-in-Bad c = rw (window_is c.args.text.now c.window-n.result c.window-n.ensures, c.first_line-l.ensures.text_value, c.in-Bad.is)
+pub returns-in-Err : goal.returns-in-Err
+returns-in-Err c = rw (window_is c.args.text.now c.window-n.result c.window-n.ensures, rw c.in-Err.is at c.first_line-l.ensures.text_value) (c.refusal_of.ensures _ ∙ found_window c.args.text.now c.window-n.result c.window-n.ensures _)
 
-pub returns-in-Short : goal.returns-in-Short
-unfolding found
-returns-in-Short c = rw (window_is c.args.text.now c.window-n.result c.window-n.ensures, c.first_line-l.ensures.text_value, c.in-Short.is, c.unfinished.ensures) (short_is c.args.text.now c.window-n.result c.window-n.ensures)
-
-pub returns-in-Ends : goal.returns-in-Ends
-returns-in-Ends c = rw (window_is c.args.text.now c.window-n.result c.window-n.ensures, rw c.in-Ends.is at c.first_line-l.ensures.text_value) (c.read_body.ensures ∙ found_window c.args.text.now c.window-n.result c.window-n.ensures _)
+pub returns-in-Ok : goal.returns-in-Ok
+returns-in-Ok c = rw (window_is c.args.text.now c.window-n.result c.window-n.ensures, rw c.in-Ok.is at c.first_line-l.ensures.text_value) (c.read_body.ensures ∙ found_window c.args.text.now c.window-n.result c.window-n.ensures _)

@@ -2,8 +2,8 @@
 use Rattle.tables.proofs.Laws.LookUp.{nothing_left}
 use Rattle.tables.proofs.tables.payload.Goals as goal
 
-pub returns-in-Nothing : goal.returns-in-Nothing
-returns-in-Nothing c = rw c.in-Nothing.is (nothing_left c.args.buffer.now)
+pub returns-in-None : goal.returns-in-None
+returns-in-None c = rw c.in-None.is (nothing_left c.args.buffer.now)
 
-pub returns-in-Entry : goal.returns-in-Entry
-returns-in-Entry c = rw c.in-Entry.is c.part.ensures
+pub returns-in-Some : goal.returns-in-Some
+returns-in-Some c = rw c.in-Some.is c.part.ensures

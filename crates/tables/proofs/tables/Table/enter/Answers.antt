@@ -28,23 +28,23 @@ overflow_add-result c = let s = c.args.self in
     let l = ltb-true s.count c.args.span.width a.0 in
     omega (arith, l)
 
-pub overflow_add-result-in-Accepted : goal.overflow_add-result-in-Accepted
-overflow_add-result-in-Accepted c = let s = c.args.self in
+pub overflow_add-result-in-Ok : goal.overflow_add-result-in-Ok
+overflow_add-result-in-Ok c = let s = c.args.self in
     let a = and_true (ltb s.count c.args.span.width) (leb (s.used + c.args.n) c.args.capacity) (sym c.has_space.ensures ∙ not-false _ c.if-not-has_space.false-raw) in
     let l = leb-true (s.used + c.args.n) c.args.capacity a.1 in
     omega (arith, l)
 
-pub returns-in-Refused : goal.returns-in-Refused
-returns-in-Refused c = let t = table_in c.args.span c.args.self c.args.slots.now in
+pub returns-in-Err : goal.returns-in-Err
+returns-in-Err c = let t = table_in c.args.span c.args.self c.args.slots.now in
     let f : fits t c.args.n c.args.capacity ≡ true = sym c.has_space.ensures ∙ not-false _ c.if-not-has_space.false-raw in
     record {
-      number = simp (f, c.in-Refused.is, number_not_zero c.in-Refused.field-0) refl;
-      table = rw (f, c.in-Refused.is, number_not_zero c.in-Refused.field-0) refl;
+      number = simp (f, c.in-Err.is, number_not_zero c.in-Err.field-0) refl;
+      table = rw (f, c.in-Err.is, number_not_zero c.in-Err.field-0) refl;
       others = (λ k a. refl);
     }
 
-pub returns-in-Accepted : goal.returns-in-Accepted
-returns-in-Accepted c = let h = c.args.span in
+pub returns-in-Ok : goal.returns-in-Ok
+returns-in-Ok c = let h = c.args.span in
     let s = c.args.self in
     let xs = c.args.slots.now in
     let t = table_in h s xs in
@@ -54,7 +54,7 @@ returns-in-Accepted c = let h = c.args.span in
     let l = ltb-true s.count h.width (and_true (ltb s.count h.width) (leb (s.used + n) c.args.capacity) f).0 in
     let e = c.put_entry.ensures in
     record {
-      number = rw (f, c.in-Accepted.is) refl;
-      table = rw (f, c.in-Accepted.is) (ap (λ x. record { width = h.width; slots = x; count = s.count + 1; used = s.used + n }) (ap (slots_of h) e ∙ slot_set h xs s.count v l));
+      number = rw (f, c.in-Ok.is) refl;
+      table = rw (f, c.in-Ok.is) (ap (λ x. record { width = h.width; slots = x; count = s.count + 1; used = s.used + n }) (ap (slots_of h) e ∙ slot_set h xs s.count v l));
       others = (λ k a. ap (slots_of k) e ∙ slot_other h k xs s.count v l a);
     }

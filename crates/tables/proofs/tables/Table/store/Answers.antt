@@ -13,39 +13,39 @@ use Rattle.tables.proofs.tables.Table.store.Goals as goal
 
 pub slice_bounds-put_body-count : goal.slice_bounds-put_body-count
 slice_bounds-put_body-count c = let t = table_in c.args.span c.args.self c.args.slots.now in
-    let z : storing t c.body_size-n.result (length c.args.buffer.now) (verdict_said c.args.late) ≡ 0 = sym c.enter-stored.ensures.number ∙ ap verdict_said c.in-Accepted.is in
+    let z : storing t c.body_size-n.result (length c.args.buffer.now) (verdict_said c.args.late) ≡ 0 = sym c.enter-stored.ensures.number ∙ ap verdict_said c.in-Ok.is in
     let l = storing_within t c.body_size-n.result (length c.args.buffer.now) (verdict_said c.args.late) z in
     omega (arith, l)
 
 pub slice_bounds-put_body-start : goal.slice_bounds-put_body-start
 slice_bounds-put_body-start c = let t = table_in c.args.span c.args.self c.args.slots.now in
-    let z : storing t c.body_size-n.result (length c.args.buffer.now) (verdict_said c.args.late) ≡ 0 = sym c.enter-stored.ensures.number ∙ ap verdict_said c.in-Accepted.is in
+    let z : storing t c.body_size-n.result (length c.args.buffer.now) (verdict_said c.args.late) ≡ 0 = sym c.enter-stored.ensures.number ∙ ap verdict_said c.in-Ok.is in
     let l = storing_within t c.body_size-n.result (length c.args.buffer.now) (verdict_said c.args.late) z in
     omega (arith, l)
 
 pub put_body-requires : goal.put_body-requires
 put_body-requires c = let t = table_in c.args.span c.args.self c.args.slots.now in
     let b = c.args.buffer.now in
-    let z : storing t c.body_size-n.result (length b) (verdict_said c.args.late) ≡ 0 = sym c.enter-stored.ensures.number ∙ ap verdict_said c.in-Accepted.is in
+    let z : storing t c.body_size-n.result (length b) (verdict_said c.args.late) ≡ 0 = sym c.enter-stored.ensures.number ∙ ap verdict_said c.in-Ok.is in
     let l = storing_within t c.body_size-n.result (length b) (verdict_said c.args.late) z in
     rw (part_rest c.args.self.used b) (simp length-drop (omega (arith, l, c.body_size-n.ensures.0)))
 
-pub returns-in-Refused : goal.returns-in-Refused
-returns-in-Refused c = let e = rw c.body_size-n.ensures.0 at c.enter-stored.ensures in
+pub returns-in-Err : goal.returns-in-Err
+returns-in-Err c = let e = rw c.body_size-n.ensures.0 at c.enter-stored.ensures in
     record {
       number = e.number;
       table = e.table;
       others = e.others;
-      buffer = rw (sym e.number, c.in-Refused.is, number_not_zero c.in-Refused.field-0);
+      buffer = rw (sym e.number, c.in-Err.is, number_not_zero c.in-Err.field-0);
     }
 
-pub returns-in-Accepted : goal.returns-in-Accepted
-returns-in-Accepted c = let e = rw c.body_size-n.ensures.0 at c.enter-stored.ensures in
+pub returns-in-Ok : goal.returns-in-Ok
+returns-in-Ok c = let e = rw c.body_size-n.ensures.0 at c.enter-stored.ensures in
     let t = table_in c.args.span c.args.self c.args.slots.now in
     let p = body_from c.args.coding c.args.source.now in
     let b = c.args.buffer.now in
     let late = verdict_said c.args.late in
-    let z : storing t (length p) (length b) late ≡ 0 = sym e.number ∙ ap verdict_said c.in-Accepted.is in
+    let z : storing t (length p) (length b) late ≡ 0 = sym e.number ∙ ap verdict_said c.in-Ok.is in
     record {
       number = e.number;
       table = e.table;

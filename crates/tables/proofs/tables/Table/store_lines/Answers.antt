@@ -19,14 +19,14 @@ overflow_add-n-2 c = omega (arith, c.body_size.ensures.1)
 pub slice_bounds-put_lines-count : goal.slice_bounds-put_lines-count
 slice_bounds-put_lines-count c = let t = table_in c.args.span c.args.self c.args.slots.now in
     let n = length c.args.line.now + 1 + c.body_size.result in
-    let z : storing t n (length c.args.buffer.now) (verdict_said c.args.late) ≡ 0 = sym c.enter-stored.ensures.number ∙ ap verdict_said c.in-Accepted.is in
+    let z : storing t n (length c.args.buffer.now) (verdict_said c.args.late) ≡ 0 = sym c.enter-stored.ensures.number ∙ ap verdict_said c.in-Ok.is in
     let l = storing_within t n (length c.args.buffer.now) (verdict_said c.args.late) z in
     omega (arith, l)
 
 pub slice_bounds-put_lines-start : goal.slice_bounds-put_lines-start
 slice_bounds-put_lines-start c = let t = table_in c.args.span c.args.self c.args.slots.now in
     let n = length c.args.line.now + 1 + c.body_size.result in
-    let z : storing t n (length c.args.buffer.now) (verdict_said c.args.late) ≡ 0 = sym c.enter-stored.ensures.number ∙ ap verdict_said c.in-Accepted.is in
+    let z : storing t n (length c.args.buffer.now) (verdict_said c.args.late) ≡ 0 = sym c.enter-stored.ensures.number ∙ ap verdict_said c.in-Ok.is in
     let l = storing_within t n (length c.args.buffer.now) (verdict_said c.args.late) z in
     omega (arith, l)
 
@@ -34,28 +34,28 @@ pub put_lines-requires : goal.put_lines-requires
 put_lines-requires c = let t = table_in c.args.span c.args.self c.args.slots.now in
     let b = c.args.buffer.now in
     let n = length c.args.line.now + 1 + c.body_size.result in
-    let z : storing t n (length b) (verdict_said c.args.late) ≡ 0 = sym c.enter-stored.ensures.number ∙ ap verdict_said c.in-Accepted.is in
+    let z : storing t n (length b) (verdict_said c.args.late) ≡ 0 = sym c.enter-stored.ensures.number ∙ ap verdict_said c.in-Ok.is in
     let l = storing_within t n (length b) (verdict_said c.args.late) z in
     rw (part_rest c.args.self.used b) (simp length-drop (omega (arith, l, c.body_size.ensures.0)))
 
-pub returns-in-Refused : goal.returns-in-Refused
-returns-in-Refused c = let e = rw (c.body_size.ensures.0, lines_length c.args.line.now (body_from c.args.coding c.args.source.now)) at c.enter-stored.ensures in
+pub returns-in-Err : goal.returns-in-Err
+returns-in-Err c = let e = rw (c.body_size.ensures.0, lines_length c.args.line.now (body_from c.args.coding c.args.source.now)) at c.enter-stored.ensures in
     record {
       number = e.number;
       table = e.table;
       others = e.others;
-      buffer = rw (sym e.number, c.in-Refused.is, number_not_zero c.in-Refused.field-0);
+      buffer = rw (sym e.number, c.in-Err.is, number_not_zero c.in-Err.field-0);
     }
 
-pub returns-in-Accepted : goal.returns-in-Accepted
-returns-in-Accepted c = let f = c.args.line.now in
+pub returns-in-Ok : goal.returns-in-Ok
+returns-in-Ok c = let f = c.args.line.now in
     let s = body_from c.args.coding c.args.source.now in
     let e = rw (c.body_size.ensures.0, lines_length f s) at c.enter-stored.ensures in
     let t = table_in c.args.span c.args.self c.args.slots.now in
     let p = f ++ 10 ∷ s in
     let b = c.args.buffer.now in
     let late = verdict_said c.args.late in
-    let z : storing t (length p) (length b) late ≡ 0 = sym e.number ∙ ap verdict_said c.in-Accepted.is in
+    let z : storing t (length p) (length b) late ≡ 0 = sym e.number ∙ ap verdict_said c.in-Ok.is in
     record {
       number = e.number;
       table = e.table;
