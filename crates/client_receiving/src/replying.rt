@@ -111,7 +111,7 @@ fn reply_ahead(
     ) {
         return intake::leave(session, Refusal::ShortOutput);
     }
-    responses::write(response, body, out);
+    let _ = responses::write(response, body, out);
     let begun = begin(answered, size);
     take_text(
         begun,

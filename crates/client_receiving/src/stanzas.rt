@@ -12,6 +12,7 @@ ghost use Rattle.client_receiving.specs.Stanzas.{step_said};
 
 use client_room::Step;
 use refusal::Refusal;
+use responses::Response;
 use session::Session;
 use stanza::Stanza;
 use tables::Coding;

@@ -15,6 +15,7 @@ use Rattle.session.specs.declared.phases.Phase.TheVariants.{One, Two, Awaiting, 
 use Rattle.conversation.specs.CommandsTwo.{Named, internal, identity, recipient, header, text_of_word}
 use Rattle.conversation.specs.Kinds.{of_file}
 use Rattle.conversation.specs.PhaseTwo.{Label, labels, is_file}
+use Rattle.session.specs.declared.words.WordTwo.{WordTwo}
 use Rattle.look_up.specs.declared.look_up.ErrorNamed.{ErrorNamed}
 use Rattle.look_up.specs.declared.look_up.ErrorNamed.TheVariants as the
 

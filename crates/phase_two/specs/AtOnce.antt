@@ -1,4 +1,5 @@
 -- What the code's answer at once stands for.
+use Rattle.responses.specs.declared.Response.{Response}
 use Rattle.std.specs.Prelude.{Option, Some, None}
 use Rattle.conversation.specs.ReceivingTwo as two
 

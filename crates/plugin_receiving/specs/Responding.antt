@@ -1,5 +1,5 @@
 -- What the answers to a response that was received stand for.
-use Rattle.std.specs.Prelude.{ℕ, List, [], eqb}
+use Rattle.std.specs.Prelude.{ℕ, List, [], eqb, Result, Ok, Err}
 use Rattle.refusal.specs.Number.{number_of}
 use Rattle.refusal.specs.Pick.{pick}
 use Rattle.responses.specs.Responses.{response_line}
@@ -8,14 +8,14 @@ use Rattle.conversation.specs.Kinds.{Buffers}
 use Rattle.chunks.specs.Taking.{Intake, no_stanza, response, emptied}
 use Rattle.chunks.specs.Chunks.{Outcome, untaken}
 use Rattle.conversation.specs.Responding.{Answering, took_response, declined_response, Responded}
-use Rattle.plugin_receiving.specs.declared.responding.Answering.{Answering as CodeAnswering}
-use Rattle.plugin_receiving.specs.declared.responding.Answering.TheVariants as the
+use Rattle.refusal.specs.declared.Refusal.{Refusal}
+use Rattle.plugin_receiving.specs.declared.responding.Answered.{Answered as CodeAnswered}
 use Rattle.plugin_receiving.specs.declared.responding.Responded.{Responded as CodeResponded}
 
 -- the code's answer
-abbrev pub answering_said : CodeAnswering → Answering
-answering_said (the.Response r k n) = took_response r k n
-answering_said (the.Refused r) = declined_response (number_of r)
+abbrev pub answering_said : Result CodeAnswered Refusal → Answering
+answering_said (Ok a) = took_response a.response a.taken a.body
+answering_said (Err r) = declined_response (number_of r)
 
 -- the answer and the session, with the output buffer afterwards
 abbrev pub responded_said : CodeResponded → List (List ℕ) → List (List ℕ) → List ℕ → Responded

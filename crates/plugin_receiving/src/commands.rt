@@ -19,7 +19,7 @@ use crate::receiving::{Receipt, receive_stanza};
 use intake::{Last, Received};
 use refusal::Refusal;
 use session::{Phase, Session, front};
-use stanza::Place;
+use stanza::{Place, Stanza};
 
 // The next command of a text: nothing is read behind a refusal, nor behind done.
 fn next_command(verdict: Result<(), Refusal>, phase: Phase, rest: &[u8]) -> Result<Stanza, Refusal>

@@ -24,16 +24,17 @@ use responses::Response;
 use session::{Phase, Session, WordTwo, front};
 use stanza::{Place, Stanza};
 
-// Which response was received, how many bytes of the text it took and how many its body has; or the refusal.
+// Which response was received, how many bytes of the text it took and how many its body has.
 #[derive(Clone, Copy)]
-pub(crate) enum Answering {
-    Response(Response, usize, usize),
-    Refused(Refusal),
+pub(crate) struct Answered {
+    pub response: Response,
+    pub taken: usize,
+    pub body: usize,
 }
 
 #[derive(Clone, Copy)]
 pub(crate) struct Responded {
-    pub answer: Answering,
+    pub answer: Result<Answered, Refusal>,
     pub session: Session,
 }
 
@@ -43,7 +44,7 @@ fn unfit(session: Session) -> Responded
     ensures carried { carried_by result.session ≡ carried_by session }
 {
     Responded {
-        answer: Answering::Refused(Refusal::UnfitResponse),
+        answer: Err(Refusal::UnfitResponse),
         session: session.moved(Phase::Closed, session.tables),
     }
 }
@@ -80,11 +81,15 @@ fn receive_fitting(
     let written = write_body(text, s, out);
     match written {
         Ok(n) => Responded {
-            answer: Answering::Response(found, s.taken, n),
+            answer: Ok(Answered {
+                response: found,
+                taken: s.taken,
+                body: n,
+            }),
             session: session.moved(Phase::Two, session.tables),
         },
         Err(r) => Responded {
-            answer: Answering::Refused(r),
+            answer: Err(r),
             session: session,
         },
     }
@@ -120,7 +125,7 @@ fn receive_awaited(session: Session, word: WordTwo, text: &[u8], out: &mut [u8])
     let first = stanza::read(text);
     match first {
         Err(r) => Responded {
-            answer: Answering::Refused(r),
+            answer: Err(r),
             session: session.moved(session::phase_refused(phase, r), session.tables),
         },
         Ok(s) => receive_stanza(session, word, text, s, out),
@@ -138,14 +143,14 @@ fn settle_response(session: Session, responded: Responded, left: usize) -> Recei
     let after = responded.session;
     let emptied = after.keeping(Place::Start, 0, 0);
     match answer {
-        Answering::Response(found, _, n) => Received {
+        Ok(answered) => Received {
             verdict: none_behind(left),
             count: 1,
-            last: Last::Response(found),
-            written: n,
+            last: Last::Response(answered.response),
+            written: answered.body,
             session: emptied,
         },
-        Answering::Refused(r) => {
+        Err(r) => {
             if refusal::number(r) == 15 {
                 return intake::leave(session, r);
             }

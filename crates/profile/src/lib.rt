@@ -5,8 +5,6 @@ ghost use Rattle.std.specs.Prelude.{◌≡◌, ◌&&◌, drop};
 ghost use Rattle.stanza.specs.Arguments.{words, argument_of};
 ghost use Rattle.profile.specs.Profile.{is_bytes, is_some, are_arguments, is_known, found, checked};
 
-use strict_base64::Size;
-
 #[derive(Clone, Copy)]
 pub enum Conformity {
     Conforming,
@@ -27,8 +25,8 @@ fn is_bytes(n: usize, text: &[u8]) -> bool
 {
     let size = strict_base64::measure(text);
     match size {
-        Size::Bytes(m) => m == n,
-        Size::NotBase64 => false,
+        Some(m) => m == n,
+        None => false,
     }
 }
 
@@ -38,8 +36,8 @@ fn is_some(text: &[u8]) -> bool
 {
     let size = strict_base64::measure(text);
     match size {
-        Size::Bytes(m) => 1 <= m,
-        Size::NotBase64 => false,
+        Some(m) => 1 <= m,
+        None => false,
     }
 }
 

@@ -40,8 +40,9 @@ use Rattle.intake.specs.Fronts.{front_of}
 use Rattle.intake.proofs.Laws.Fronts.{chunk_begins, chunk_ends}
 use Rattle.intake.proofs.Laws.Keeping.{filled_empty}
 use Rattle.plugin_receiving.specs.Responding.{answering_said, responded_said, settled_as, settled_response}
-use Rattle.plugin_receiving.specs.declared.responding.Answering.{Answering as CodeAnswering}
-use Rattle.plugin_receiving.specs.declared.responding.Answering.TheVariants as the
+use Rattle.std.specs.Prelude.{Result, Ok, Err}
+use Rattle.refusal.specs.declared.Refusal.{Refusal}
+use Rattle.plugin_receiving.specs.declared.responding.Answered.{Answered as CodeAnswered}
 use Rattle.plugin_receiving.specs.declared.responding.Responded.{Responded as CodeResponded}
 use Rattle.plugin_receiving.proofs.Laws.Commands.{stanza_not_refused}
 
@@ -69,11 +70,11 @@ judged_overflows i b out t l =
 
 module _ (b : Buffers) (i : Intake) (left : ℕ) (s : Session) (after : List ℕ) where
   -- the code's answer, as an outcome
-  abbrev said : CodeAnswering → one_call.Outcome
+  abbrev said : Result CodeAnswered Refusal → one_call.Outcome
   said a = responded_outcome b (record { answer = answering_said a; session = s; output = after })
 
   -- .. and what a chunk comes to with it
-  abbrev settled : CodeAnswering → Outcome
+  abbrev settled : Result CodeAnswered Refusal → Outcome
   settled a = settled_as (answering_said a) s after i b left
 
   -- .. by the call's outcome: it is accepted
@@ -88,26 +89,26 @@ module _ (b : Buffers) (i : Intake) (left : ℕ) (s : Session) (after : List ℕ
     output = o.output;
   }
 
-  settled_took : (a : CodeAnswering) (o : one_call.Outcome) → said a ≡ o → o.number ≡ 0 → settled a ≡ took o
-  settled_took (the.Response r k n) o e z = ap took e
-  settled_took (the.Refused q) o e z = absurd (eqb-false (number_of q) 0 (number_not_zero q) (ap (λ (o : one_call.Outcome). o.number) e ∙ z))
+  settled_took : (a : Result CodeAnswered Refusal) (o : one_call.Outcome) → said a ≡ o → o.number ≡ 0 → settled a ≡ took o
+  settled_took (Ok a) o e z = ap took e
+  settled_took (Err q) o e z = absurd (eqb-false (number_of q) 0 (number_not_zero q) (ap (λ (o : one_call.Outcome). o.number) e ∙ z))
 
   -- .. or it is refused
   abbrev declined : one_call.Outcome → Outcome
   declined o = record { number = o.number; count = 0; last = no_stanza; size = 0; intake = emptied o.session []; buffers = b; output = o.output }
 
-  settled_refused : (a : CodeAnswering) (o : one_call.Outcome) → said a ≡ o → (o.number ≡ 0 → ⊥) → (o.number ≡ 15 → ⊥) → settled a ≡ declined o
-  settled_refused (the.Response r k n) o e z f = absurd (z (sym (ap (λ (o : one_call.Outcome). o.number) e)))
-  settled_refused (the.Refused q) o e z f =
-      ap (λ d. pick d (untaken (number_of q) i b after) (declined (said (the.Refused q))))
+  settled_refused : (a : Result CodeAnswered Refusal) (o : one_call.Outcome) → said a ≡ o → (o.number ≡ 0 → ⊥) → (o.number ≡ 15 → ⊥) → settled a ≡ declined o
+  settled_refused (Ok a) o e z f = absurd (z (sym (ap (λ (o : one_call.Outcome). o.number) e)))
+  settled_refused (Err q) o e z f =
+      ap (λ d. pick d (untaken (number_of q) i b after) (declined (said (Err q))))
       (ne_eqb (number_of q) 15 (λ h. f (sym (ap (λ (o : one_call.Outcome). o.number) e) ∙ h)))
       ∙ ap declined e
 
-  settled_short : (a : CodeAnswering) (o : one_call.Outcome) → said a ≡ o → o.number ≡ 15 → settled a ≡ untaken 15 i b o.output
-  settled_short (the.Response r k n) o e z = let h : ◌≡◌ {A = ℕ} 0 15 = ap (λ (o : one_call.Outcome). o.number) e ∙ z in absurd (omega arith)
-  settled_short (the.Refused q) o e z =
+  settled_short : (a : Result CodeAnswered Refusal) (o : one_call.Outcome) → said a ≡ o → o.number ≡ 15 → settled a ≡ untaken 15 i b o.output
+  settled_short (Ok a) o e z = let h : ◌≡◌ {A = ℕ} 0 15 = ap (λ (o : one_call.Outcome). o.number) e ∙ z in absurd (omega arith)
+  settled_short (Err q) o e z =
       let h : number_of q ≡ 15 = ap (λ (o : one_call.Outcome). o.number) e ∙ z in
-      ap (λ d. pick d (untaken (number_of q) i b after) (declined (said (the.Refused q)))) (eq-eqb (number_of q) 15 h)
+      ap (λ d. pick d (untaken (number_of q) i b after) (declined (said (Err q)))) (eq-eqb (number_of q) 15 h)
       ∙ ap₂ (λ n y. untaken n i b y) h (ap (λ (o : one_call.Outcome). o.output) e)
 
 module _ (s : Session) (b : Buffers) (i : Intake) (bytes t rest out : List ℕ)

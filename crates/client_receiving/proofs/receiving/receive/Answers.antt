@@ -75,8 +75,8 @@ returns-in-Unfinished c = let a = c.args in
       name = c.keep_on-in-Unfinished.ensures.name;
     }
 
-pub returns-in-Err-front : goal.returns-in-Err-front
-returns-in-Err-front c = let a = c.args in
+pub returns-in-Refused : goal.returns-in-Refused
+returns-in-Refused c = let a = c.args in
     let x = a.chunk.now in
     let o = a.input.now in
     let xs = a.slots.now in
@@ -88,8 +88,8 @@ returns-in-Err-front c = let a = c.args in
     let g = c.read_one-one in
     let f = c.read_front-front in
     let same = subst (OneByteSays reads a.session.reading k x o g.new.input) c.in_default-one.is g.ensures in
-    let front = sym f.ensures.front ∙ ap continued_said c.in-Err-front.is in
-    let input = f.ensures.input ∙ ap (λ r. input_behind (continued_said r) k x g.new.input) c.in-Err-front.is in
+    let front = sym f.ensures.front ∙ ap continued_said c.in-Refused.is in
+    let input = f.ensures.input ∙ ap (λ r. input_behind (continued_said r) k x g.new.input) c.in-Refused.is in
     let i = f.new.input in
     let long : 8192 ≤ length o = omega (arith, c.read_one-arg-1.given) in
     let answered : (b : BuffersOne) → Answered client a.session x c.close.result xs hs o (i) (lent b a.errors.now a.stanzas.now a.returned.now) out = λ b. subst (λ i. Answered client a.session x c.close.result xs hs o i (lent b a.errors.now a.stanzas.now a.returned.now) out) (sym (input ∙ same)) (c.close.ensures.outcome client xs hs o x (lent b a.errors.now a.stanzas.now a.returned.now) out (ap (turn_at client) second) long front) in

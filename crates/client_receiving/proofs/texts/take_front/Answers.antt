@@ -21,7 +21,7 @@ go_on-done-requires c = let a = c.args in
     let h = sym c.read-first.ensures ∙ ap read_said c.in-Ok.is in
     let begun = c.begin-begun.ensures in
     let y = c.receive_stanza-step in
-    let w = front_fits a.session a.slots.now a.header_slots.now a.errors.now a.stanzas.now a.returned.now a.front.now a.text.now a.out.now pre.phase_value.0 c.in-Ok.s.line c.in-Ok.s.body c.in-Ok.s.taken h y.result y.new.slots y.new.errors y.new.stanzas y.new.returned y.new.out y.ensures.outcome pre.out_value _ _ _ (ap taking_said c.in-Ok.is) in
+    let w = front_fits a.session a.slots.now a.header_slots.now a.errors.now a.stanzas.now a.returned.now a.front.now a.text.now a.out.now pre.phase_value.0 c.in-Ok.s.line c.in-Ok.s.body c.in-Ok.s.taken h y.result y.new.slots y.new.errors y.new.stanzas y.new.returned y.new.out y.ensures.outcome pre.out_value _ _ _ (ap taking_said c.in-Ok-answer.is) in
     (omega (arith, ap (λ r. r.count) begun), omega (arith, w, ap (λ r. r.written) begun, c.well_formed))
 
 pub shape_of-errors-then-is_waiting : goal.shape_of-errors-then-is_waiting
@@ -42,14 +42,14 @@ returns-then-is_waiting c = let a = c.args in
     let g = c.go_on-done in
     let count : g.result.count ≡ 1 = omega (arith, ap (λ r. r.count) g.ensures, ap (λ r. r.count) begun) in
     let last = ap (λ r. r.last) g.ensures in
-    let written : g.result.written ≡ c.in-Ok.size = omega (arith, ap (λ r. r.written) g.ensures, ap (λ r. r.written) begun) in
+    let written : g.result.written ≡ c.in-Ok-answer.taken.written = omega (arith, ap (λ r. r.written) g.ensures, ap (λ r. r.written) begun) in
     let session = ap (λ r. r.session) g.ensures in
     let v = ap (λ s. is_waiting client s.phase) session ∙ sym c.is_waiting.ensures ∙ c.if-is_waiting.true in
     let r = c.settle in
     record {
       outcome = (λ b.
-          let may = front_settles a.session a.slots.now a.header_slots.now a.errors.now a.stanzas.now a.returned.now a.front.now a.text.now a.out.now pre.phase_value.0 c.in-Ok.s.line c.in-Ok.s.body c.in-Ok.s.taken h y.result y.new.slots y.new.errors y.new.stanzas y.new.returned y.new.out y.ensures.outcome pre.out_value _ _ _ (ap taking_said c.in-Ok.is) g.result count last written session b a.input.now v pre.phase_value.1 pre.phase_value.2 in
-          front_settled a.session a.slots.now a.header_slots.now a.errors.now a.stanzas.now a.returned.now a.front.now a.text.now a.out.now pre.phase_value.0 c.in-Ok.s.line c.in-Ok.s.body c.in-Ok.s.taken h y.result y.new.slots y.new.errors y.new.stanzas y.new.returned y.new.out y.ensures.outcome pre.out_value _ _ _ (ap taking_said c.in-Ok.is) g.result count last written session b r.result a.input.now r.new.input v
+          let may = front_settles a.session a.slots.now a.header_slots.now a.errors.now a.stanzas.now a.returned.now a.front.now a.text.now a.out.now pre.phase_value.0 c.in-Ok.s.line c.in-Ok.s.body c.in-Ok.s.taken h y.result y.new.slots y.new.errors y.new.stanzas y.new.returned y.new.out y.ensures.outcome pre.out_value _ _ _ (ap taking_said c.in-Ok-answer.is) g.result count last written session b a.input.now v pre.phase_value.1 pre.phase_value.2 in
+          front_settled a.session a.slots.now a.header_slots.now a.errors.now a.stanzas.now a.returned.now a.front.now a.text.now a.out.now pre.phase_value.0 c.in-Ok.s.line c.in-Ok.s.body c.in-Ok.s.taken h y.result y.new.slots y.new.errors y.new.stanzas y.new.returned y.new.out y.ensures.outcome pre.out_value _ _ _ (ap taking_said c.in-Ok-answer.is) g.result count last written session b r.result a.input.now r.new.input v
           (r.ensures.outcome client y.new.slots a.header_slots.now (take g.result.written y.new.out) (lent b y.new.errors y.new.stanzas y.new.returned) may) r.ensures.rest.0);
       name = r.ensures.rest.1 ∙ ap (λ s. s.name) session ∙ ap (λ s. s.name) y.ensures.carried;
     }
@@ -63,10 +63,10 @@ take_text-requires c = let a = c.args in
     let g = c.go_on-done in
     let count : g.result.count ≡ 1 = omega (arith, ap (λ r. r.count) g.ensures, ap (λ r. r.count) begun) in
     let last = ap (λ r. r.last) g.ensures in
-    let written : g.result.written ≡ c.in-Ok.size = omega (arith, ap (λ r. r.written) g.ensures, ap (λ r. r.written) begun) in
+    let written : g.result.written ≡ c.in-Ok-answer.taken.written = omega (arith, ap (λ r. r.written) g.ensures, ap (λ r. r.written) begun) in
     let session = ap (λ r. r.session) g.ensures in
     let v = ap (λ s. is_waiting client s.phase) session ∙ sym c.is_waiting.ensures ∙ c.if-is_waiting.false in
-    front_takes a.session a.slots.now a.header_slots.now a.errors.now a.stanzas.now a.returned.now a.front.now a.text.now a.out.now pre.phase_value.0 c.in-Ok.s.line c.in-Ok.s.body c.in-Ok.s.taken h y.result y.new.slots y.new.errors y.new.stanzas y.new.returned y.new.out y.ensures.outcome pre.out_value _ _ _ (ap taking_said c.in-Ok.is) g.result count last written session a.input.now v pre.phase_value.2
+    front_takes a.session a.slots.now a.header_slots.now a.errors.now a.stanzas.now a.returned.now a.front.now a.text.now a.out.now pre.phase_value.0 c.in-Ok.s.line c.in-Ok.s.body c.in-Ok.s.taken h y.result y.new.slots y.new.errors y.new.stanzas y.new.returned y.new.out y.ensures.outcome pre.out_value _ _ _ (ap taking_said c.in-Ok-answer.is) g.result count last written session a.input.now v pre.phase_value.2
 
 pub returns-in-Err : goal.returns-in-Err
 returns-in-Err c = let a = c.args in
@@ -111,11 +111,11 @@ returns-else-is_waiting c = let a = c.args in
     let g = c.go_on-done in
     let count : g.result.count ≡ 1 = omega (arith, ap (λ r. r.count) g.ensures, ap (λ r. r.count) begun) in
     let last = ap (λ r. r.last) g.ensures in
-    let written : g.result.written ≡ c.in-Ok.size = omega (arith, ap (λ r. r.written) g.ensures, ap (λ r. r.written) begun) in
+    let written : g.result.written ≡ c.in-Ok-answer.taken.written = omega (arith, ap (λ r. r.written) g.ensures, ap (λ r. r.written) begun) in
     let session = ap (λ r. r.session) g.ensures in
     let v = ap (λ s. is_waiting client s.phase) session ∙ sym c.is_waiting.ensures ∙ c.if-is_waiting.false in
     let r = c.take_text in
     record {
-      outcome = (λ b. front_taken a.session a.slots.now a.header_slots.now a.errors.now a.stanzas.now a.returned.now a.front.now a.text.now a.out.now pre.phase_value.0 c.in-Ok.s.line c.in-Ok.s.body c.in-Ok.s.taken h y.result y.new.slots y.new.errors y.new.stanzas y.new.returned y.new.out y.ensures.outcome pre.out_value _ _ _ (ap taking_said c.in-Ok.is) g.result count last written session b r.result r.new.slots a.input.now r.new.input r.new.errors r.new.stanzas r.new.returned r.new.out v (r.ensures.outcome b));
+      outcome = (λ b. front_taken a.session a.slots.now a.header_slots.now a.errors.now a.stanzas.now a.returned.now a.front.now a.text.now a.out.now pre.phase_value.0 c.in-Ok.s.line c.in-Ok.s.body c.in-Ok.s.taken h y.result y.new.slots y.new.errors y.new.stanzas y.new.returned y.new.out y.ensures.outcome pre.out_value _ _ _ (ap taking_said c.in-Ok-answer.is) g.result count last written session b r.result r.new.slots a.input.now r.new.input r.new.errors r.new.stanzas r.new.returned r.new.out v (r.ensures.outcome b));
       name = r.ensures.name ∙ ap (λ s. s.name) session ∙ ap (λ s. s.name) y.ensures.carried;
     }

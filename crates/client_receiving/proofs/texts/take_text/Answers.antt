@@ -90,7 +90,7 @@ go_on-done-requires c = let a = c.args in
     let h = sym (ap read_said c.in-Ok.is) ∙ c.next_stanza-first.ensures in
     let y = c.receive_stanza-step in
     let f = going_few a.so_far a.slots.now a.header_slots.now a.errors.now a.stanzas.now a.returned.now a.text.now a.out.now q.done q.slots q.errors q.stanzas q.returned q.out q.begun q.at q.invariant.1 held x.line x.body x.taken h y.result y.new.slots y.new.errors y.new.stanzas y.new.returned y.new.out y.ensures.outcome in
-    let w = going_fits a.so_far a.slots.now a.header_slots.now a.errors.now a.stanzas.now a.returned.now a.text.now a.out.now q.done q.slots q.errors q.stanzas q.returned q.out q.begun q.at q.invariant.1 held x.line x.body x.taken h y.result y.new.slots y.new.errors y.new.stanzas y.new.returned y.new.out y.ensures.outcome _ _ _ (ap taking_said c.in-Ok.is) in
+    let w = going_fits a.so_far a.slots.now a.header_slots.now a.errors.now a.stanzas.now a.returned.now a.text.now a.out.now q.done q.slots q.errors q.stanzas q.returned q.out q.begun q.at q.invariant.1 held x.line x.body x.taken h y.result y.new.slots y.new.errors y.new.stanzas y.new.returned y.new.out y.ensures.outcome _ _ _ (ap taking_said c.in-Ok-answer.is) in
     (omega (arith, f, c.well_formed), omega (arith, w, q.invariant.1.size, c.well_formed))
 
 pub overflow_add-at : goal.overflow_add-at
@@ -121,4 +121,4 @@ loop-turn-preserved c = let a = c.args in
     let h = sym (ap read_said c.in-Ok.is) ∙ c.next_stanza-first.ensures in
     let y = c.receive_stanza-step in
     let v = next_within (turn_at client q.done.session.phase) a.text.now q.at x.line x.body x.taken h q.invariant.1.within in
-    (q.invariant.0, going_on a.so_far a.slots.now a.header_slots.now a.errors.now a.stanzas.now a.returned.now a.text.now a.out.now q.done q.slots q.errors q.stanzas q.returned q.out q.begun q.at q.invariant.1 held x.line x.body x.taken h y.result y.new.slots y.new.errors y.new.stanzas y.new.returned y.new.out y.ensures.outcome _ _ _ c.go_on-done.result (ap taking_said c.in-Ok.is) c.go_on-done.ensures y.ensures.carried y.auto.errors y.auto.stanzas y.auto.returned v)
+    (q.invariant.0, going_on a.so_far a.slots.now a.header_slots.now a.errors.now a.stanzas.now a.returned.now a.text.now a.out.now q.done q.slots q.errors q.stanzas q.returned q.out q.begun q.at q.invariant.1 held x.line x.body x.taken h y.result y.new.slots y.new.errors y.new.stanzas y.new.returned y.new.out y.ensures.outcome _ _ _ c.go_on-done.result (ap taking_said c.in-Ok-answer.is) c.go_on-done.ensures y.ensures.carried y.auto.errors y.auto.stanzas y.auto.returned v)

@@ -44,7 +44,7 @@ returns-then-left-size c = λ aw b long.
     let y = c.try_stanza-step.result in
     let h = sym (ap read_said c.in-Ok.is) ∙ c.next_stanza-first.ensures in
     let tried = c.try_stanza-step.ensures.outcome z.buffers.second z.long in
-    turn_short (session_of q.so_far q.slots hs) z.buffers z.awaited a.text.now q.at x.line x.body x.taken (taking_said y.answer) (session_of y.session c.try_stanza-step.new.slots hs) q.left h tried _ _ _ (ap taking_said c.in-Ok.is) c.if-left-size.true ∙ sym z.same
+    turn_short (session_of q.so_far q.slots hs) z.buffers z.awaited a.text.now q.at x.line x.body x.taken (taking_said y.answer) (session_of y.session c.try_stanza-step.new.slots hs) q.left h tried _ _ _ (ap taking_said c.in-Ok-answer.is) c.if-left-size.true ∙ sym z.same
 
 pub overflow_add-at : goal.overflow_add-at
 overflow_add-at c = let a = c.args in
@@ -80,6 +80,6 @@ loop-s-preserved c = let a = c.args in
             awaited = _;
             buffers = on_turn s z.buffers z.awaited a.text.now q.at x.line x.body x.taken (taking_said y.answer) after q.left h tried;
             long = turn_long s z.buffers z.awaited a.text.now q.at x.line x.body x.taken (taking_said y.answer) after q.left h tried a.errors a.stanzas a.returned z.long;
-            same = z.same ∙ turn_on s z.buffers z.awaited a.text.now q.at x.line x.body x.taken (taking_said y.answer) after q.left h tried _ _ _ (ap taking_said c.in-Ok.is) (search rules);
+            same = z.same ∙ turn_on s z.buffers z.awaited a.text.now q.at x.line x.body x.taken (taking_said y.answer) after q.left h tried _ _ _ (ap taking_said c.in-Ok-answer.is) (search rules);
           },
     )

@@ -20,7 +20,7 @@ returns-then-room-size c = λ b long two.
     let tried = c.try_stanza-step.ensures.outcome b.second long in
     let turn = ap (turn_at client) (turn_second a.session.phase two) in
     let after = session_of y.session c.try_stanza-step.new.slots hs in
-    ahead_short_room s b a.front.now a.text.now x.line x.body x.taken (taking_said y.answer) after a.room turn h tried _ _ _ (ap taking_said c.in-Ok.is) c.if-room-size.true
+    ahead_short_room s b a.front.now a.text.now x.line x.body x.taken (taking_said y.answer) after a.room turn h tried _ _ _ (ap taking_said c.in-Ok-answer.is) c.if-room-size.true
 
 pub returns-in-Err : goal.returns-in-Err
 returns-in-Err c = λ b long two.
@@ -53,4 +53,4 @@ returns-else-room-size c = λ b long two.
     let turn = ap (turn_at client) (turn_second a.session.phase two) in
     let after = session_of y.session c.try_stanza-step.new.slots hs in
     c.fits.ensures (awaited_behind client after.phase a.front.now) (ahead_buffers s b a.front.now a.text.now x.line x.body x.taken (taking_said y.answer) after a.room turn h tried) (ahead_long s b a.front.now a.text.now x.line x.body x.taken (taking_said y.answer) after a.room turn h tried a.errors a.stanzas a.returned long)
-    ∙ ahead_on_room s b a.front.now a.text.now x.line x.body x.taken (taking_said y.answer) after a.room turn h tried _ _ _ (ap taking_said c.in-Ok.is) (search rules)
+    ∙ ahead_on_room s b a.front.now a.text.now x.line x.body x.taken (taking_said y.answer) after a.room turn h tried _ _ _ (ap taking_said c.in-Ok-answer.is) (search rules)

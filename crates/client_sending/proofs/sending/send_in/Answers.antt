@@ -52,10 +52,10 @@ returns-in-Ok c = let a = c.args in
     let t = tables_in s.tables a.slots.now a.header_slots.now in
     let b = buffers_of a.recipients.now a.identities.now a.keys.now a.headers.now in
     let p = c.put_line-put.ensures in
-    let d = composed_line l a.store.now _ y (said c.put_line-put.result) p.answer p.buffer c.in-Ok.n c.in-Ok.size (sym (ap composed_said c.in-Ok.is) ∙ c.compose-composed.ensures) in
+    let d = composed_line l a.store.now _ y (said c.put_line-put.result) p.answer p.buffer c.in-Ok.composed.line c.in-Ok.composed.stanza (sym (ap composed_said c.in-Ok.is) ∙ c.compose-composed.ensures) in
     let line = c.front-line.result.now in
     let same : line ≡ l = c.front-line.ensures ∙ d.0 in
-    let w = size_bytes line y o c.in-Ok.size (d.1 ∙ ap (λ x. sized x y) (sym same)) in
+    let w = size_bytes line y o c.in-Ok.composed.stanza (d.1 ∙ ap (λ x. sized x y) (sym same)) in
     let g = c.front.result.now in
     let e = c.step_one-step.ensures in
     record {

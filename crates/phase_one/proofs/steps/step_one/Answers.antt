@@ -101,16 +101,16 @@ returns-in-Other c = let a = c.args in
       buffers = (step_other a.machine a.plugin.now t b (verdict_said a.late) a.line.now y (ap (command_said a.plugin.now a.line.now (length y)) (sym c.in-Other.is) ∙ e)).1.1;
     }
 
-pub returns-in-Err : goal.returns-in-Err
-returns-in-Err c = let a = c.args in
+pub returns-in-Refused : goal.returns-in-Refused
+returns-in-Refused c = let a = c.args in
     let y = body_from a.coding a.source.now in
     let t = tables_in a.tables a.slots.now a.header_slots.now in
     let b = buffers_of a.recipients.now a.identities.now a.keys.now a.headers.now in
     let e = rw c.body_size-n.ensures.0 at (c.parse_one-command.ensures a.plugin.now) in
-    let k = ap (command_said a.plugin.now a.line.now (length y)) (sym c.in-Err.is) ∙ e in
+    let k = ap (command_said a.plugin.now a.line.now (length y)) (sym c.in-Refused.is) ∙ e in
     record {
       command = k;
-      number = (step_bad a.machine a.plugin.now t b (verdict_said a.late) a.line.now y _ k (number_not_zero c.in-Err.r)).0;
-      tables = (step_bad a.machine a.plugin.now t b (verdict_said a.late) a.line.now y _ k (number_not_zero c.in-Err.r)).1.0;
-      buffers = (step_bad a.machine a.plugin.now t b (verdict_said a.late) a.line.now y _ k (number_not_zero c.in-Err.r)).1.1;
+      number = (step_bad a.machine a.plugin.now t b (verdict_said a.late) a.line.now y _ k (number_not_zero c.in-Refused.r)).0;
+      tables = (step_bad a.machine a.plugin.now t b (verdict_said a.late) a.line.now y _ k (number_not_zero c.in-Refused.r)).1.0;
+      buffers = (step_bad a.machine a.plugin.now t b (verdict_said a.late) a.line.now y _ k (number_not_zero c.in-Refused.r)).1.1;
     }

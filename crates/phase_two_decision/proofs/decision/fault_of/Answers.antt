@@ -1,8 +1,8 @@
 -- Only a command that was read wrong has a fault.
 use Rattle.phase_two_decision.proofs.decision.fault_of.Goals as goal
 
-pub returns-in-Err : goal.returns-in-Err
-returns-in-Err c = rw c.in-Err.is
+pub returns-in-Refused : goal.returns-in-Refused
+returns-in-Refused c = rw c.in-Refused.is
 
 pub returns-in-Stanza : goal.returns-in-Stanza
 returns-in-Stanza c = rw c.in-Stanza.is

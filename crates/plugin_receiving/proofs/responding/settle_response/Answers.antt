@@ -11,9 +11,9 @@ returns-then-number-eq15 c = record {
   name = c.leave.ensures.name;
 }
 
-pub returns-in-Response : goal.returns-in-Response
-returns-in-Response c = record {
-  outcome = λ xs hs input b out. rw (c.keeping-emptied.ensures, c.in-Response.is, c.none_behind.ensures);
+pub returns-in-Ok : goal.returns-in-Ok
+returns-in-Ok c = record {
+  outcome = λ xs hs input b out. rw (c.keeping-emptied.ensures, c.in-Ok.is, c.none_behind.ensures);
   name = ap (λ s. s.name) c.keeping-emptied.ensures ∙ c.requires;
 }
 

@@ -39,10 +39,10 @@ returns-in-Ok c = let a = c.args in
     let y = a.body.now in
     let o = a.out.now in
     let put = c.put_line_two-put.ensures in
-    let z = composed_line l a.store.now _ y _ put.answer put.buffer c.in-Ok.n c.in-Ok.size (sym (ap composed_said c.in-Ok.is) ∙ c.compose-composed.ensures) in
+    let z = composed_line l a.store.now _ y _ put.answer put.buffer c.in-Ok.composed.line c.in-Ok.composed.stanza (sym (ap composed_said c.in-Ok.is) ∙ c.compose-composed.ensures) in
     let f = c.front-line.result.now in
     let e : f ≡ l = c.front-line.ensures ∙ z.0 in
-    let w = size_bytes f y o c.in-Ok.size (z.1 ∙ ap (λ x. sized x y) (sym e)) in
+    let w = size_bytes f y o c.in-Ok.composed.stanza (z.1 ∙ ap (λ x. sized x y) (sym e)) in
     let step = c.step_two-step in
     let hs = a.header_slots.now in
     record {
