@@ -5,10 +5,10 @@ use Rattle.identity_file.specs.Files.{keys_given, faults_given}
 use Rattle.exports.specs.Results.{number_in, length_or, count_or}
 use Rattle.exports.proofs.flugremio_identity_file.Goals as goal
 
-pub returns-in-Bytes : goal.returns-in-Bytes
-returns-in-Bytes c = let r = c.read-reading.ensures in
+pub returns-in-Ok : goal.returns-in-Ok
+returns-in-Ok c = let r = c.read-reading.ensures in
     let a = c.args in
-    let told = sym r.answer ∙ ap said c.in-Bytes.is in
+    let told = sym r.answer ∙ ap said c.in-Ok.is in
     record {
       number = sym (ap number_in told);
       keys = r.keys ∙ sym (ap (count_or a.keys.now (keys_given a.text.now a.out.now)) told);
@@ -18,10 +18,10 @@ returns-in-Bytes c = let r = c.read-reading.ensures in
       length = sym (ap (length_or a.length.now) told);
     }
 
-pub returns-in-Refused : goal.returns-in-Refused
-returns-in-Refused c = let r = c.read-reading.ensures in
+pub returns-in-Err : goal.returns-in-Err
+returns-in-Err c = let r = c.read-reading.ensures in
     let a = c.args in
-    let told = sym r.answer ∙ ap said c.in-Refused.is in
+    let told = sym r.answer ∙ ap said c.in-Err.is in
     record {
       number = c.number.ensures ∙ sym (ap number_in told);
       keys = sym (ap (count_or a.keys.now (keys_given a.text.now a.out.now)) told);

@@ -2,14 +2,14 @@
 use mathlib.Core.Path.{refl}
 use Rattle.exports.proofs.flugremio_index.Goals as goal
 
-pub returns-in-Number : goal.returns-in-Number
-returns-in-Number c = record {
-  number = rw (← c.read_index-i.ensures, c.in-Number.is) refl;
-  value = rw (← c.read_index-i.ensures, c.in-Number.is) refl;
+pub returns-in-Ok : goal.returns-in-Ok
+returns-in-Ok c = record {
+  number = rw (← c.read_index-i.ensures, c.in-Ok.is) refl;
+  value = rw (← c.read_index-i.ensures, c.in-Ok.is) refl;
 }
 
-pub returns-in-Refused : goal.returns-in-Refused
-returns-in-Refused c = record {
-  number = rw (← c.read_index-i.ensures, c.in-Refused.is) c.number.ensures;
-  value = rw (← c.read_index-i.ensures, c.in-Refused.is) refl;
+pub returns-in-Err : goal.returns-in-Err
+returns-in-Err c = record {
+  number = rw (← c.read_index-i.ensures, c.in-Err.is) c.number.ensures;
+  value = rw (← c.read_index-i.ensures, c.in-Err.is) refl;
 }

@@ -2,18 +2,18 @@
 use mathlib.Core.Path.{refl}
 use Rattle.exports.proofs.flugremio_read.Goals as goal
 
-pub returns-in-Stanza : goal.returns-in-Stanza
-returns-in-Stanza c = record {
-  number = rw (← c.read-first.ensures, c.in-Stanza.is) refl;
-  line = rw (← c.read-first.ensures, c.in-Stanza.is) refl;
-  body = rw (← c.read-first.ensures, c.in-Stanza.is) refl;
-  taken = rw (← c.read-first.ensures, c.in-Stanza.is) refl;
+pub returns-in-Ok : goal.returns-in-Ok
+returns-in-Ok c = record {
+  number = rw (← c.read-first.ensures, c.in-Ok.is) refl;
+  line = rw (← c.read-first.ensures, c.in-Ok.is) refl;
+  body = rw (← c.read-first.ensures, c.in-Ok.is) refl;
+  taken = rw (← c.read-first.ensures, c.in-Ok.is) refl;
 }
 
-pub returns-in-Refused : goal.returns-in-Refused
-returns-in-Refused c = record {
-  number = rw (← c.read-first.ensures, c.in-Refused.is) c.number.ensures;
-  line = rw (← c.read-first.ensures, c.in-Refused.is) refl;
-  body = rw (← c.read-first.ensures, c.in-Refused.is) refl;
-  taken = rw (← c.read-first.ensures, c.in-Refused.is) refl;
+pub returns-in-Err : goal.returns-in-Err
+returns-in-Err c = record {
+  number = rw (← c.read-first.ensures, c.in-Err.is) c.number.ensures;
+  line = rw (← c.read-first.ensures, c.in-Err.is) refl;
+  body = rw (← c.read-first.ensures, c.in-Err.is) refl;
+  taken = rw (← c.read-first.ensures, c.in-Err.is) refl;
 }

@@ -8,13 +8,13 @@ use Rattle.script.proofs.unescaping.unescape.Goals as goal
 pub returns-then-out-n : goal.returns-then-out-n
 returns-then-out-n c = let whole = let word = c.args.word.now in
     let out = c.args.out.now in
-    answered_short (unescaped word) out c.in-Ok.n (sym (ap size_said c.in-Ok.is) ∙ c.measure-m.ensures) (omega arith) in
+    answered_short (unescaped word) out c.in-Bytes.n (sym (ap size_said c.in-Bytes.is) ∙ c.measure-m.ensures) (omega arith) in
     record { answer = whole.0; buffer = whole.1 }
 
 pub unescape_into-requires : goal.unescape_into-requires
 unescape_into-requires c = let word = c.args.word.now in
     let out = c.args.out.now in
-    (answered_whole (unescaped word) out c.in-Ok.n (sym (ap size_said c.in-Ok.is) ∙ c.measure-m.ensures) (omega arith)).1
+    (answered_whole (unescaped word) out c.in-Bytes.n (sym (ap size_said c.in-Bytes.is) ∙ c.measure-m.ensures) (omega arith)).1
 
 pub returns-in-Bad : goal.returns-in-Bad
 returns-in-Bad c = let whole = let word = c.args.word.now in
@@ -26,6 +26,6 @@ pub returns-else-out-n : goal.returns-else-out-n
 returns-else-out-n c = let word = c.args.word.now in
     let out = c.args.out.now in
     record {
-      answer = (answered_whole (unescaped word) out c.in-Ok.n (sym (ap size_said c.in-Ok.is) ∙ c.measure-m.ensures) (omega arith)).0;
+      answer = (answered_whole (unescaped word) out c.in-Bytes.n (sym (ap size_said c.in-Bytes.is) ∙ c.measure-m.ensures) (omega arith)).0;
       buffer = c.unescape_into.ensures;
     }
