@@ -84,17 +84,11 @@ pub(crate) fn folds() -> [u32; 32]
     FOLDS
 }
 
-fn wide(b: u8) -> usize
-    ensures { result ≡ b }
-{
-    b as usize
-}
-
 // The value of a byte, by the table.
 pub(crate) fn look_up(table: &[u8; 256], b: u8) -> u8
     ensures { result ≡ value_in table.now b }
 {
-    table[wide(b)]
+    table[usize::from(b)]
 }
 
 // Whether all bytes are characters, by the table.
@@ -108,34 +102,26 @@ pub fn are_characters(table: &[u8; 256], text: &[u8]) -> bool
 pub fn character_run(table: &[u8; 256], text: &[u8]) -> usize
     ensures { result ≡ run (λ v. ltb v 32) (map (value_in table.now) text.now) }
 {
-    let mut i: usize = 0;
-    while i < text.len() {
-        if SYMBOLS <= look_up(table, text[i]) {
-            return i;
-        }
-        i += 1;
-    }
-    i
+    text.iter()
+        .take_while(|b| look_up(table, **b) < SYMBOLS)
+        .count()
 }
 
 pub fn is_upper(b: u8) -> bool
     ensures { result ≡ is_upper b }
 {
-    (b'A' <= b) & (b <= b'Z')
+    b.is_ascii_uppercase()
 }
 
 pub fn is_lower(b: u8) -> bool
     ensures { result ≡ is_lower b }
 {
-    (b'a' <= b) & (b <= b'z')
+    b.is_ascii_lowercase()
 }
 
 // A byte in lower case.
 pub fn lowered(b: u8) -> u8
     ensures { result ≡ lower b }
 {
-    if is_upper(b) {
-        return b + CASE;
-    }
-    b
+    b.to_ascii_lowercase()
 }
