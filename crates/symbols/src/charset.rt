@@ -3,13 +3,13 @@ ghost use Rattle.std.specs.Prelude.{◌≡◌, map, ltb};
 ghost use Rattle.refusal.specs.Run.{run};
 ghost use Rattle.symbols.specs.Charset.{is_upper, is_lower, lower};
 ghost use Rattle.symbols.specs.Checksum.{are_symbols};
-ghost use Rattle.symbols.specs.Steps.{Values, Folds, value_in};
+ghost use Rattle.symbols.specs.Steps.{Values, value_in};
 
 // What the five top bits of the checksum's state fold in, the lowest bit first.
 const CONSTANTS: [u32; 5] = [0x3b6a57b2, 0x26508e6d, 0x1ea119fa, 0x3d4233dd, 0x2a1462b3];
 
 // What each number of five bits folds in: the exclusive or of the constants that its bits choose.
-const FOLDS: [u32; 32] = [
+pub(crate) static FOLDS: [u32; 32] = [
     0,
     CONSTANTS[0],
     CONSTANTS[1],
@@ -75,13 +75,6 @@ pub fn values() -> [u8; 256]
     ensures { Values result }
 {
     VALUES
-}
-
-// The table of folds by value: a pass over symbols copies it once and lends it to each step.
-pub(crate) fn folds() -> [u32; 32]
-    ensures { Folds result }
-{
-    FOLDS
 }
 
 // The value of a byte, by the table.

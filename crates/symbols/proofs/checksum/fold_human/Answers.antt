@@ -16,6 +16,6 @@ unfolding polymod
 returns c = let l = c.args.human.now in
     let h = map lower l in
     let high : c.fold-high.result ≡ fold (λ s b. stepped s (lower b / 32)) 1 l = search rules in
-    let low : c.fold.result ≡ fold (λ s b. stepped s (b % 32)) c.step-from.result l = search rules in
-    rw (low, polymod_fold (λ b. b % 32) l c.step-from.result, c.step-from.ensures, high, polymod_fold (λ b. lower b / 32) l 1, ← map_map (λ b. b / 32) lower l, ← low_bits l)
+    let low : c.fold.result ≡ fold (λ s b. stepped s (b % 32)) c.step.result l = search rules in
+    rw (low, polymod_fold (λ b. b % 32) l c.step.result, c.step.ensures, high, polymod_fold (λ b. lower b / 32) l 1, ← map_map (λ b. b / 32) lower l, ← low_bits l)
     (sym (polymod_append (map (λ b. b / 32) h) (0 ∷ map (λ b. b % 32) h) 1))
