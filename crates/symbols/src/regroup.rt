@@ -18,33 +18,17 @@ pub fn bytes_length(n: usize) -> usize
 fn is_clear(left: usize, last: u8) -> bool
     ensures { result ≡ is_clear left last }
 {
-    if left == 0 {
-        return true;
-    }
-    if left == 1 {
-        return last % 2 == 0;
-    }
-    if left == 2 {
-        return last % 4 == 0;
-    }
-    if left == 3 {
-        return last % 8 == 0;
-    }
-    if left == 4 {
-        return last % 16 == 0;
-    }
-    false
+    left < 5 && last % (1 << left) == 0
 }
 
 // Whether the symbols of some characters, by the table, are whole bytes.
 pub fn is_whole(table: &[u8; 256], text: &[u8]) -> bool
     ensures { result ≡ is_whole (map (value_in table.now) text.now) }
 {
-    let n = text.len();
-    if n == 0 {
+    let Some(b) = text.last() else {
         return true;
-    }
-    is_clear(n % 8 * 5 % 8, look_up(table, text[n - 1]))
+    };
+    is_clear(text.len() % 8 * 5 % 8, look_up(table, *b))
 }
 
 // The symbol of the character at i.
@@ -112,24 +96,16 @@ fn decode_into(table: &[u8; 256], text: &[u8], out: &mut [u8])
         bytes (map (symbol_in table.now) text.now) ++ drop (length (bytes (map (symbol_in table.now) text.now)))
         out.old }
 {
-    let n = text.len() / 8;
-    let mut i: usize = 0;
-    while i < n {
-        let a = 8 * i;
-        let e = a + 8;
-        let b = 5 * i;
-        decode_group(table, &text[a..e], &mut out[b..]);
-        i += 1;
+    let (groups, rest) = text.as_chunks::<8>();
+    for (i, group) in groups.iter().enumerate() {
+        decode_group(table, group, &mut out[5 * i..]);
     }
-    let a = 8 * n;
-    let b = 5 * n;
-    decode_rest(table, &text[a..], &mut out[b..]);
+    decode_rest(table, rest, &mut out[5 * groups.len()..]);
 }
 
 // The same for eight characters.
-fn decode_group(table: &[u8; 256], text: &[u8], out: &mut [u8])
-    requires text_len { length text.now ≡ 8 }
-    requires in_bounds { 5 ≤ length out.old }
+fn decode_group(table: &[u8; 256], text: &[u8; 8], out: &mut [u8])
+    requires { 5 ≤ length out.old }
     ensures { out.new ≡ bytes (map (symbol_in table.now) text.now) ++ drop 5 out.old }
 {
     let p = symbol(table, text, 0);
@@ -196,31 +172,19 @@ fn symbols_into(payload: &[u8], out: &mut [u8])
     requires { symbols_size (length payload.now) ≤ length out.old }
     ensures { out.new ≡ symbols payload.now ++ drop (length (symbols payload.now)) out.old }
 {
-    let n = payload.len() / 5;
-    let mut i: usize = 0;
-    while i < n {
-        let a = 5 * i;
-        let e = a + 5;
-        let b = 8 * i;
-        symbols_group(&payload[a..e], &mut out[b..]);
-        i += 1;
+    let (groups, rest) = payload.as_chunks::<5>();
+    for (i, group) in groups.iter().enumerate() {
+        symbols_group(group, &mut out[8 * i..]);
     }
-    let a = 5 * n;
-    let b = 8 * n;
-    symbols_rest(&payload[a..], &mut out[b..]);
+    symbols_rest(rest, &mut out[8 * groups.len()..]);
 }
 
 // The same for five bytes.
-fn symbols_group(payload: &[u8], out: &mut [u8])
-    requires payload_len { length payload.now ≡ 5 }
-    requires in_bounds { 8 ≤ length out.old }
+fn symbols_group(payload: &[u8; 5], out: &mut [u8])
+    requires { 8 ≤ length out.old }
     ensures { out.new ≡ symbols payload.now ++ drop 8 out.old }
 {
-    let a = payload[0];
-    let b = payload[1];
-    let c = payload[2];
-    let d = payload[3];
-    let e = payload[4];
+    let [a, b, c, d, e] = *payload;
     out[0] = a / 8;
     out[1] = a % 8 * 4 + b / 64;
     out[2] = b / 2 % 32;
