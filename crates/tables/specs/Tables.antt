@@ -1,5 +1,5 @@
 -- The tables (document 01, "Phase one": "Each kind has its own numbering from 0 and its own lent room", there called places and rooms).
-use Rattle.std.specs.Prelude.{ℕ, ◌+◌, ◌<◌, ◌≤◌, ◌≡◌, ◌⊎◌, ◌↔◌, Bool, ◌&&◌, List, [], ◌++◌, map, ltb, leb, length, take, drop, set, get_or, replicate}
+use Rattle.std.specs.Prelude.{ℕ, ◌+◌, ◌<◌, ◌≤◌, ◌≡◌, ◌⊎◌, ◌↔◌, Bool, ◌&&◌, List, [], ◌++◌, map, ltb, leb, length, take, drop, set, get_or, replicate, Option, Some, None}
 use Rattle.refusal.specs.Pick.{pick}
 use Rattle.refusal.specs.Verdict.{first_of}
 use Rattle.tables.specs.declared.slots.Entry.{Entry}
@@ -92,6 +92,10 @@ found t n = pick (ltb n t.count && ltb n t.width) (entry (get_or t.slots n empty
 -- `n` bytes of the buffer from `start` on, none where it is too short for them
 abbrev pub part_of : ℕ → ℕ → List ℕ → List ℕ
 part_of start n buffer = pick (leb (start + n) (length buffer)) (take n (drop start buffer)) []
+
+-- the same, or nothing
+abbrev pub part_in : ℕ → ℕ → List ℕ → Option (List ℕ)
+part_in start n buffer = pick (leb (start + n) (length buffer)) (Some (take n (drop start buffer))) None
 
 -- the entry's payload as a part of the buffer
 abbrev pub shown : Found → List ℕ → List ℕ
