@@ -3,13 +3,13 @@
 ghost use Rattle.std.specs.Prelude.{◌≡◌, true, ◌&&◌, ◌∷◌, ◌++◌, ◌+◌, ltb, leb, eqb, length, map, take, option_copied};
 ghost use Rattle.refusal.specs.Pick.{pick};
 ghost use Rattle.refusal.specs.Verdict.{verdict_said};
-ghost use Rattle.tables.specs.Bodies.{body_from};
+ghost use Rattle.tables.specs.Bodies.{body_from, payload_from};
 ghost use Rattle.tables.specs.Slots.{are_apart, entry_of, slots_of};
 ghost use Rattle.tables.specs.declared.slots.Span.{Span as AnySpan};
 ghost use Rattle.tables.specs.Repeats.{shows, repeats};
 ghost use Rattle.tables.specs.Tables.{table_in, storing, entered, kept, found_said, found, shown, part_in};
 
-use crate::copying::{Coding, body_size, put_body, put_lines};
+use crate::copying::{Coding, payload_size, put_payload};
 use crate::slots::{Entry, Span, entry_at, put_entry, slots_in};
 use refusal::{Refusal, Verdict};
 
@@ -38,13 +38,7 @@ pub struct Stored {
 fn has_space(count: usize, width: usize, used: usize, n: usize, capacity: usize) -> bool
     ensures { result ≡ (ltb count width && leb (used + n) capacity) }
 {
-    if width <= count {
-        return false;
-    }
-    if capacity < used {
-        return false;
-    }
-    n <= capacity - used
+    count < width && used <= capacity && n <= capacity - used
 }
 
 impl Table {
@@ -135,6 +129,47 @@ impl Table {
     }
 
     // One entry more with its payload behind the others in the buffer. 8 where it does not fit, then the late fault: nothing changes then.
+    fn keep(
+        self,
+        span: Span,
+        late: Verdict,
+        line: Option<&[u8]>,
+        coding: Coding,
+        source: &[u8],
+        index: usize,
+        mark: usize,
+        slots: &mut [[usize; 4]],
+        buffer: &mut [u8],
+    ) -> Stored
+        ensures number { verdict_said result.verdict ≡
+            storing (table_in span self slots.old) (length (payload_from (option_copied line.entry) coding source.now))
+            (length buffer.old) (verdict_said late) }
+        ensures table { table_in span result.table slots.new ≡
+            pick (eqb (storing (table_in span self slots.old) (length (payload_from (option_copied line.entry) coding source.now))
+            (length buffer.old) (verdict_said late)) 0)
+            (entered (table_in span self slots.old) (length (payload_from (option_copied line.entry) coding source.now)) index mark
+            (length buffer.old)) (table_in span self slots.old) }
+        ensures others { (k : AnySpan) → are_apart span k ≡ true → slots_of k slots.new ≡ slots_of k slots.old }
+        ensures buffer { buffer.new ≡
+            pick (eqb (storing (table_in span self slots.old) (length (payload_from (option_copied line.entry) coding source.now))
+            (length buffer.old) (verdict_said late)) 0)
+            (kept (table_in span self slots.old) (payload_from (option_copied line.entry) coding source.now) buffer.old)
+            buffer.old }
+    {
+        let used = self.used;
+        let n = payload_size(line, coding, source);
+        let stored = self.enter(span, late, n, index, mark, buffer.len(), slots);
+        let verdict = stored.verdict;
+        match verdict {
+            Verdict::Refused(_) => stored,
+            Verdict::Accepted => {
+                put_payload(line, coding, source, &mut buffer[used..]);
+                stored
+            }
+        }
+    }
+
+    // One entry more, its payload a body.
     pub fn store(
         self,
         span: Span,
@@ -158,20 +193,12 @@ impl Table {
             (verdict_said late)) 0) (kept (table_in span self slots.old) (body_from coding source.now) buffer.old)
             buffer.old }
     {
-        let used = self.used;
-        let n = body_size(coding, source);
-        let stored = self.enter(span, late, n, index, mark, buffer.len(), slots);
-        let verdict = stored.verdict;
-        match verdict {
-            Verdict::Refused(_) => stored,
-            Verdict::Accepted => {
-                put_body(coding, source, &mut buffer[used..]);
-                stored
-            }
-        }
+        self.keep(
+            span, late, None, coding, source, index, mark, slots, buffer,
+        )
     }
 
-    // The same for a payload of a line, an LF and a body.
+    // One entry more, its payload a line, an LF and a body.
     pub fn store_lines(
         self,
         span: Span,
@@ -199,17 +226,17 @@ impl Table {
             (kept (table_in span self slots.old) (line.now ++ 10 ∷ body_from coding source.now) buffer.old)
             buffer.old }
     {
-        let used = self.used;
-        let n = line.len() + 1 + body_size(coding, source);
-        let stored = self.enter(span, late, n, index, mark, buffer.len(), slots);
-        let verdict = stored.verdict;
-        match verdict {
-            Verdict::Refused(_) => stored,
-            Verdict::Accepted => {
-                put_lines(line, coding, source, &mut buffer[used..]);
-                stored
-            }
-        }
+        self.keep(
+            span,
+            late,
+            Some(line),
+            coding,
+            source,
+            index,
+            mark,
+            slots,
+            buffer,
+        )
     }
 }
 
