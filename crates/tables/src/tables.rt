@@ -193,9 +193,7 @@ impl Table {
             (verdict_said late)) 0) (kept (table_in span self slots.old) (body_from coding source.now) buffer.old)
             buffer.old }
     {
-        self.keep(
-            span, late, None, coding, source, index, mark, slots, buffer,
-        )
+        self.keep(span, late, None, coding, source, index, mark, slots, buffer)
     }
 
     // One entry more, its payload a line, an LF and a body.

@@ -8,7 +8,7 @@ use lib.Dec.{eqb, leb}
 use lib.ListN.{length, take, drop, get_or, length-take, length-drop}
 use lib.Seq.{get_or-take, length-take-le}
 use native.Mathlib.Omega.{arith}
-use borrow.Author.Tests.{eq-eqb, le-leb, lt-leb, leb-true}
+use borrow.Author.Tests.{eq-eqb, le-leb, leb-true}
 use Rattle.std.specs.List.{list_any}
 use Rattle.std.proofs.Common.{nat_eq, Option, Some, None, Bor, option_copied, slice_get}
 use Rattle.std.specs.Option.{option_eq}
@@ -38,9 +38,6 @@ part_length start n buffer h = simp (length-take, length-drop) (omega arith)
 module _ (e : Entry) (buffer text : List ℕ) where
   pub shows_held : e.start + e.length ≤ length buffer → shows e buffer text ≡ same (take e.length (drop e.start buffer)) text
   shows_held h = rw (le-leb (e.start + e.length) (length buffer) h)
-
-  pub shows_short : length buffer < e.start + e.length → shows e buffer text ≡ false
-  shows_short h = rw (lt-leb (e.start + e.length) (length buffer) h)
 
   pub shows_other : (e.length ≡ length text → ⊥) → shows e buffer text ≡ false
   shows_other n =
