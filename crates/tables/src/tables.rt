@@ -238,7 +238,8 @@ impl Table {
     }
 }
 
-// Whether an entry shows a text. The last byte is compared first: recipients have their front in common, and differ in the checksum.
+// Whether an entry shows a text. The last byte is compared first, since recipients have their front in common and differ in the checksum: `==` alone took more
+// than twice the instructions.
 fn is_showing(e: Entry, text: &[u8], buffer: &[u8]) -> bool
     ensures { result ≡ shows e buffer.now text.now }
 {
