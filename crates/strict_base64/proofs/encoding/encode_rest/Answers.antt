@@ -14,7 +14,7 @@ pub bounds-out-1 : goal.bounds-out-1
 bounds-out-1 c = simp length-set (omega arith)
 
 pub returns-then-n-eq1 : goal.returns-then-n-eq1
-returns-then-n-eq1 c = rw (encoded_one c.args.bytes.now c.if-n-eq1.true, ← c.first.ensures, ← (rw add-zero at c.second.ensures)) (sets-eq (_ ∷ _ ∷ []) c.args.out.now 0 (omega arith))
+returns-then-n-eq1 c = rw (encoded_one c.args.bytes.now c.if-n-eq1.true, ← c.character.ensures, ← c.character-then-n-eq1.ensures) (sets-eq (_ ∷ _ ∷ []) c.args.out.now 0 (omega arith))
 
 pub bounds-out-1-2 : goal.bounds-out-1-2
 bounds-out-1-2 c = simp length-set (omega arith)
@@ -23,4 +23,4 @@ pub bounds-out-2 : goal.bounds-out-2
 bounds-out-2 c = simp length-set (omega arith)
 
 pub returns : goal.returns
-returns c = rw (encoded_two c.args.bytes.now (omega arith), ← c.first.ensures, ← c.second-2.ensures, ← (rw add-zero at c.third.ensures)) (sets-eq (_ ∷ _ ∷ _ ∷ []) c.args.out.now 0 (omega arith))
+returns c = rw (encoded_two c.args.bytes.now (omega arith), ← c.character.ensures, ← c.character-2.ensures, ← c.character-3.ensures) (sets-eq (_ ∷ _ ∷ _ ∷ []) c.args.out.now 0 (omega arith))

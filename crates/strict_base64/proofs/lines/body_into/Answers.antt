@@ -20,13 +20,10 @@ pub returns-then-n-eq0 : goal.returns-then-n-eq0
 returns-then-n-eq0 c = rw (empty c.args.lines.now c.if-n-eq0.true)
 
 pub loop-i-init : goal.loop-i-init
-loop-i-init c = (search rules, refl, refl)
+loop-i-init c = (refl, refl)
 
 pub decode_into-requires : goal.decode_into-requires
-decode_into-requires c = record {
-  values = c.requires.values;
-  text_in_bounds = body_fits c.args.lines.now c.loop-i.out c.loop-i.i (omega arith) (omega (arith, c.requires.lines_in_bounds));
-}
+decode_into-requires c = body_fits c.args.lines.now c.loop-i.out c.loop-i.i (omega arith) (omega (arith, c.requires))
 
 pub loop-i-smaller : goal.loop-i-smaller
 loop-i-smaller c = omega (arith, c.loop-i-test.true)
@@ -35,18 +32,14 @@ pub loop-i-preserved : goal.loop-i-preserved
 loop-i-preserved c = let l = c.args.lines.now in
     let out = c.loop-i.out in
     let i = c.loop-i.i in (
-      search rules,
-      same_len_mid (48 * i) (length out - 48 * i) out c.decode_into.new.out c.decode_into.auto.out ∙ c.loop-i.invariant.1,
-      body_turn l out c.args.out.now c.decode_into.new.out i (omega arith) c.loop-i.invariant.2 c.decode_into.ensures,
+      same_len_mid (48 * i) (length out - 48 * i) out c.decode_into.new.out c.decode_into.auto.out ∙ c.loop-i.invariant.0,
+      body_turn l out c.args.out.now c.decode_into.new.out i (omega arith) c.loop-i.invariant.1 c.decode_into.ensures,
     )
 
 pub decode_into-requires-2 : goal.decode_into-requires-2
-decode_into-requires-2 c = record {
-  values = c.requires.values;
-  text_in_bounds = body_fits_last c.args.lines.now c.loop-i.out ((length c.args.lines.now - 1) / 65) (omega arith) (omega arith) (omega (arith, c.requires.lines_in_bounds));
-}
+decode_into-requires-2 c = body_fits_last c.args.lines.now c.loop-i.out ((length c.args.lines.now - 1) / 65) (omega arith) (omega arith) (omega (arith, c.requires))
 
 pub returns : goal.returns
 returns c = let l = c.args.lines.now in
     let n : c.loop-i.i ≡ (length l - 1) / 65 = omega arith in
-    body_end l c.loop-i.out c.args.out.now c.decode_into-2.new.out ((length l - 1) / 65) (omega arith) (omega arith) (rw n at c.loop-i.invariant.2) c.decode_into-2.ensures
+    body_end l c.loop-i.out c.args.out.now c.decode_into-2.new.out ((length l - 1) / 65) (omega arith) (omega arith) (rw n at c.loop-i.invariant.1) c.decode_into-2.ensures

@@ -12,10 +12,7 @@ returns-then-out-n c = record {
 }
 
 pub lines_into-requires : goal.lines_into-requires
-lines_into-requires c = record {
-  characters = c.alphabet_characters-table.ensures;
-  body_in_bounds = omega (arith, c.lines_length-n.ensures, lines_length c.args.body.now);
-}
+lines_into-requires c = omega (arith, c.lines_length-n.ensures, lines_length c.args.body.now)
 
 pub returns : goal.returns
 returns c = record {
