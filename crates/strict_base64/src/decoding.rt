@@ -26,9 +26,16 @@ pub fn measure(text: &[u8]) -> Size
         return Size::NotBase64;
     }
     if ends_well(n, text[n - 1]) {
-        return Size::Bytes(n / 4 * 3 + n % 4 * 3 / 4);
+        return Size::Bytes(decoded_length(n));
     }
     Size::NotBase64
+}
+
+// How many bytes n characters make.
+pub(crate) fn decoded_length(n: usize) -> usize
+    ensures { result ≡ decoded_size n }
+{
+    n / 4 * 3 + n % 4 * 3 / 4
 }
 
 // The bytes of a text at the front of `out`: how many, or 15 and nothing written. Of a text that is no base64 it makes what the definition says.
@@ -36,7 +43,7 @@ pub fn decode(text: &[u8], out: &mut [u8]) -> Written
     ensures answer { said result ≡ answered (decoded text.now) out.old }
     ensures buffer { out.new ≡ filled (decoded text.now) out.old }
 {
-    let n = text.len() / 4 * 3 + text.len() % 4 * 3 / 4;
+    let n = decoded_length(text.len());
     if out.len() < n {
         return Written::Refused(Refusal::ShortOutput);
     }

@@ -5,7 +5,7 @@ ghost use Rattle.strict_base64.specs.Tables.{body_size, encoded_size};
 ghost use Rattle.refusal.specs.Output.{said, answered, filled};
 
 use crate::alphabet::is_character;
-use crate::decoding::decode_into;
+use crate::decoding::{decode_into, decoded_length};
 use crate::encoding::{encode_into, encoded_length};
 use crate::runs::are_all;
 use refusal::{Refusal, Written};
@@ -42,8 +42,7 @@ pub fn body_length(n: usize) -> usize
         return 0;
     }
     let m = n - 1;
-    let c = m - m / LINE_LENGTH;
-    c / 4 * 3 + c % 4 * 3 / 4
+    decoded_length(m - m / LINE_LENGTH)
 }
 
 // The body of some lines at the front of `out`: how many bytes, or 15 and nothing written.

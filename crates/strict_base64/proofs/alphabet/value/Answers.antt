@@ -1,5 +1,5 @@
 -- The table is the definition tabulated at the 256 bytes, and every value is below 64.
-use Rattle.std.proofs.Common.{◌≡◌, ◌<◌, sym, subst, rules, arith}
+use Rattle.std.proofs.Common.{arith}
 use Rattle.refusal.proofs.Laws.Below.{tabulated_at}
 use Rattle.strict_base64.specs.Alphabet.{value_of}
 use Rattle.strict_base64.proofs.Laws.Alphabet.{value_lt}

@@ -1,5 +1,5 @@
 -- Invariant: the first i groups' characters stand at the front of `out`, 4 of each, and behind them `out` is as it was.
-use Prim.Native.Nat.{◌-◌, ◌*◌, ◌≤◌}
+use Prim.Native.Nat.{◌*◌}
 use mathlib.Core.Path.{◌≡◌}
 use mathlib.Core.List.{◌++◌}
 use lib.ListN.{length, take, drop}

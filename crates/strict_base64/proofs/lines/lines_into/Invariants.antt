@@ -1,5 +1,5 @@
 -- Invariant: the first i lines stand at the front of `out`, 65 bytes each, and behind them `out` is as it was.
-use Prim.Native.Nat.{◌-◌, ◌*◌, ◌≤◌}
+use Prim.Native.Nat.{◌*◌}
 use mathlib.Core.Path.{◌≡◌}
 use mathlib.Core.List.{◌++◌}
 use lib.ListN.{length, take, drop}

@@ -1,11 +1,8 @@
 -- Eight bytes of the class take the run on by eight, and behind the last such eight it ends at the first byte outside the class.
-use Rattle.std.proofs.Common.{◌≡◌, ◌∙◌, ◌+◌, ◌-◌, ◌<◌, ◌≤◌, ℕ, Bool, true, false, drop, take, length, List, ◌++◌, refl, sym, ap, arith, rules, length-append, length-drop}
-use Rattle.std.specs.Slice.Iter.{chunks_exact_size, chunks_exact_rest}
-use borrow.Author.Tests.{not-true, not-false}
+use Rattle.std.proofs.Common.{◌≡◌, ◌∙◌, ◌+◌, ◌-◌, ◌<◌, ◌≤◌, ℕ, drop, take, length, List, ◌++◌, sym, ap, arith, length-append, length-drop}
+use Rattle.std.specs.Slice.Iter.{chunks_exact_rest}
 use lib.ListN.{get_or}
 use lib.Seq.{drop-drop, take_at, drop_at, get_or-drop}
-use native.Mathlib.Nat.{add-zero}
-use Rattle.refusal.specs.Run.{all, run}
 use Rattle.refusal.proofs.Laws.Lists.{part_rest}
 use Rattle.refusal.proofs.Laws.Run.{run_more, run_end, run_in, run_out}
 use Rattle.strict_base64.proofs.runs.run_end.Goals as goal
@@ -23,26 +20,16 @@ at t i k = rw (part_rest i t) (get_or-drop i t k 0)
 pub returns-then-text-from : goal.returns-then-text-from
 returns-then-text-from g c = λ class h. sym (run_end class c.args.text.now c.args.from (omega arith))
 
-pub loop-eight-init : goal.loop-eight-init
-loop-eight-init g c =
-    let e = c.into_iter-eight-iterator.ensures.into_iter_gives in
-    (c.if-text-from.false, rw e c.chunks_exact-eight-items.ensures.size, rw (e, c.chunks_exact-eight-items.ensures.rest) (part_rest c.args.from c.args.text.now), λ class h. refl)
-
-pub overflow_add-end : goal.overflow_add-end
-overflow_add-end g c =
-    let s = c.in-Some.ensures.steps in
-    let w = chunk c.args.text.now c.loop-eight.end c.in-Some.eight.now (chunks_exact_rest c.next.new.self) c.loop-eight.invariant.0 (sym c.loop-eight.invariant.2 ∙ s.1.0) (s.1.1 ∙ c.loop-eight.invariant.1) in
-    omega (arith, w.0)
-
 pub loop-eight-preserved : goal.loop-eight-preserved
 loop-eight-preserved g c =
     let s = c.in-Some.ensures.steps in
-    let w = chunk c.args.text.now c.loop-eight.end c.in-Some.eight.now (chunks_exact_rest c.next.new.self) c.loop-eight.invariant.0 (sym c.loop-eight.invariant.2 ∙ s.1.0) (s.1.1 ∙ c.loop-eight.invariant.1) in
-    (w.0, s.0 ∙ c.loop-eight.invariant.1, w.2, λ class h.
-      c.loop-eight.invariant.3 class h ∙ run_more class 8 c.args.text.now c.loop-eight.end w.0 (rw (← w.1) (sym (c.are_all.ensures class h) ∙ c.if-not-are_all.false)))
-
-pub loop-k-init : goal.loop-k-init
-loop-k-init g c = λ class h. rw add-zero (c.loop-eight.invariant.3 class h)
+    let w = chunk c.args.text.now c.loop-eight.end c.in-Some.eight.now (chunks_exact_rest c.next.new.self) c.loop-eight.invariant.0 (sym c.loop-eight.invariant.2 ∙ s.1.0) (s.1.1 ∙ c.loop-eight.invariant.1) in (
+      w.0,
+      s.0 ∙ c.loop-eight.invariant.1,
+      w.2,
+      λ class h.
+          c.loop-eight.invariant.3 class h ∙ run_more class 8 c.args.text.now c.loop-eight.end w.0 (rw (← w.1) (sym (c.are_all.ensures class h) ∙ c.if-not-are_all.false)),
+    )
 
 pub returns-then-not-is_in : goal.returns-then-not-is_in
 returns-then-not-is_in g c = λ class h.
