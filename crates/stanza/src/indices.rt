@@ -19,20 +19,14 @@ fn read_digits(text: &[u8]) -> Index
     ensures { index_said result ≡ digits 0 text.now }
 {
     let mut v: u64 = 0;
-    let mut i: usize = 0;
-    while i < text.len() {
-        let b = text[i];
-        if b < b'0' {
+    for &b in text {
+        if !b.is_ascii_digit() {
             return Index::Refused(Refusal::BadIndex);
         }
-        if b'9' < b {
-            return Index::Refused(Refusal::BadIndex);
-        }
-        v = v * 10 + wide(b - b'0');
+        v = v * 10 + u64::from(b - b'0');
         if LARGEST < v {
             return Index::Refused(Refusal::BadIndex);
         }
-        i += 1;
     }
     Index::Number(v as u32)
 }
@@ -51,10 +45,4 @@ pub fn read_index(text: &[u8]) -> Index
         return Index::Refused(Refusal::BadIndex);
     }
     read_digits(text)
-}
-
-fn wide(b: u8) -> u64
-    ensures { result ≡ b }
-{
-    b as u64
 }

@@ -1,13 +1,17 @@
 -- The window is all that the definition looks at; in it the first line decides, then the body.
-use mathlib.Core.Path.{sym, ◌∙◌}
+use Prim.Native.Nat.{min}
+use mathlib.Core.Path.{◌≡◌, sym, ◌∙◌}
+use lib.ListN.{length}
 use lib.Seq.{length-take-le}
 use native.Mathlib.Omega.{arith}
+use borrow.Author.Rules.{rules}
 use Rattle.stanza.specs.Reading.{found}
 use Rattle.stanza.proofs.Laws.Reading.{window_is, short_is, found_window}
 use Rattle.stanza.proofs.reading.read.Goals as goal
 
 pub slice_bounds-w-end : goal.slice_bounds-w-end
-slice_bounds-w-end c = sym (length-take-le _ c.args.text.now (omega (arith, c.window-n.ensures)))
+slice_bounds-w-end c = let w : c.min-n.result ≡ min 8192 (length c.args.text.now) = search rules in
+    sym (length-take-le _ c.args.text.now (omega (arith, w)))
 
 pub read_body-requires : goal.read_body-requires
 read_body-requires c = let whole = rw c.in-Ends.is at c.first_line-l.ensures.ends_at in
@@ -15,11 +19,14 @@ read_body-requires c = let whole = rw c.in-Ends.is at c.first_line-l.ensures.end
 
 pub returns-in-Bad : goal.returns-in-Bad
 unfolding found
-returns-in-Bad c = rw (window_is c.args.text.now c.window-n.result c.window-n.ensures, c.first_line-l.ensures.text_value, c.in-Bad.is)
+returns-in-Bad c = let w : c.min-n.result ≡ min 8192 (length c.args.text.now) = search rules in
+    rw (window_is c.args.text.now c.min-n.result w, c.first_line-l.ensures.text_value, c.in-Bad.is)
 
 pub returns-in-Short : goal.returns-in-Short
 unfolding found
-returns-in-Short c = rw (window_is c.args.text.now c.window-n.result c.window-n.ensures, c.first_line-l.ensures.text_value, c.in-Short.is, c.unfinished.ensures) (short_is c.args.text.now c.window-n.result c.window-n.ensures)
+returns-in-Short c = let w : c.min-n.result ≡ min 8192 (length c.args.text.now) = search rules in
+    rw (window_is c.args.text.now c.min-n.result w, c.first_line-l.ensures.text_value, c.in-Short.is, c.unfinished.ensures) (short_is c.args.text.now c.min-n.result w)
 
 pub returns-in-Ends : goal.returns-in-Ends
-returns-in-Ends c = rw (window_is c.args.text.now c.window-n.result c.window-n.ensures, rw c.in-Ends.is at c.first_line-l.ensures.text_value) (c.read_body.ensures ∙ found_window c.args.text.now c.window-n.result c.window-n.ensures _)
+returns-in-Ends c = let w : c.min-n.result ≡ min 8192 (length c.args.text.now) = search rules in
+    rw (window_is c.args.text.now c.min-n.result w, rw c.in-Ends.is at c.first_line-l.ensures.text_value) (c.read_body.ensures ∙ found_window c.args.text.now c.min-n.result w _)
