@@ -1,5 +1,5 @@
 // Reading the first stanza of a text: one pass over at most 8,192 bytes, by runs of bytes of one class. Nothing is copied.
-ghost use Rattle.std.specs.Prelude.{◌≡◌, ℕ, List, false, ◌+◌, ◌<◌, ◌≤◌, min, ltb, length, drop};
+ghost use Rattle.std.specs.Prelude.{◌≡◌, ℕ, List, false, ◌+◌, ◌<◌, ◌≤◌, ltb, length, drop};
 ghost use Rattle.refusal.specs.Number.{number_of};
 ghost use Rattle.refusal.specs.Pick.{pick};
 ghost use Rattle.strict_base64.specs.Lines.{is_full};
@@ -31,7 +31,7 @@ enum Fault {
 pub fn read(text: &[u8]) -> Result<Stanza, Refusal>
     ensures { read_said result ≡ read_first text.now }
 {
-    let n = window(text.len());
+    let n = text.len().min(LONGEST);
     let w = &text[..n];
     let l = first_line(w);
     match l {
@@ -58,13 +58,6 @@ fn read_body(w: &[u8], e: usize) -> Result<Stanza, Refusal>
             })
         }
     }
-}
-
-// How much of a text of n bytes is looked at.
-fn window(n: usize) -> usize
-    ensures { result ≡ min 8192 n }
-{
-    if LONGEST < n { LONGEST } else { n }
 }
 
 // What a part without an end makes of a window of n bytes.

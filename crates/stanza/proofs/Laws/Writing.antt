@@ -24,16 +24,13 @@ first_length l = simp length-append (omega arith)
 pub text_length : (l b : List ℕ) → length (stanza_text l b) ≡ length l + 4 + length (lines_of b)
 text_length l b = length-append (first_line l) (lines_of b) ∙ rw (first_length l)
 
--- "-> ", the arguments copied to the part behind it, and LF
-pub line_done : (l o₀ part : List ℕ) → length l + 4 ≤ length o₀ →
-    part ≡ l ++ drop (length l) (take (length (set (set (set o₀ 0 45) 1 62) 2 32) - 3) (drop 3 (set (set (set o₀ 0 45) 1 62) 2 32))) →
-    set (take 3 (set (set (set o₀ 0 45) 1 62) 2 32) ++ (part ++ drop (length (set (set (set o₀ 0 45) 1 62) 2 32) - 3) (drop 3 (set (set (set o₀ 0 45) 1 62) 2 32)))) (length l + 3) 10 ≡
-    first_line l ++ drop (length l + 4) o₀
-line_done l o₀ part h p =
-    let o : List ℕ = set (set (set o₀ 0 45) 1 62) 2 32 in
+-- the arguments, copied to the part behind "-> ", and LF
+pub line_done : (l o₀ o part : List ℕ) → length l + 4 ≤ length o₀ → o ≡ (45 ∷ 62 ∷ 32 ∷ []) ++ drop 3 o₀ →
+    part ≡ l ++ drop (length l) (take (length o - 3) (drop 3 o)) →
+    set (take 3 o ++ (part ++ drop (length o - 3) (drop 3 o))) (length l + 3) 10 ≡ first_line l ++ drop (length l + 4) o₀
+line_done l o₀ o part h e p =
     let w : List ℕ = first_line l in
     let n = first_length l in
-    let e : o ≡ take 3 w ++ drop 3 o₀ = sets-eq (45 ∷ 62 ∷ 32 ∷ []) o₀ 0 (omega arith) in
     let f : take 3 o ++ (part ++ drop (length o - 3) (drop 3 o)) ≡ take (3 + length l) w ++ drop (3 + length l) o₀ =
     put_rest 3 o part ∙ rw (p, part_rest 3 o) (front_part w o o₀ l (10 ∷ []) 3 e refl (omega arith)) in
     let k : length l + 3 ≡ 3 + length l = omega arith in

@@ -5,8 +5,5 @@ use lib.ListN.{length, drop}
 use Rattle.stanza.specs.Index.{digits}
 use Rattle.stanza.proofs.indices.read_digits.Given as goal
 
-abbrev pub invariant-loop-i : goal.invariant-loop-i
-invariant-loop-i l = (l.i ≤ length l.text) × (l.v ≤ 4294967295) × (digits 0 l.text ≡ digits l.v (drop l.i l.text))
-
-abbrev pub decreases-loop-i : goal.decreases-loop-i
-decreases-loop-i l = length l.text - l.i
+abbrev pub invariant-loop-b : goal.invariant-loop-b
+invariant-loop-b l = (l.v ≤ 4294967295) × (digits 0 l.text ≡ digits l.v (drop l.b-index l.text))

@@ -6,7 +6,4 @@ use Rattle.stanza.specs.Resuming.{place_said, behind, continued}
 use Rattle.stanza.proofs.places.read_on.Given as goal
 
 abbrev pub invariant-loop-i : goal.invariant-loop-i
-invariant-loop-i l = (l.i ≤ l.n) × (continued (place_said l.initial.at) l.kept l.bytes ≡ behind l.i (continued (place_said l.at) (l.kept + l.i) (drop l.i l.bytes)))
-
-abbrev pub decreases-loop-i : goal.decreases-loop-i
-decreases-loop-i l = l.n - l.i
+invariant-loop-i l = continued (place_said l.initial.at) l.kept l.bytes ≡ behind l.i (continued (place_said l.at) (l.kept + l.i) (drop l.i l.bytes))
