@@ -116,9 +116,7 @@ fn translate(kind: TextKind, table: &[u8; 32], out: &mut [u8])
     requires out_value { are_symbols out.old ≡ true }
     ensures { out.new ≡ in_case (form_of kind) (map character_of out.old) }
 {
-    let mut i: usize = 0;
-    while i < out.len() {
-        out[i] = character(kind, table, out[i]);
-        i += 1;
+    for v in out {
+        *v = character(kind, table, *v);
     }
 }
