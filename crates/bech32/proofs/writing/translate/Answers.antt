@@ -1,7 +1,8 @@
 -- Invariant: the symbols so far are translated, and the others stand as they were.
+use Prim.Native.Nat.{◌<◌}
 use mathlib.Core.Path.{◌≡◌, refl, ap, ap₂, ◌∙◌}
 use mathlib.Core.List.{◌++◌, map}
-use lib.ListN.{length, length-map, drop_of_length-le}
+use lib.ListN.{length, get_or, length-map, drop_of_length-le}
 use native.Mathlib.Omega.{arith}
 use lib.Seq.{take_all}
 use mathlib.Core.List.{append-nil}
@@ -18,17 +19,19 @@ use Rattle.bech32.proofs.writing.translate.Goals as goal
 pub loop-v-init : goal.loop-v-init
 loop-v-init c = refl
 
-pub character-requires : goal.character-requires
-character-requires c = let out₀ = c.args.out.now in
+pub bounds-table-from : goal.bounds-table-from
+bounds-table-from c = let out₀ = c.args.out.now in
     let k = form_of c.args.kind in
     let e = front_next (in_case k (map character_of out₀)) c.loop-v.v-items out₀ c.loop-v.v-index c.loop-v.invariant (omega (arith, case_length k (map character_of out₀), length-map out₀ character_of)) in
-    record {
-      characters = c.requires.characters;
-      v_bound = rw e (symbol_at (λ v. v) out₀ c.loop-v.v-index (ap are_symbols (map_id out₀) ∙ c.requires.out_value) (omega arith));
-    }
+    let b : get_or c.loop-v.v-items c.loop-v.v-index 0 < 32 = rw e (symbol_at (λ v. v) out₀ c.loop-v.v-index (ap are_symbols (map_id out₀) ∙ c.requires) (omega arith)) in
+    omega (arith, c.from.ensures)
 
 pub loop-v-preserved : goal.loop-v-preserved
-loop-v-preserved c = (translated (form_of c.args.kind) c.loop-v.v-items c.args.out.now c.loop-v.v-index c.character.result c.loop-v.invariant (omega arith) c.character.ensures)
+loop-v-preserved c = let out₀ = c.args.out.now in
+    let k = form_of c.args.kind in
+    let e = front_next (in_case k (map character_of out₀)) c.loop-v.v-items out₀ c.loop-v.v-index c.loop-v.invariant (omega (arith, case_length k (map character_of out₀), length-map out₀ character_of)) in
+    let b : get_or c.loop-v.v-items c.loop-v.v-index 0 < 32 = rw e (symbol_at (λ v. v) out₀ c.loop-v.v-index (ap are_symbols (map_id out₀) ∙ c.requires) (omega arith)) in
+    translated k c.loop-v.v-items out₀ c.loop-v.v-index _ c.loop-v.invariant (omega arith) (rw c.from.ensures (c.characters-table.ensures (get_or c.loop-v.v-items c.loop-v.v-index 0) b))
 
 pub returns : goal.returns
 returns c = let out₀ = c.args.out.now in
