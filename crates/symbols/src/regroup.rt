@@ -123,7 +123,7 @@ fn decode_group(table: &[u8; 256], text: &[u8; 8], out: &mut [u8])
     out[4] = fifth(v, w);
 }
 
-// The same for fewer than eight.
+// The same for fewer than eight: the first bytes of a group that they begin.
 fn decode_rest(table: &[u8; 256], text: &[u8], out: &mut [u8])
     requires text_len_bound { length text.now < 8 }
     requires text_in_bounds { bytes_size (length text.now) ≤ length out.old }
@@ -131,30 +131,12 @@ fn decode_rest(table: &[u8; 256], text: &[u8], out: &mut [u8])
         bytes (map (symbol_in table.now) text.now) ++ drop (length (bytes (map (symbol_in table.now) text.now)))
         out.old }
 {
-    let n = text.len();
-    if n < 2 {
-        return;
-    }
-    let p = symbol(table, text, 0);
-    let q = symbol(table, text, 1);
-    out[0] = first(p, q);
-    if n < 4 {
-        return;
-    }
-    let r = symbol(table, text, 2);
-    let s = symbol(table, text, 3);
-    out[1] = second(q, r, s);
-    if n < 5 {
-        return;
-    }
-    let t = symbol(table, text, 4);
-    out[2] = third(s, t);
-    if n < 7 {
-        return;
-    }
-    let u = symbol(table, text, 5);
-    let v = symbol(table, text, 6);
-    out[3] = fourth(t, u, v);
+    let mut group = [0; 8];
+    group[..text.len()].copy_from_slice(text);
+    let mut whole = [0; 5];
+    decode_group(table, &group, &mut whole);
+    let n = bytes_length(text.len());
+    out[..n].copy_from_slice(&whole[..n]);
 }
 
 // The symbols of some bytes at the front of `out`; nothing where it is too short.
@@ -195,37 +177,16 @@ fn symbols_group(payload: &[u8; 5], out: &mut [u8])
     out[7] = e % 32;
 }
 
-// The same for fewer than five.
+// The same for fewer than five: the first symbols of a group that they begin, zeros behind them.
 fn symbols_rest(payload: &[u8], out: &mut [u8])
     requires payload_len_bound { length payload.now < 5 }
     requires payload_in_bounds { symbols_size (length payload.now) ≤ length out.old }
     ensures { out.new ≡ symbols payload.now ++ drop (length (symbols payload.now)) out.old }
 {
-    let n = payload.len();
-    if n == 0 {
-        return;
-    }
-    let a = payload[0];
-    out[0] = a / 8;
-    if n == 1 {
-        out[1] = a % 8 * 4;
-        return;
-    }
-    let b = payload[1];
-    out[1] = a % 8 * 4 + b / 64;
-    out[2] = b / 2 % 32;
-    if n == 2 {
-        out[3] = b % 2 * 16;
-        return;
-    }
-    let c = payload[2];
-    out[3] = b % 2 * 16 + c / 16;
-    if n == 3 {
-        out[4] = c % 16 * 2;
-        return;
-    }
-    let d = payload[3];
-    out[4] = c % 16 * 2 + d / 128;
-    out[5] = d / 4 % 32;
-    out[6] = d % 4 * 8;
+    let mut group = [0; 5];
+    group[..payload.len()].copy_from_slice(payload);
+    let mut whole = [0; 8];
+    symbols_group(&group, &mut whole);
+    let n = (payload.len() * 8 + 4) / 5;
+    out[..n].copy_from_slice(&whole[..n]);
 }
