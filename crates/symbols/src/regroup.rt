@@ -40,45 +40,6 @@ fn symbol(table: &[u8; 256], text: &[u8], i: usize) -> u8
     look_up(table, text[i]) % 32
 }
 
-// The five bytes of eight symbols, by the symbols whose bits they have.
-fn first(p: u8, q: u8) -> u8
-    requires p_bound { p < 32 }
-    requires q_bound { q < 32 }
-    ensures { result ≡ p * 8 + q / 4 }
-{
-    p * 8 + q / 4
-}
-
-fn second(q: u8, r: u8, s: u8) -> u8
-    requires r_bound { r < 32 }
-    requires s_bound { s < 32 }
-    ensures { result ≡ q % 4 * 64 + r * 2 + s / 16 }
-{
-    q % 4 * 64 + r * 2 + s / 16
-}
-
-fn third(s: u8, t: u8) -> u8
-    requires { t < 32 }
-    ensures { result ≡ s % 16 * 16 + t / 2 }
-{
-    s % 16 * 16 + t / 2
-}
-
-fn fourth(t: u8, u: u8, v: u8) -> u8
-    requires u_bound { u < 32 }
-    requires v_bound { v < 32 }
-    ensures { result ≡ t % 2 * 128 + u * 4 + v / 8 }
-{
-    t % 2 * 128 + u * 4 + v / 8
-}
-
-fn fifth(v: u8, w: u8) -> u8
-    requires { w < 32 }
-    ensures { result ≡ v % 8 * 32 + w }
-{
-    v % 8 * 32 + w
-}
-
 // The bytes of some characters, by the table, at the front of `out`; nothing where it is too short.
 pub fn decode(table: &[u8; 256], text: &[u8], out: &mut [u8])
     ensures { out.new ≡ filled (bytes (map (symbol_in table.now) text.now)) out.old }
@@ -116,11 +77,11 @@ fn decode_group(table: &[u8; 256], text: &[u8; 8], out: &mut [u8])
     let u = symbol(table, text, 5);
     let v = symbol(table, text, 6);
     let w = symbol(table, text, 7);
-    out[0] = first(p, q);
-    out[1] = second(q, r, s);
-    out[2] = third(s, t);
-    out[3] = fourth(t, u, v);
-    out[4] = fifth(v, w);
+    out[0] = p * 8 + q / 4;
+    out[1] = q % 4 * 64 + r * 2 + s / 16;
+    out[2] = s % 16 * 16 + t / 2;
+    out[3] = t % 2 * 128 + u * 4 + v / 8;
+    out[4] = v % 8 * 32 + w;
 }
 
 // The same for fewer than eight: the first bytes of a group that they begin.
