@@ -52,9 +52,6 @@ pub const CAPITALS: [u8; 32] = *b"QPZRY9X8GF2TVDW0S3JN54KHCE6MUA7L";
 // How many symbols there are: a value of so much is none.
 pub(crate) const SYMBOLS: u8 = 32;
 
-// How far a letter in lower case stands over its capital.
-pub const CASE: u8 = b'a' - b'A';
-
 // The value of each byte, a letter's in either case; 32 for one outside the alphabet.
 const VALUES: [u8; 256] = [
     32, 32, 32, 32, 32, 32, 32, 32, 32, 32, 32, 32, 32, 32, 32, 32, 32, 32, 32, 32, 32, 32, 32, 32,

@@ -3,9 +3,9 @@ use Prim.Native.Nat.{ℕ, zero, suc, ◌+◌, ◌-◌, ◌*◌, ◌/◌, ◌%◌
 use mathlib.Core.Path.{◌≡◌, refl, sym, ap, ap₂, ◌∙◌}
 use mathlib.Core.Bool.{true}
 use mathlib.Core.List.{List, [], ◌∷◌, ◌++◌, map, map-append}
-use lib.ListN.{length, take, drop, get_or, length-map, length-take, length-drop, drop_of_length-le}
+use lib.ListN.{length, replicate, take, drop, get_or, length-map, length-take, length-drop, drop_of_length-le}
 use lib.Seq.{drop-cons, drop-drop, take-add, take_all, length-take-le}
-use native.Mathlib.Nat.{add-mul-mod_self_left}
+use native.Mathlib.Nat.{add-zero, add-mul-mod_self_left}
 use native.Mathlib.Decide.{dec_le}
 use native.Mathlib.Omega.{arith}
 use Rattle.std.specs.Simd.{first_chunks}
@@ -73,6 +73,29 @@ symbols_append n (a ∷ b ∷ c ∷ []) t h = absurd (omega arith)
 symbols_append n (a ∷ b ∷ c ∷ d ∷ []) t h = absurd (omega arith)
 symbols_append n (a ∷ b ∷ c ∷ d ∷ e ∷ s) t h = rw (symbols_append (n - 1) s t (omega arith))
 
+-- the bytes of fewer than eight symbols are the first of a group that they begin, and the symbols of fewer than five bytes those of one with zeros behind
+pub bytes_front : (f : ℕ → ℕ) (t : List ℕ) → length t < 8 →
+    take (bytes_size (length t)) (bytes (map f (t ++ drop (length t) (replicate 8 0)))) ≡ bytes (map f t)
+unfolding bytes
+bytes_front f [] h = refl
+bytes_front f (p ∷ []) h = refl
+bytes_front f (p ∷ q ∷ []) h = refl
+bytes_front f (p ∷ q ∷ r ∷ []) h = refl
+bytes_front f (p ∷ q ∷ r ∷ s ∷ []) h = refl
+bytes_front f (p ∷ q ∷ r ∷ s ∷ t ∷ []) h = refl
+bytes_front f (p ∷ q ∷ r ∷ s ∷ t ∷ u ∷ []) h = refl
+bytes_front f (p ∷ q ∷ r ∷ s ∷ t ∷ u ∷ v ∷ []) h = refl
+bytes_front f (p ∷ q ∷ r ∷ s ∷ t ∷ u ∷ v ∷ w ∷ l) h = absurd (omega arith)
+
+pub symbols_front : (t : List ℕ) → length t < 5 → take (symbols_size (length t)) (symbols (t ++ drop (length t) (replicate 5 0))) ≡ symbols t
+unfolding symbols
+symbols_front [] h = refl
+symbols_front (a ∷ []) h = rw add-zero
+symbols_front (a ∷ b ∷ []) h = rw add-zero
+symbols_front (a ∷ b ∷ c ∷ []) h = rw add-zero
+symbols_front (a ∷ b ∷ c ∷ d ∷ []) h = rw add-zero
+symbols_front (a ∷ b ∷ c ∷ d ∷ e ∷ t) h = absurd (omega arith)
+
 -- the group at i of a list that is cut into groups of g
 pub group_at : (g k i : ℕ) (t d : List ℕ) → i < k → get_or (first_chunks g k t) i d ≡ take g (drop (g * i) t)
 group_at g zero i t d h = absurd (omega arith)
@@ -110,41 +133,7 @@ module _ (f : ℕ → ℕ) where
       let e : length t * 5 % 8 ≡ length t % 8 * 5 % 8 = ap (λ n. n % 8) s ∙ add-mul-mod_self_left (length t % 8 * 5) 8 (length t / 8 * 5) in
       rw (length-map t f, map_at f t (length t - 1) (omega arith), e)
 
-  -- the bytes of fewer than two characters, of two or three, of four, of five or six, of seven, of eight
-  pub bytes_none : (t : List ℕ) → length t < 2 → bytes (map f t) ≡ []
-  unfolding bytes
-  bytes_none [] h = refl
-  bytes_none (a ∷ []) h = refl
-  bytes_none (a ∷ b ∷ t) h = absurd (omega arith)
-
-  pub bytes_two : (t : List ℕ) → 2 ≤ length t → length t < 4 → bytes (map f t) ≡ (f (get_or t 0 0) * 8 + f (get_or t 1 0) / 4) ∷ []
-  unfolding bytes
-  bytes_two [] g h = absurd (omega arith)
-  bytes_two (a ∷ []) g h = absurd (omega arith)
-  bytes_two (a ∷ b ∷ []) g h = refl
-  bytes_two (a ∷ b ∷ c ∷ []) g h = refl
-  bytes_two (a ∷ b ∷ c ∷ d ∷ t) g h = absurd (omega arith)
-
-  pub bytes_four : (t : List ℕ) → length t ≡ 4 →
-      bytes (map f t) ≡ (f (get_or t 0 0) * 8 + f (get_or t 1 0) / 4) ∷ (f (get_or t 1 0) % 4 * 64 + f (get_or t 2 0) * 2 + f (get_or t 3 0) / 16) ∷ []
-  unfolding bytes
-  bytes_four t h = ap (λ l. bytes (map f l)) (whole 4 t h)
-
-  pub bytes_five : (t : List ℕ) → 5 ≤ length t → length t < 7 →
-      bytes (map f t) ≡
-      (f (get_or t 0 0) * 8 + f (get_or t 1 0) / 4) ∷ (f (get_or t 1 0) % 4 * 64 + f (get_or t 2 0) * 2 + f (get_or t 3 0) / 16) ∷
-      (f (get_or t 3 0) % 16 * 16 + f (get_or t 4 0) / 2) ∷ []
-  unfolding bytes
-  bytes_five t g h =
-      elim (dec_le (length t) 5) [ yes k ↦ ap (λ l. bytes (map f l)) (whole 5 t (omega arith)) | no k ↦ ap (λ l. bytes (map f l)) (whole 6 t (omega arith)) ]
-
-  pub bytes_seven : (t : List ℕ) → length t ≡ 7 →
-      bytes (map f t) ≡
-      (f (get_or t 0 0) * 8 + f (get_or t 1 0) / 4) ∷ (f (get_or t 1 0) % 4 * 64 + f (get_or t 2 0) * 2 + f (get_or t 3 0) / 16) ∷
-      (f (get_or t 3 0) % 16 * 16 + f (get_or t 4 0) / 2) ∷ (f (get_or t 4 0) % 2 * 128 + f (get_or t 5 0) * 4 + f (get_or t 6 0) / 8) ∷ []
-  unfolding bytes
-  bytes_seven t h = ap (λ l. bytes (map f l)) (whole 7 t h)
-
+  -- the bytes of eight characters
   pub bytes_eight : (t : List ℕ) → length t ≡ 8 →
       bytes (map f t) ≡
       (f (get_or t 0 0) * 8 + f (get_or t 1 0) / 4) ∷ (f (get_or t 1 0) % 4 * 64 + f (get_or t 2 0) * 2 + f (get_or t 3 0) / 16) ∷
@@ -153,34 +142,7 @@ module _ (f : ℕ → ℕ) where
   unfolding bytes
   bytes_eight t h = ap (λ l. bytes (map f l)) (whole 8 t h)
 
--- the symbols of no byte, of one, .. of five
-pub symbols_none : (t : List ℕ) → length t ≡ 0 → symbols t ≡ []
-unfolding symbols
-symbols_none t h = ap symbols (whole 0 t h)
-
-pub symbols_one : (t : List ℕ) → length t ≡ 1 → symbols t ≡ (get_or t 0 0 / 8) ∷ (get_or t 0 0 % 8 * 4) ∷ []
-unfolding symbols
-symbols_one t h = ap symbols (whole 1 t h)
-
-pub symbols_two : (t : List ℕ) → length t ≡ 2 →
-    symbols t ≡ (get_or t 0 0 / 8) ∷ (get_or t 0 0 % 8 * 4 + get_or t 1 0 / 64) ∷ (get_or t 1 0 / 2 % 32) ∷ (get_or t 1 0 % 2 * 16) ∷ []
-unfolding symbols
-symbols_two t h = ap symbols (whole 2 t h)
-
-pub symbols_three : (t : List ℕ) → length t ≡ 3 →
-    symbols t ≡
-    (get_or t 0 0 / 8) ∷ (get_or t 0 0 % 8 * 4 + get_or t 1 0 / 64) ∷ (get_or t 1 0 / 2 % 32) ∷ (get_or t 1 0 % 2 * 16 + get_or t 2 0 / 16) ∷
-    (get_or t 2 0 % 16 * 2) ∷ []
-unfolding symbols
-symbols_three t h = ap symbols (whole 3 t h)
-
-pub symbols_four : (t : List ℕ) → length t ≡ 4 →
-    symbols t ≡
-    (get_or t 0 0 / 8) ∷ (get_or t 0 0 % 8 * 4 + get_or t 1 0 / 64) ∷ (get_or t 1 0 / 2 % 32) ∷ (get_or t 1 0 % 2 * 16 + get_or t 2 0 / 16) ∷
-    (get_or t 2 0 % 16 * 2 + get_or t 3 0 / 128) ∷ (get_or t 3 0 / 4 % 32) ∷ (get_or t 3 0 % 4 * 8) ∷ []
-unfolding symbols
-symbols_four t h = ap symbols (whole 4 t h)
-
+-- the symbols of five bytes
 pub symbols_five : (t : List ℕ) → length t ≡ 5 →
     symbols t ≡
     (get_or t 0 0 / 8) ∷ (get_or t 0 0 % 8 * 4 + get_or t 1 0 / 64) ∷ (get_or t 1 0 / 2 % 32) ∷ (get_or t 1 0 % 2 * 16 + get_or t 2 0 / 16) ∷

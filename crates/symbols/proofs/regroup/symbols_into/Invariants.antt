@@ -2,9 +2,9 @@
 use Prim.Native.Nat.{◌*◌}
 use mathlib.Core.Path.{◌≡◌}
 use mathlib.Core.List.{◌++◌}
-use lib.ListN.{length, take, drop}
+use lib.ListN.{take, drop}
 use Rattle.symbols.specs.Regroup.{symbols}
 use Rattle.symbols.proofs.regroup.symbols_into.Given as goal
 
 abbrev pub invariant-loop-i : goal.invariant-loop-i
-invariant-loop-i l = (length l.out ≡ length l.initial.out) × (l.out ≡ symbols (take (5 * l.i) l.payload) ++ drop (8 * l.i) l.initial.out)
+invariant-loop-i l = l.out ≡ symbols (take (5 * l.i) l.payload) ++ drop (8 * l.i) l.initial.out
