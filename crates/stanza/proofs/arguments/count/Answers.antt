@@ -4,9 +4,6 @@ use borrow.Author.Rules.{rules}
 use Rattle.stanza.proofs.Laws.Arguments.{count_last, count_next}
 use Rattle.stanza.proofs.arguments.count.Goals as goal
 
-pub loop-n-init : goal.loop-n-init
-loop-n-init c = (search rules, search rules, omega arith)
-
 pub returns-then-line-end : goal.returns-then-line-end
 returns-then-line-end c = let line = c.args.line.now in
     let from = c.loop-n.at in
