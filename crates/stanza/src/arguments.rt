@@ -39,6 +39,7 @@ fn word_end(text: &[u8], from: usize) -> usize
 pub(crate) fn is_line(line: &[u8]) -> bool
     ensures { result ≡ is_line line.now }
 {
+    // To split at the spaces and test each word takes twice as long.
     let mut at: usize = 0;
     loop {
         let end = graphic_end(line, at);
