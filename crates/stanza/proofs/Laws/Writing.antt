@@ -3,18 +3,17 @@ use Prim.Native.Nat.{ℕ, ◌+◌, ◌-◌, ◌<◌, ◌≤◌}
 use mathlib.Core.Path.{◌≡◌, refl, sym, ap, ◌∙◌}
 use mathlib.Core.List.{List, [], ◌∷◌, ◌++◌}
 use lib.ListN.{length, take, drop, set, get_or, length-append, length-drop}
-use lib.Seq.{sets-eq, get_or_at}
+use lib.Seq.{get_or_at}
 use native.Mathlib.Omega.{arith}
-use borrow.Author.Tests.{le-ltb, lt-ltb, lt-leb, eq-eqb, ne_eqb}
+use borrow.Author.Tests.{le-ltb, lt-leb}
 use mathlib.Core.Bool.{Bool, true, false, ◌&&◌}
-use lib.Dec.{eqb}
 use Rattle.refusal.specs.Pick.{pick}
-use Rattle.refusal.specs.Output.{bytes, refused, answered, filled, WritingJudged}
-use Rattle.refusal.proofs.Laws.Booleans.{cases, and_false_right}
+use Rattle.refusal.specs.Output.{bytes, refused, filled, WritingJudged}
+use Rattle.refusal.proofs.Laws.Booleans.{and_false_right}
 use Rattle.refusal.proofs.Laws.Output.{test_judged}
 use Rattle.refusal.proofs.Laws.Lists.{part_rest, put_rest, overwrite_part, front_part, front_store, front_whole}
 use Rattle.strict_base64.specs.Lines.{lines_of}
-use Rattle.stanza.specs.Arguments.{is_line, line_with}
+use Rattle.stanza.specs.Arguments.{is_line}
 use Rattle.stanza.specs.Grammar.{first_line, stanza_text}
 use Rattle.stanza.specs.Writing.{is_writable, sized, written, buffer_after}
 

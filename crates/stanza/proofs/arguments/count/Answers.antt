@@ -1,6 +1,5 @@
 -- `count` meets its contract. Invariant: n counts the words that have begun, the one at `at` among them.
 use native.Mathlib.Omega.{arith}
-use borrow.Author.Rules.{rules}
 use Rattle.stanza.proofs.Laws.Arguments.{count_last, count_next}
 use Rattle.stanza.proofs.arguments.count.Goals as goal
 

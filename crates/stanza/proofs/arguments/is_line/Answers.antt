@@ -1,7 +1,6 @@
 -- `is_line` meets its contract. Invariant: the text is a line exactly if what stands from `at` on is one.
-use mathlib.Core.Path.{refl, sym, ◌∙◌}
+use mathlib.Core.Path.{sym, ◌∙◌}
 use native.Mathlib.Omega.{arith}
-use borrow.Author.Rules.{rules}
 use Rattle.refusal.specs.Run.{is_graphic}
 use Rattle.refusal.proofs.Laws.Run.{end_le}
 use Rattle.stanza.proofs.Laws.Arguments.{line_empty, line_last, line_bad, line_next}

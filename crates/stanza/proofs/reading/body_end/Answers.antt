@@ -1,5 +1,5 @@
 -- Invariant: the automaton comes to the same from `from` and from i; a full line brings it back to where it was.
-use mathlib.Core.Path.{refl, sym, ◌∙◌}
+use mathlib.Core.Path.{sym, ◌∙◌}
 use native.Mathlib.Omega.{arith}
 use Rattle.stanza.proofs.Laws.Automaton.{line_full}
 use Rattle.stanza.proofs.reading.body_end.Goals as goal

@@ -1,7 +1,7 @@
 -- A text that begins with "-> " goes on with `words`; one that "-> " begins with is over too soon, and any other has a byte that no stanza has there.
-use mathlib.Core.Path.{◌≡◌, refl, sym, ap, ◌∙◌}
+use mathlib.Core.Path.{◌≡◌, refl, sym, ◌∙◌}
 use mathlib.Core.Bool.{true, false, false≢true, ◌&&◌}
-use mathlib.Core.List.{List, [], ◌∷◌, ◌++◌}
+use mathlib.Core.List.{List, [], ◌∷◌}
 use Prim.Native.Nat.{ℕ, ◌≤◌}
 use lib.Dec.{eqb}
 use lib.ListN.{length, take, get_or}
@@ -57,8 +57,8 @@ front_bad (a ∷ b ∷ []) p q =
 front_bad (a ∷ b ∷ c ∷ t) p q =
     cases (eqb a 45)
     (λ e. cases (eqb b 62)
-      (λ f. cases (eqb c 32) (λ g. absurd (false≢true (sym (rw (swap 45 a e, swap 62 b f, swap 32 c g) at p)))) (λ g. rw (e, f, g)))
-      (λ f. rw (e, f)))
+    (λ f. cases (eqb c 32) (λ g. absurd (false≢true (sym (rw (swap 45 a e, swap 62 b f, swap 32 c g) at p)))) (λ g. rw (e, f, g)))
+    (λ f. rw (e, f)))
     (λ e. rw e)
 
 pub returns-then-starts_with : goal.returns-then-starts_with

@@ -1,9 +1,7 @@
 -- The window is all that the definition looks at; in it the first line decides, then the body.
 use Prim.Native.Nat.{min}
-use mathlib.Core.Path.{◌≡◌, sym, ◌∙◌}
+use mathlib.Core.Path.{◌≡◌, ◌∙◌}
 use lib.ListN.{length}
-use lib.Seq.{length-take-le}
-use native.Mathlib.Omega.{arith}
 use borrow.Author.Rules.{rules}
 use Rattle.stanza.specs.Reading.{found}
 use Rattle.stanza.proofs.Laws.Reading.{window_is, short_is, found_window}

@@ -1,6 +1,6 @@
 -- Invariant: the automaton comes to the same from `from` and from i, and so does the search for the line's end.
 use Prim.Native.Nat.{◌<◌}
-use mathlib.Core.Path.{refl, ◌∙◌}
+use mathlib.Core.Path.{◌∙◌}
 use lib.ListN.{length}
 use native.Mathlib.Omega.{arith}
 use Rattle.refusal.specs.Run.{is_graphic}
@@ -8,7 +8,6 @@ use Rattle.refusal.proofs.Laws.Run.{run_in, run_out, end_le, run_first, run_stop
 use Rattle.stanza.specs.Automaton.{gap, word}
 use Rattle.stanza.specs.Reading.{is_not_lf}
 use Rattle.stanza.proofs.Laws.Automaton.{scan_end, gap_bad, gap_word, word_run, word_lf, word_space, word_bad, graphic_line_end}
-use borrow.Author.Rules.{rules}
 use Rattle.stanza.proofs.reading.words.Goals as goal
 
 pub returns-then-e-i : goal.returns-then-e-i

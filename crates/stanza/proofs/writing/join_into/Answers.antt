@@ -1,10 +1,8 @@
 -- Command, space and arguments, one behind the other, are the text.
 use Prim.Native.Nat.{◌+◌, ◌-◌, ◌≤◌}
-use mathlib.Core.Path.{◌∙◌}
 use lib.ListN.{length, take, drop, set, length-set, length-drop}
 use native.Mathlib.Omega.{arith}
 use borrow.Author.Tests.{le-ltb}
-use borrow.Rule.Slice.PartMut.{same_len_mid}
 use Rattle.refusal.proofs.Laws.Lists.{part_rest, parts_joined}
 use Rattle.stanza.proofs.writing.join_into.Goals as goal
 

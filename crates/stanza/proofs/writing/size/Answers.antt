@@ -1,9 +1,8 @@
 -- By arguments and length: a line or body of more than 8,192 bytes makes too long a stanza, and any other no sum that wraps.
-use Prim.Native.Nat.{◌+◌}
-use mathlib.Core.Path.{◌≡◌, sym, ◌∙◌}
+use mathlib.Core.Path.{sym, ◌∙◌}
 use lib.ListN.{length}
 use native.Mathlib.Omega.{arith}
-use borrow.Author.Tests.{lt-leb, le-leb, not-true, not-false}
+use borrow.Author.Tests.{lt-leb, not-false}
 use Rattle.strict_base64.proofs.Laws.Lines.{lines_length}
 use Rattle.stanza.specs.Grammar.{stanza_text}
 use Rattle.stanza.proofs.Laws.Writing.{text_length}

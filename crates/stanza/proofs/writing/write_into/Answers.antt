@@ -1,6 +1,5 @@
 -- The first line and the body's lines, one behind the other, are the stanza, and there is space for both.
-use native.Mathlib.Omega.{arith}
-use Rattle.stanza.proofs.Laws.Writing.{text_length, text_done}
+use Rattle.stanza.proofs.Laws.Writing.{text_done}
 use Rattle.stanza.proofs.writing.write_into.Goals as goal
 
 pub returns : goal.returns
