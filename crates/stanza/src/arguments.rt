@@ -39,6 +39,7 @@ fn word_end(text: &[u8], from: usize) -> usize
 pub(crate) fn is_line(line: &[u8]) -> bool
     ensures { result ≡ is_line line.now }
 {
+    // To split at the spaces and test each word takes twice as long.
     let mut at: usize = 0;
     loop {
         let end = graphic_end(line, at);
@@ -59,7 +60,17 @@ pub(crate) fn is_line(line: &[u8]) -> bool
 pub fn count(line: &[u8]) -> usize
     ensures { result ≡ count_of line.now }
 {
-    line.iter().filter(|b| **b == b' ').count() + 1
+    // A chain that counts the spaces takes twice as long.
+    let mut n: usize = 1;
+    let mut at: usize = 0;
+    loop {
+        let end = word_end(line, at);
+        if line.len() <= end {
+            return n;
+        }
+        n += 1;
+        at = end + 1;
+    }
 }
 
 // The k-th word of a text, counted from 0: a part of the text, the empty part where there is none.

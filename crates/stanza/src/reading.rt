@@ -85,25 +85,13 @@ fn first_line(text: &[u8]) -> Result<usize, Fault>
     ensures text_value { scan start 0 text.now ≡ goes_on result text.now }
     ensures ends_at { EndsAt result (line_end text.now) (length text.now) }
 {
-    if text.len() == 0 {
+    if text.starts_with(b"-> ") {
+        return words(text, FRONT);
+    }
+    if b"-> ".starts_with(text) {
         return Err(Fault::Short);
     }
-    if text[0] != b'-' {
-        return Err(Fault::Bad);
-    }
-    if text.len() == 1 {
-        return Err(Fault::Short);
-    }
-    if text[1] != b'>' {
-        return Err(Fault::Bad);
-    }
-    if text.len() == 2 {
-        return Err(Fault::Short);
-    }
-    if text[2] != b' ' {
-        return Err(Fault::Bad);
-    }
-    words(text, FRONT)
+    Err(Fault::Bad)
 }
 
 // The arguments from `from` on, up to their LF.
@@ -112,6 +100,7 @@ fn words(text: &[u8], from: usize) -> Result<usize, Fault>
     ensures text_value { scan gap from (drop from text.now) ≡ goes_on result text.now }
     ensures ends_at { EndsAt result (from + line_end (drop from text.now)) (length text.now) }
 {
+    // A turn passes over a word and the byte behind it, so that no `for` serves.
     let mut i = from;
     while i < text.len() {
         let e = graphic_end(text, i);
@@ -138,6 +127,7 @@ fn body_end(text: &[u8], from: usize) -> Result<usize, Fault>
     requires { from ≤ length text.now }
     ensures { scan (line 0 0) from (drop from text.now) ≡ body_said result }
 {
+    // By index: `full_line` takes the text and a place, and a chain over chunks is no plainer.
     let mut i = from;
     while strict_base64::full_line(text, i) {
         i += strict_base64::LINE_LENGTH;

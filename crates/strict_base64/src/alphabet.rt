@@ -42,11 +42,7 @@ pub(crate) fn character(v: u8) -> u8
 pub fn is_character(b: u8) -> bool
     ensures { result ≡ is_character b }
 {
-    ((b'A' <= b) & (b <= b'Z'))
-        | ((b'a' <= b) & (b <= b'z'))
-        | ((b'0' <= b) & (b <= b'9'))
-        | (b == b'+')
-        | (b == b'/')
+    b.is_ascii_alphanumeric() | (b == b'+') | (b == b'/')
 }
 
 // The end of the run of characters that begins at `from`; `from` itself where that is no place of the text.

@@ -20,20 +20,16 @@ pub fn run_end<F: Fn(u8) -> bool>(text: &[u8], from: usize, is_in: F) -> usize
     requires { F.IsAlwaysCallable is_in }
     ensures { (class : ℕ → Bool) → Tests (F.post is_in) class → result ≡ from + run class (drop from text.now) }
 {
-    if text.len() < from {
-        return from;
-    }
+    // By index: `chunks_exact` and a `for` over the rest take an eighth longer at short words.
+    let stop = text.len().saturating_sub(7);
     let mut end = from;
-    for eight in text[from..].chunks_exact(8) {
-        if !are_all(eight, &is_in) {
-            break;
-        }
+    while end < stop && are_all(&text[end..end + 8], &is_in) {
         end += 8;
     }
-    for (k, &b) in text[end..].iter().enumerate() {
-        if !is_in(b) {
-            return end + k;
+    for i in end..text.len() {
+        if !is_in(text[i]) {
+            return i;
         }
     }
-    text.len()
+    text.len().max(from)
 }

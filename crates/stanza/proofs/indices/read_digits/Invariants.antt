@@ -1,7 +1,7 @@
 -- `read_digits` meets its contract. Invariant: v is what the digits before i stand for, at most 4,294,967,295.
-use Prim.Native.Nat.{◌-◌, ◌≤◌}
+use Prim.Native.Nat.{◌≤◌}
 use mathlib.Core.Path.{◌≡◌}
-use lib.ListN.{length, drop}
+use lib.ListN.{drop}
 use Rattle.stanza.specs.Index.{digits}
 use Rattle.stanza.proofs.indices.read_digits.Given as goal
 

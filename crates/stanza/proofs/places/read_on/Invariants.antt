@@ -1,5 +1,5 @@
 -- Invariant: reading on from the place behind i bytes, with those counted, gives what it gives of all; the bytes looked at end where 8,192 have passed.
-use Prim.Native.Nat.{◌+◌, ◌-◌, ◌≤◌}
+use Prim.Native.Nat.{◌+◌}
 use mathlib.Core.Path.{◌≡◌}
 use lib.ListN.{drop}
 use Rattle.stanza.specs.Resuming.{place_said, behind, continued}

@@ -1,21 +1,11 @@
 -- The window is all that the definition looks at; in it the first line decides, then the body.
 use Prim.Native.Nat.{min}
-use mathlib.Core.Path.{◌≡◌, sym, ◌∙◌}
+use mathlib.Core.Path.{◌≡◌, ◌∙◌}
 use lib.ListN.{length}
-use lib.Seq.{length-take-le}
-use native.Mathlib.Omega.{arith}
 use borrow.Author.Rules.{rules}
 use Rattle.stanza.specs.Reading.{found}
 use Rattle.stanza.proofs.Laws.Reading.{window_is, short_is, found_window}
 use Rattle.stanza.proofs.reading.read.Goals as goal
-
-pub slice_bounds-w-end : goal.slice_bounds-w-end
-slice_bounds-w-end c = let w : c.min-n.result ≡ min 8192 (length c.args.text.now) = search rules in
-    sym (length-take-le _ c.args.text.now (omega (arith, w)))
-
-pub read_body-requires : goal.read_body-requires
-read_body-requires c = let whole = rw c.in-Ok.is at c.first_line-l.ensures.ends_at in
-    record { w_value = whole.0; e_in_bounds = whole.1 }
 
 pub returns-in-Err : goal.returns-in-Err
 returns-in-Err c = let w : c.min-n.result ≡ min 8192 (length c.args.text.now) = search rules in
