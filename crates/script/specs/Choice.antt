@@ -1,6 +1,7 @@
 -- The choices of words in a script: an end, a screen, a kind, a command of either phase, a reply. A choice is the number of its word in a list, byte for byte, counted from 0; the
 -- number of any other word is how many they are.
 use Rattle.std.specs.Prelude.{ℕ, suc, List, [], ◌∷◌}
+use Rattle.std.specs.Borrow.{Bor}
 use Rattle.refusal.specs.Pick.{pick}
 use Rattle.refusal.specs.Same.{same}
 use Rattle.script.specs.declared.choices.CommandChoice.{CommandChoice}
@@ -20,6 +21,11 @@ use Rattle.script.specs.declared.choices.ScreenChoice.TheVariants as screen_is
 unfoldable pub place : List ℕ → List (List ℕ) → ℕ
 place w [] = 0
 place w (v ∷ vs) = pick (same w v) 0 (suc (place w vs))
+
+-- what a word names in the code's table of words and choices
+unfoldable pub chosen : {A : Type 0} → List ℕ → List (Bor (List ℕ) × A) → A → A
+chosen w [] other = other
+chosen w (c ∷ cs) other = pick (same w c.0.now) c.1 (chosen w cs other)
 
 -- ---- an end
 

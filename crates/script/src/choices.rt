@@ -1,7 +1,6 @@
 // The choices of words: an end, a screen, a kind, a command of either phase, a reply.
 ghost use Rattle.std.specs.Prelude.{◌≡◌};
-ghost use Rattle.stanza.specs.Arguments.{words};
-ghost use Rattle.script.specs.Choice.{place, end_said, end_words, screen_said, screen_words, kind_said, kind_words, command_said, command_words, command_two_said, command_two_words, reply_said, reply_words};
+ghost use Rattle.script.specs.Choice.{place, chosen, end_said, end_words, screen_said, screen_words, kind_said, kind_words, command_said, command_words, command_two_said, command_two_words, reply_said, reply_words};
 
 // The end that a line opens.
 #[derive(Clone, Copy)]
@@ -64,122 +63,100 @@ pub enum ReplyChoice {
     Other,
 }
 
-// The words of each choice, which number them.
-const ENDS: [u8; 13] = *b"client plugin";
+// The words of each choice, and what they name.
+const ENDS: [(&[u8], EndChoice); 2] = [
+    (b"client", EndChoice::Client),
+    (b"plugin", EndChoice::Plugin),
+];
 
-const SCREENS: [u8; 24] = *b"screen no-screen default";
+const SCREENS: [(&[u8], ScreenChoice); 3] = [
+    (b"screen", ScreenChoice::Shown),
+    (b"no-screen", ScreenChoice::Missing),
+    (b"default", ScreenChoice::Default),
+];
 
-const KINDS: [u8; 18] = *b"recipient identity";
+const KINDS: [(&[u8], KindChoice); 2] = [
+    (b"recipient", KindChoice::Recipient),
+    (b"identity", KindChoice::Identity),
+];
 
-const COMMANDS: [u8; 62] = *b"add-recipient add-identity wrap-file-key recipient-stanza done";
+const COMMANDS: [(&[u8], CommandChoice); 5] = [
+    (b"add-recipient", CommandChoice::AddRecipient),
+    (b"add-identity", CommandChoice::AddIdentity),
+    (b"wrap-file-key", CommandChoice::WrapFileKey),
+    (b"recipient-stanza", CommandChoice::RecipientStanza),
+    (b"done", CommandChoice::Done),
+];
 
-const COMMANDS_TWO: [u8; 78] =
-    *b"msg confirm request-public request-secret recipient-stanza file-key error done";
+const COMMANDS_TWO: [(&[u8], CommandTwoChoice); 8] = [
+    (b"msg", CommandTwoChoice::Msg),
+    (b"confirm", CommandTwoChoice::Confirm),
+    (b"request-public", CommandTwoChoice::RequestPublic),
+    (b"request-secret", CommandTwoChoice::RequestSecret),
+    (b"recipient-stanza", CommandTwoChoice::RecipientStanza),
+    (b"file-key", CommandTwoChoice::FileKey),
+    (b"error", CommandTwoChoice::Error),
+    (b"done", CommandTwoChoice::Done),
+];
 
-const REPLIES: [u8; 26] = *b"ok yes no fail unsupported";
+const REPLIES: [(&[u8], ReplyChoice); 5] = [
+    (b"ok", ReplyChoice::Ok),
+    (b"yes", ReplyChoice::Yes),
+    (b"no", ReplyChoice::No),
+    (b"fail", ReplyChoice::Fail),
+    (b"unsupported", ReplyChoice::Unsupported),
+];
 
-// The number of a word among the words of a text, counted from 0; how many there are where it is none of them.
-pub(crate) fn find_word(word: &[u8], text: &[u8]) -> usize
-    ensures { result ≡ place word.now (words text.now) }
+// What a word names in a table, `other` where it is none of its words.
+pub(crate) fn choose<T: Copy>(word: &[u8], choices: &[(&[u8], T)], other: T) -> T
+    ensures { result ≡ chosen word.now choices.now other }
 {
-    let n = stanza::count(text);
-    let mut k: usize = 0;
-    while k < n {
-        if stanza::is_same(word, stanza::argument(text, k)) {
-            return k;
+    for (name, choice) in choices {
+        if word == *name {
+            return *choice;
         }
-        k += 1;
     }
-    n
+    other
 }
 
 // The end that a word names.
 pub fn choose_end(word: &[u8]) -> EndChoice
     ensures { end_said result ≡ place word.now end_words }
 {
-    let words = ENDS;
-    let k = find_word(word, &words);
-    match k {
-        0 => EndChoice::Client,
-        1 => EndChoice::Plugin,
-        _ => EndChoice::Other,
-    }
+    choose(word, &ENDS, EndChoice::Other)
 }
 
 // What a word says of the screen.
 pub fn choose_screen(word: &[u8]) -> ScreenChoice
     ensures { screen_said result ≡ place word.now screen_words }
 {
-    let words = SCREENS;
-    let k = find_word(word, &words);
-    match k {
-        0 => ScreenChoice::Shown,
-        1 => ScreenChoice::Missing,
-        2 => ScreenChoice::Default,
-        _ => ScreenChoice::Other,
-    }
+    choose(word, &SCREENS, ScreenChoice::Other)
 }
 
 // The kind that a word names.
 pub fn choose_kind(word: &[u8]) -> KindChoice
     ensures { kind_said result ≡ place word.now kind_words }
 {
-    let words = KINDS;
-    let k = find_word(word, &words);
-    match k {
-        0 => KindChoice::Recipient,
-        1 => KindChoice::Identity,
-        _ => KindChoice::Other,
-    }
+    choose(word, &KINDS, KindChoice::Other)
 }
 
 // The command of phase one that a word names.
 pub fn choose_command(word: &[u8]) -> CommandChoice
     ensures { command_said result ≡ place word.now command_words }
 {
-    let words = COMMANDS;
-    let k = find_word(word, &words);
-    match k {
-        0 => CommandChoice::AddRecipient,
-        1 => CommandChoice::AddIdentity,
-        2 => CommandChoice::WrapFileKey,
-        3 => CommandChoice::RecipientStanza,
-        4 => CommandChoice::Done,
-        _ => CommandChoice::Other,
-    }
+    choose(word, &COMMANDS, CommandChoice::Other)
 }
 
 // The command of phase two that a word names.
 pub fn choose_command_two(word: &[u8]) -> CommandTwoChoice
     ensures { command_two_said result ≡ place word.now command_two_words }
 {
-    let words = COMMANDS_TWO;
-    let k = find_word(word, &words);
-    match k {
-        0 => CommandTwoChoice::Msg,
-        1 => CommandTwoChoice::Confirm,
-        2 => CommandTwoChoice::RequestPublic,
-        3 => CommandTwoChoice::RequestSecret,
-        4 => CommandTwoChoice::RecipientStanza,
-        5 => CommandTwoChoice::FileKey,
-        6 => CommandTwoChoice::Error,
-        7 => CommandTwoChoice::Done,
-        _ => CommandTwoChoice::Other,
-    }
+    choose(word, &COMMANDS_TWO, CommandTwoChoice::Other)
 }
 
 // The reply that a word names.
 pub fn choose_reply(word: &[u8]) -> ReplyChoice
     ensures { reply_said result ≡ place word.now reply_words }
 {
-    let words = REPLIES;
-    let k = find_word(word, &words);
-    match k {
-        0 => ReplyChoice::Ok,
-        1 => ReplyChoice::Yes,
-        2 => ReplyChoice::No,
-        3 => ReplyChoice::Fail,
-        4 => ReplyChoice::Unsupported,
-        _ => ReplyChoice::Other,
-    }
+    choose(word, &REPLIES, ReplyChoice::Other)
 }

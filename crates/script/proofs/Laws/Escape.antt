@@ -1,14 +1,15 @@
 -- Words: what the code's loops pass over, and that what is printed is read back.
-use Prim.Native.Nat.{ℕ, suc, ◌+◌, ◌*◌, ◌/◌, ◌%◌, ◌<◌, ◌≤◌}
+use Prim.Native.Nat.{ℕ, suc, ◌+◌, ◌-◌, ◌*◌, ◌/◌, ◌%◌, ◌<◌, ◌≤◌}
 use mathlib.Core.Path.{◌≡◌, refl, sym, ap, ◌∙◌}
 use mathlib.Core.Bool.{Bool, true, false, false≢true}
 use mathlib.Core.List.{List, [], ◌∷◌, ◌++◌, append_assoc, append-nil}
+use Rattle.std.specs.Prelude.{Some, None}
 use lib.Dec.{ltb, eqb, eqb→eq}
 use lib.ListN.{length, take, drop, set, get_or, drop_of_length-le, length-append, take-append-drop}
 use lib.Seq.{sets, sets-eq, length-take-le, take_at, drop_at, drop-drop, drop-set-lt}
 use native.Mathlib.Numerals.{add-one}
 use native.Mathlib.Omega.{arith}
-use borrow.Author.Tests.{lt-ltb, le-ltb, le-leb, ne_eqb, leb-true, ltb-true, eqb-true}
+use borrow.Author.Tests.{lt-ltb, le-ltb, le-leb, ne_eqb, leb-true, ltb-true, ltb-false, eqb-true}
 use Rattle.refusal.specs.Output.{bytes, refused, filled}
 use Rattle.refusal.specs.Pick.{pick}
 use Rattle.refusal.specs.Run.{all, is_graphic}
@@ -16,7 +17,9 @@ use Rattle.refusal.proofs.Laws.Below.{below}
 use Rattle.refusal.proofs.Laws.Booleans.{cases, and_true, T_true}
 use Rattle.refusal.proofs.Laws.Lists.{drop_one, store_one}
 use Rattle.refusal.proofs.Laws.Run.{all_append}
-use Rattle.script.specs.Escape.{hex_value, moves, gives, stops, plain, letter, digit, effect, Meaning, word, bad, behind, rest, unescaped, measured, fits, answered_by, filled_by, hex_digit, letter_of, printed, spelled, escaped, sized}
+use Rattle.script.specs.declared.unescaping.State.{State}
+use Rattle.script.specs.declared.unescaping.State.TheVariants.{Plain, Escape, Hex, Digit}
+use Rattle.script.specs.Escape.{state_said, hex_value, moves, gives, stops, plain, letter, digit, effect, Meaning, word, bad, behind, rest, unescaped, measured, fits, answered_by, filled_by, hex_digit, letter_of, some_letter, printed, spelled, escaped, sized}
 
 -- ---- reading, one byte on
 
@@ -47,6 +50,13 @@ module _ (t : List ℕ) (s i : ℕ) where
 
   pub rest_stops : i < length t → stops ≡ effect s (get_or t i 0) → rest s (drop i t) ≡ bad
   rest_stops h e = rw (drop_one t i 0 h) (cons_stops s (get_or t i 0) (drop (i + 1) t) e)
+
+-- the code's states: 0 is the one between two escapes
+pub state_plain : (s : State) → ((s ≡ Plain) → ⊥) → eqb (state_said s) 0 ≡ false
+state_plain Plain h = absurd (h refl)
+state_plain Escape h = refl
+state_plain Hex h = refl
+state_plain (Digit v) h = ne_eqb (16 + v) 0 (λ z. omega arith)
 
 -- ---- measuring
 
@@ -139,6 +149,19 @@ pub printed_hex : (b : ℕ) → letter_of b ≤ 0 → is_graphic b ≡ false →
 unfolding printed
 printed_hex b h e = rw (le-ltb 0 (letter_of b) h, e)
 
+-- what the code answers of a byte's letter
+pub letter_some : (b l : ℕ) → Some l ≡ some_letter (letter_of b) → printed b ≡ 92 ∷ l ∷ []
+letter_some b l e =
+    cases (ltb 0 (letter_of b))
+    (λ h. let f = rw h at e in let k : l ≡ letter_of b = cc in rw k (printed_letter b (ltb-true 0 (letter_of b) h)))
+    (λ h. let f = rw h at e in let z : ◌≡◌ {A = ℕ} 0 1 = cc in absurd (omega arith))
+
+pub letter_none : (b : ℕ) → None ≡ some_letter (letter_of b) → letter_of b ≤ 0
+letter_none b e =
+    cases (ltb 0 (letter_of b))
+    (λ h. let f = rw h at e in let z : ◌≡◌ {A = ℕ} 0 1 = cc in absurd (omega arith))
+    (λ h. ltb-false 0 (letter_of b) h)
+
 module _ (t : List ℕ) (i : ℕ) where
   pub spelled_ends : length t ≤ i → spelled (drop i t) ≡ []
   unfolding spelled
@@ -161,17 +184,11 @@ unfolding escaped
 escaped_none [] h = refl
 escaped_none (b ∷ t) h = absurd (omega arith)
 
--- stores one behind the other, as the code makes them
-pub two : (o : List ℕ) (k x y : ℕ) → set (set o k x) (k + 1) y ≡ sets o k (x ∷ y ∷ [])
-two o k x y = rw add-one
-
-pub four : (o : List ℕ) (k x y z w : ℕ) →
-    set (set (set (set o k x) (k + 1) y) (k + 2) z) (k + 3) w ≡ sets o k (x ∷ y ∷ z ∷ w ∷ [])
-four o k x y z w =
-    let e1 : k + 1 ≡ suc k = omega arith in
-    let e2 : k + 2 ≡ suc (suc k) = omega arith in
-    let e3 : k + 3 ≡ suc (suc (suc k)) = omega arith in
-    rw (e1, e2, e3)
+-- n bytes copied to a buffer, from k on
+pub copied : (o s : List ℕ) (k n : ℕ) → length s ≡ n → k + n ≤ length o → take k o ++ (s ++ drop (k + n - k) (drop k o)) ≡ sets o k s
+copied o s k n e h =
+    let d : k + n - k ≡ n = omega arith in
+    rw (sets-eq s o k (omega arith), e, d, drop-drop n k o) (sym (append_assoc (take k o) s (drop (k + n) o)))
 
 -- after a run of stores: the part up to its end, and the part behind it
 sets_front : (o : List ℕ) (k : ℕ) (s : List ℕ) → k ≤ length o → length (take k o ++ s) ≡ k + length s
