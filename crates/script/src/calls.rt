@@ -5,7 +5,7 @@ ghost use Rattle.script.specs.Call.{call_said, call_words};
 
 use crate::choices::choose;
 
-// The calls; any other word is none.
+// The calls.
 #[derive(Clone, Copy)]
 pub enum Call {
     Stanza,
@@ -28,7 +28,6 @@ pub enum Call {
     Entry,
     Show,
     IdentityFile,
-    Other,
 }
 
 // The words of the calls, and what they name.
@@ -55,9 +54,9 @@ const CALLS: [(&[u8], Call); 20] = [
     (b"identity-file", Call::IdentityFile),
 ];
 
-// The call of a first word that has been read.
-pub fn choose_call(word: &[u8]) -> Call
+// The call of a first word that has been read, if it is one.
+pub fn choose_call(word: &[u8]) -> Option<Call>
     ensures { call_said result ≡ place word.now call_words }
 {
-    choose(word, &CALLS, Call::Other)
+    choose(word, &CALLS)
 }

@@ -1,4 +1,4 @@
-// The choices of words: an end, a screen, a kind, a command of either phase, a reply.
+// The choices of words: an end, a screen, a kind, a command of either phase, a reply. Any other word is none.
 ghost use Rattle.std.specs.Prelude.{◌≡◌};
 ghost use Rattle.script.specs.Choice.{place, chosen, end_said, end_words, screen_said, screen_words, kind_said, kind_words, command_said, command_words, command_two_said, command_two_words, reply_said, reply_words};
 
@@ -7,7 +7,6 @@ ghost use Rattle.script.specs.Choice.{place, chosen, end_said, end_words, screen
 pub enum EndChoice {
     Client,
     Plugin,
-    Other,
 }
 
 // What a line says of the client's screen: there is one, there is none, or it is left to the default.
@@ -16,7 +15,6 @@ pub enum ScreenChoice {
     Shown,
     Missing,
     Default,
-    Other,
 }
 
 // The kind that a line looks up.
@@ -24,10 +22,9 @@ pub enum ScreenChoice {
 pub enum KindChoice {
     Recipient,
     Identity,
-    Other,
 }
 
-// The command of phase one that a line sends; any other word can be sent too.
+// The command of phase one that a line sends.
 #[derive(Clone, Copy)]
 pub enum CommandChoice {
     AddRecipient,
@@ -35,10 +32,9 @@ pub enum CommandChoice {
     WrapFileKey,
     RecipientStanza,
     Done,
-    Other,
 }
 
-// The command of phase two that a line sends; any other word can be sent too.
+// The command of phase two that a line sends.
 #[derive(Clone, Copy)]
 pub enum CommandTwoChoice {
     Msg,
@@ -49,7 +45,6 @@ pub enum CommandTwoChoice {
     FileKey,
     Error,
     Done,
-    Other,
 }
 
 // What the client's host replies.
@@ -60,7 +55,6 @@ pub enum ReplyChoice {
     No,
     Fail,
     Unsupported,
-    Other,
 }
 
 // The words of each choice, and what they name.
@@ -107,56 +101,56 @@ const REPLIES: [(&[u8], ReplyChoice); 5] = [
     (b"unsupported", ReplyChoice::Unsupported),
 ];
 
-// What a word names in a table, `other` where it is none of its words.
-pub(crate) fn choose<T: Copy>(word: &[u8], choices: &[(&[u8], T)], other: T) -> T
-    ensures { result ≡ chosen word.now choices.now other }
+// What a word names in a table, if it is one of its words.
+pub(crate) fn choose<T: Copy>(word: &[u8], choices: &[(&[u8], T)]) -> Option<T>
+    ensures { result ≡ chosen word.now choices.now }
 {
     for (name, choice) in choices {
         if word == *name {
-            return *choice;
+            return Some(*choice);
         }
     }
-    other
+    None
 }
 
 // The end that a word names.
-pub fn choose_end(word: &[u8]) -> EndChoice
+pub fn choose_end(word: &[u8]) -> Option<EndChoice>
     ensures { end_said result ≡ place word.now end_words }
 {
-    choose(word, &ENDS, EndChoice::Other)
+    choose(word, &ENDS)
 }
 
 // What a word says of the screen.
-pub fn choose_screen(word: &[u8]) -> ScreenChoice
+pub fn choose_screen(word: &[u8]) -> Option<ScreenChoice>
     ensures { screen_said result ≡ place word.now screen_words }
 {
-    choose(word, &SCREENS, ScreenChoice::Other)
+    choose(word, &SCREENS)
 }
 
 // The kind that a word names.
-pub fn choose_kind(word: &[u8]) -> KindChoice
+pub fn choose_kind(word: &[u8]) -> Option<KindChoice>
     ensures { kind_said result ≡ place word.now kind_words }
 {
-    choose(word, &KINDS, KindChoice::Other)
+    choose(word, &KINDS)
 }
 
 // The command of phase one that a word names.
-pub fn choose_command(word: &[u8]) -> CommandChoice
+pub fn choose_command(word: &[u8]) -> Option<CommandChoice>
     ensures { command_said result ≡ place word.now command_words }
 {
-    choose(word, &COMMANDS, CommandChoice::Other)
+    choose(word, &COMMANDS)
 }
 
 // The command of phase two that a word names.
-pub fn choose_command_two(word: &[u8]) -> CommandTwoChoice
+pub fn choose_command_two(word: &[u8]) -> Option<CommandTwoChoice>
     ensures { command_two_said result ≡ place word.now command_two_words }
 {
-    choose(word, &COMMANDS_TWO, CommandTwoChoice::Other)
+    choose(word, &COMMANDS_TWO)
 }
 
 // The reply that a word names.
-pub fn choose_reply(word: &[u8]) -> ReplyChoice
+pub fn choose_reply(word: &[u8]) -> Option<ReplyChoice>
     ensures { reply_said result ≡ place word.now reply_words }
 {
-    choose(word, &REPLIES, ReplyChoice::Other)
+    choose(word, &REPLIES)
 }

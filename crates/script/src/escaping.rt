@@ -32,7 +32,7 @@ fn letter_of(b: u8) -> Option<u8>
     }
 }
 
-// How many bytes print a byte.
+// How many bytes print a byte. It stays apart from `put`: one function for both would give the bytes in an array with their length beside it.
 fn width(b: u8) -> usize
     ensures { result ≡ length (printed b) }
 {
@@ -62,7 +62,8 @@ fn put(b: u8, out: &mut [u8], at: usize) -> usize
     at + 4
 }
 
-// How many bytes print some bytes, or 15 where that is more than `limit`.
+// How many bytes print some bytes, or 15 where that is more than `limit`. It stays apart from `spell`: a pass over no buffer, as unescaping has it,
+// would count past the limit, and the sum could wrap.
 fn spelled_length(bytes: &[u8], limit: usize) -> Written
     ensures { said result ≡ sized (length (spelled bytes.now)) limit }
 {

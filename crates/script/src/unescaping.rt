@@ -1,5 +1,5 @@
-// Reading a word: its byte string, by one pass that checks and measures and one that writes, so that nothing is written where it is refused.
-// Both passes go byte by byte through the same states; specs/Escape has them.
+// Reading a word: its byte string, by a pass with no buffer, which checks and measures, and one that writes, so that nothing is written where it is refused.
+// Both go byte by byte through the same states; specs/Escape has them.
 ghost use Rattle.std.specs.Prelude.{◌≡◌, true};
 ghost use Rattle.script.specs.Escape.{hex_value, some_digit, plain, letter, effect, state_said, step_said, unescaped, measured, size_said, fits, unescaped_said, answered_by, filled_by};
 
@@ -78,14 +78,17 @@ fn read_byte(state: State, b: u8) -> Option<Step>
         }
         State::Digit(first) => {
             let v = hex_value(b)?;
+            // The remainder is `first` itself, which the state's type does not say.
             Some(Step::Gives(first % 16 * 16 + v))
         }
     }
 }
 
-// How many bytes a word stands for, if it is one.
-fn measure(word: &[u8]) -> Option<usize>
-    ensures { size_said result ≡ measured (unescaped word.now) }
+// How many bytes a word stands for, if it is one; they come to the front of `out` where it has space for all of them.
+fn unescape_into(word: &[u8], out: &mut [u8]) -> Option<usize>
+    ensures size { size_said result ≡ measured (unescaped word.now) }
+    ensures buffer { fits (unescaped word.now) out.old ≡ true →
+        out.new ≡ filled_by (unescaped word.now) out.old }
 {
     let mut state = State::Plain;
     let mut n: usize = 0;
@@ -93,8 +96,11 @@ fn measure(word: &[u8]) -> Option<usize>
         let step = read_byte(state, b)?;
         match step {
             Step::Moves(next) => state = next,
-            Step::Gives(_) => {
+            Step::Gives(byte) => {
                 state = State::Plain;
+                if n < out.len() {
+                    out[n] = byte;
+                }
                 n += 1;
             }
         }
@@ -105,34 +111,12 @@ fn measure(word: &[u8]) -> Option<usize>
     }
 }
 
-// The bytes of a word at the front of `out`, which is long enough.
-fn unescape_into(word: &[u8], out: &mut [u8])
-    requires { fits (unescaped word.now) out.old ≡ true }
-    ensures { out.new ≡ filled_by (unescaped word.now) out.old }
-{
-    let mut state = State::Plain;
-    let mut n: usize = 0;
-    for &b in word {
-        let Some(step) = read_byte(state, b) else {
-            return;
-        };
-        match step {
-            Step::Moves(next) => state = next,
-            Step::Gives(byte) => {
-                state = State::Plain;
-                out[n] = byte;
-                n += 1;
-            }
-        }
-    }
-}
-
 // The bytes of a word at the front of `out`: how many, or 15, or that it is no word; nothing is written then.
 pub fn unescape(word: &[u8], out: &mut [u8]) -> Option<Written>
     ensures answer { unescaped_said result ≡ answered_by (unescaped word.now) out.old }
     ensures buffer { out.new ≡ filled_by (unescaped word.now) out.old }
 {
-    let n = measure(word)?;
+    let n = unescape_into(word, &mut [])?;
     if out.len() < n {
         return Some(Written::Refused(Refusal::ShortOutput));
     }

@@ -1,13 +1,12 @@
 -- Words: what the code's loops pass over, and that what is printed is read back.
-use Prim.Native.Nat.{ℕ, suc, ◌+◌, ◌-◌, ◌*◌, ◌/◌, ◌%◌, ◌<◌, ◌≤◌}
+use Prim.Native.Nat.{ℕ, ◌+◌, ◌-◌, ◌*◌, ◌/◌, ◌%◌, ◌<◌, ◌≤◌}
 use mathlib.Core.Path.{◌≡◌, refl, sym, ap, ◌∙◌}
 use mathlib.Core.Bool.{Bool, true, false, false≢true}
 use mathlib.Core.List.{List, [], ◌∷◌, ◌++◌, append_assoc, append-nil}
 use Rattle.std.specs.Prelude.{Some, None}
 use lib.Dec.{ltb, eqb, eqb→eq}
-use lib.ListN.{length, take, drop, set, get_or, drop_of_length-le, length-append, take-append-drop}
+use lib.ListN.{length, length-set, take, drop, set, get_or, drop_of_length-le, length-append, take-append-drop}
 use lib.Seq.{sets, sets-eq, length-take-le, take_at, drop_at, drop-drop, drop-set-lt}
-use native.Mathlib.Numerals.{add-one}
 use native.Mathlib.Omega.{arith}
 use borrow.Author.Tests.{lt-ltb, le-ltb, le-leb, ne_eqb, leb-true, ltb-true, ltb-false, eqb-true}
 use Rattle.refusal.specs.Output.{bytes, refused, filled}
@@ -127,13 +126,35 @@ front o p n l h e =
     let k = length-take-le n o h in
     rw (k, le-ltb (length p) n (omega arith), ← e) (sym (take-append-drop n o))
 
--- a whole word stored
-pub stored : (u : Meaning (List ℕ)) (o p : List ℕ) (s n : ℕ) → fits u p ≡ true → length o ≡ length p → n ≤ length o → drop n o ≡ drop n p →
-    u ≡ behind (take n o) (pick (eqb s 0) (word []) bad) → o ≡ filled_by u p
-stored u o p s n f l h d e =
-    cases (eqb s 0)
-    (λ z. rw (rw z at e, append-nil (take n o)) (front o p n l h d))
-    (λ z. absurd (fits_rest u p (take n o) f (rw z at e)))
+-- o is p with n bytes stored at its front, which a word stands for before its rest m
+pub record Stored (u : Meaning (List ℕ)) (o p : List ℕ) (n : ℕ) (m : Meaning (List ℕ)) : Type 0 where
+  pub within : n ≤ length o
+  pub long : length o ≡ length p
+  pub as_it_was : drop n o ≡ drop n p
+  pub front : u ≡ behind (take n o) m
+
+module _ (u : Meaning (List ℕ)) (o p : List ℕ) (n : ℕ) (f : fits u p ≡ true) where
+  -- one byte more
+  pub stored_space : (v : ℕ) (m : Meaning (List ℕ)) → Stored u o p n (behind (v ∷ []) m) → n < length o
+  stored_space v m r = omega (arith, fits_one u p (take n o) v m f r.front, length-take-le n o r.within, r.long)
+
+  pub stored_one : (v : ℕ) (m : Meaning (List ℕ)) → Stored u o p n (behind (v ∷ []) m) → Stored u (set o n v) p (n + 1) m
+  stored_one v m r =
+      let h = stored_space v m r in
+      record {
+        within = simp length-set (omega (arith, h));
+        long = simp length-set r.long;
+        as_it_was = kept o p n v r.as_it_was;
+        front = more u o n v m h r.front;
+      }
+
+  -- the rest of a word that fits is a word
+  pub stored_bad : Stored u o p n bad → ⊥
+  stored_bad r = fits_rest u p (take n o) f r.front
+
+  -- a whole word
+  pub stored_whole : Stored u o p n (word []) → o ≡ filled_by u p
+  stored_whole r = rw (r.front, append-nil (take n o)) (front o p n r.long r.within r.as_it_was)
 
 -- ---- printing
 

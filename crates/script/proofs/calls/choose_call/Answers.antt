@@ -5,4 +5,4 @@ use Rattle.script.specs.Call.{call_said}
 use Rattle.script.proofs.calls.choose_call.Goals as goal
 
 pub returns : goal.returns
-returns c = ap call_said c.choose.ensures ∙ numbered call_said c.args.word.now _ _ refl
+returns c = ap call_said c.choose.ensures ∙ numbered call_said c.args.word.now _ refl

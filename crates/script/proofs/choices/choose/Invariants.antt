@@ -4,4 +4,4 @@ use Rattle.script.specs.Choice.{chosen}
 use Rattle.script.proofs.choices.choose.Given as goal
 
 abbrev pub invariant-loop-name : goal.invariant-loop-name
-invariant-loop-name g l = chosen l.word l.choices l.other ≡ chosen l.word (drop l.name-index l.choices) l.other
+invariant-loop-name g l = chosen l.word l.choices ≡ chosen l.word (drop l.name-index l.choices)

@@ -5,4 +5,4 @@ use Rattle.script.specs.Choice.{command_said}
 use Rattle.script.proofs.choices.choose_command.Goals as goal
 
 pub returns : goal.returns
-returns c = ap command_said c.choose.ensures ∙ numbered command_said c.args.word.now _ _ refl
+returns c = ap command_said c.choose.ensures ∙ numbered command_said c.args.word.now _ refl

@@ -5,4 +5,4 @@ use Rattle.script.specs.Choice.{command_two_said}
 use Rattle.script.proofs.choices.choose_command_two.Goals as goal
 
 pub returns : goal.returns
-returns c = ap command_two_said c.choose.ensures ∙ numbered command_two_said c.args.word.now _ _ refl
+returns c = ap command_two_said c.choose.ensures ∙ numbered command_two_said c.args.word.now _ refl

@@ -5,4 +5,4 @@ use Rattle.script.specs.Choice.{end_said}
 use Rattle.script.proofs.choices.choose_end.Goals as goal
 
 pub returns : goal.returns
-returns c = ap end_said c.choose.ensures ∙ numbered end_said c.args.word.now _ _ refl
+returns c = ap end_said c.choose.ensures ∙ numbered end_said c.args.word.now _ refl

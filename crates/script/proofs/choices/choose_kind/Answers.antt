@@ -5,4 +5,4 @@ use Rattle.script.specs.Choice.{kind_said}
 use Rattle.script.proofs.choices.choose_kind.Goals as goal
 
 pub returns : goal.returns
-returns c = ap kind_said c.choose.ensures ∙ numbered kind_said c.args.word.now _ _ refl
+returns c = ap kind_said c.choose.ensures ∙ numbered kind_said c.args.word.now _ refl

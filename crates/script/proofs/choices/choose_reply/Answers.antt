@@ -5,4 +5,4 @@ use Rattle.script.specs.Choice.{reply_said}
 use Rattle.script.proofs.choices.choose_reply.Goals as goal
 
 pub returns : goal.returns
-returns c = ap reply_said c.choose.ensures ∙ numbered reply_said c.args.word.now _ _ refl
+returns c = ap reply_said c.choose.ensures ∙ numbered reply_said c.args.word.now _ refl

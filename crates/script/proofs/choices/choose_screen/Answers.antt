@@ -5,4 +5,4 @@ use Rattle.script.specs.Choice.{screen_said}
 use Rattle.script.proofs.choices.choose_screen.Goals as goal
 
 pub returns : goal.returns
-returns c = ap screen_said c.choose.ensures ∙ numbered screen_said c.args.word.now _ _ refl
+returns c = ap screen_said c.choose.ensures ∙ numbered screen_said c.args.word.now _ refl

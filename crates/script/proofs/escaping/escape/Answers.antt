@@ -1,6 +1,6 @@
 -- `escape` meets its contract: the empty string apart, by what was measured.
 use borrow.Author.Tests.{lt-ltb, le-ltb, ltb-false, true-eqb, false-eqb}
-use Rattle.std.proofs.Common.{◌<◌, refl, sym, ap, ◌∙◌, length, arith}
+use Rattle.std.proofs.Common.{refl, sym, ap, ◌∙◌, length, arith}
 use Rattle.script.specs.Escape.{spelled}
 use Rattle.script.proofs.Laws.Escape.{escaped_none, escaped_some, sized_refused, sized_bytes}
 use Rattle.refusal.specs.Output.{said}

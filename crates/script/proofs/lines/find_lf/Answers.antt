@@ -19,6 +19,6 @@ returns c =
     let text = c.args.text.now in
     let here = run_end is_line_byte text c.loop-i.i c.loop-i-test.false in
     elim (dec_le c.args.from (length text)) [
-      yes h ↦ omega (arith, here, c.loop-i.invariant, c.loop-i.auto.i-end h)
-    | no h ↦ omega (arith, run_end is_line_byte text c.args.from (omega arith))
+      | yes h ↦ omega (arith, here, c.loop-i.invariant, c.loop-i.auto.i-end h)
+      | no h ↦ omega (arith, run_end is_line_byte text c.args.from (omega arith))
     ]

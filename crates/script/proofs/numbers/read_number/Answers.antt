@@ -1,7 +1,6 @@
 -- `read_number` meets its contract. Invariant: v is what the digits before the index stand for, within the limit.
-use Rattle.std.proofs.Common.{◌≡◌, ◌+◌, ◌-◌, ◌*◌, true, length, drop, get_or, sym, ap, ◌∙◌, arith, rules}
+use Rattle.std.proofs.Common.{◌≡◌, ◌+◌, ◌-◌, ◌*◌, length, drop, get_or, sym, ap, ◌∙◌, arith, rules}
 use borrow.Author.Tests.{true-eqb, false-eqb}
-use Rattle.stanza.specs.Index.{is_digit}
 use Rattle.script.specs.Number.{number_said}
 use Rattle.script.proofs.Laws.Number.{rest_number, number_none, number_some, rest_ends, rest_other, rest_digit, rest_above}
 use Rattle.script.proofs.numbers.read_number.Goals as goal
@@ -49,8 +48,8 @@ loop-b-preserved c =
     let e : c.loop-b.v * 10 + (get_or text i 0 - 48) ≡ c.in_ok-v.v = omega (arith, c.in_ok-tens.ensures, c.in_ok-v.ensures) in (
       omega arith,
       c.loop-b.invariant.1
-      ∙ rest_digit c.args.limit c.loop-b.v text i c.loop-b-test.true (sym c.is_ascii_digit.ensures.value ∙ c.if-not-is_ascii_digit.false)
-      ∙ ap (λ n. rest_number c.args.limit n (drop (i + 1) text)) e,
+          ∙ rest_digit c.args.limit c.loop-b.v text i c.loop-b-test.true (sym c.is_ascii_digit.ensures.value ∙ c.if-not-is_ascii_digit.false)
+          ∙ ap (λ n. rest_number c.args.limit n (drop (i + 1) text)) e,
     )
 
 pub returns : goal.returns
