@@ -1,4 +1,5 @@
 // Pieces: bytes as they are, numbers in decimal, and words with their escapes.
+// `out` and `at` stay two parameters and are no struct: `put` and the other public functions keep their signatures.
 ghost use Rattle.std.specs.Prelude.{◌≡◌};
 ghost use Rattle.script.specs.Escape.{escaped};
 ghost use Rattle.printing.specs.Page.{page, put, decimal, put_number, put_word};
