@@ -64,12 +64,11 @@ unfolding commands_of
 commands_none t ps = refl
 
 -- those of fewer places are no longer
-pub commands_le : (t : List ℕ) (ps : List (List ℕ)) (i n : ℕ) → i ≤ n → length (commands_of (texts_at t (take i ps))) ≤ length (commands_of (texts_at t (take n ps)))
+pub commands_le : (t : List ℕ) (ps : List (List ℕ)) (i : ℕ) → length (commands_of (texts_at t (take i ps))) ≤ length (commands_of (texts_at t ps))
 unfolding commands_of
-commands_le t ps zero n h = omega arith
-commands_le t ps (suc i) zero h = absurd (omega arith)
-commands_le t [] (suc i) (suc n) h = omega arith
-commands_le t (p ∷ ps) (suc i) (suc n) h = simp length-append (omega (arith, commands_le t ps i n (omega arith)))
+commands_le t ps zero = omega arith
+commands_le t [] (suc i) = omega arith
+commands_le t (p ∷ ps) (suc i) = simp length-append (omega (arith, commands_le t ps i))
 
 -- ---- written behind a front
 
