@@ -4,7 +4,7 @@ use mathlib.Core.Path.{◌≡◌, refl, sym, subst, ap, ap₂, ◌∙◌}
 use mathlib.Core.List.{List, [], ◌∷◌, ◌++◌, append_assoc, append-nil}
 use lib.Dec.{ltb, eqb}
 use lib.ListN.{length, take, drop, get_or, set, length-append, length-map, length-take, length-drop, drop_of_length-le}
-use lib.Seq.{drop-append_seam, drop-drop, drop-length, get_or-take}
+use lib.Seq.{drop-append_seam, drop-drop, drop-length}
 use native.Mathlib.Omega.{arith}
 use borrow.Author.Tests.{ltb-true, ltb-false}
 use Rattle.refusal.proofs.Laws.Booleans.{cases}

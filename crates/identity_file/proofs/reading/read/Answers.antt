@@ -1,5 +1,5 @@
 -- What the pass over the lines comes to decides; then the transcript is written.
-use mathlib.Core.Path.{◌≡◌, refl, sym, ap, ◌∙◌}
+use mathlib.Core.Path.{◌≡◌, refl, ap, ◌∙◌}
 use mathlib.Core.Bool.{true, false}
 use lib.ListN.{length, length-take, drop}
 use native.Mathlib.Omega.{arith}

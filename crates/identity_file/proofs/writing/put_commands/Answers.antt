@@ -1,5 +1,5 @@
 -- The loop's invariant: the commands of the first places stand at the front, and behind them the buffer is as it was.
-use Rattle.std.proofs.Common.{◌≡◌, ◌++◌, ◌+◌, ◌-◌, length, drop, refl, sym, ap, ◌∙◌, arith}
+use Rattle.std.proofs.Common.{◌+◌, ◌-◌, length, refl, sym, ap, ◌∙◌, arith}
 use lib.ListN.{length-take, length-drop}
 use lib.Seq.{take_all}
 use borrow.Rule.Slice.PartMut.{same_len_mid}
