@@ -57,6 +57,7 @@ fn is_secret_key(line: &[u8]) -> bool
 }
 
 // What a line is. Its length is looked at first, whatever it holds.
+#[tactic(auto, unfolding(crate::specs::Kinds::kind_of))]
 pub(crate) fn judge_line(line: &[u8]) -> LineKind
     ensures { kind_said result ≡ kind_of line.now }
 {

@@ -14,11 +14,12 @@ pub fn put(bytes: &[u8], out: &mut [u8], at: usize) -> usize
         return at;
     }
     let left = out.len() - at;
-    stanza::copy(bytes, &mut out[at..]);
     if left < bytes.len() {
         return at;
     }
-    at + bytes.len()
+    let next = at + bytes.len();
+    out[at..next].copy_from_slice(bytes);
+    next
 }
 
 // A byte string with its escapes.

@@ -11,12 +11,6 @@ use Rattle.identity_file.proofs.survey.survey.Goals as goal
 pub slice_bounds-judge_line-end : goal.slice_bounds-judge_line-end
 slice_bounds-judge_line-end c = rw c.line_end-end.ensures (end_le c.args.text.now c.loop-at.at (omega arith))
 
-pub loop-at-smaller : goal.loop-at-smaller
-loop-at-smaller c =
-    let b = next_bounds c.args.text.now c.loop-at.at c.loop-at-test.true in
-    let n : c.next_line-at.result ≡ next_line c.args.text.now (line_end c.args.text.now c.loop-at.at) = c.next_line-at.ensures ∙ ap (next_line c.args.text.now) c.line_end-end.ensures in
-    omega (arith, b.0, b.1, n)
-
 pub loop-at-preserved : goal.loop-at-preserved
 loop-at-preserved c = let text = c.args.text.now in
     let at = c.loop-at.at in

@@ -1,10 +1,7 @@
 -- The loop's invariant: the commands of the first places stand at the front, and behind them the buffer is as it was.
 use Rattle.std.proofs.Common.{◌+◌, ◌-◌, length, refl, sym, ap, ◌∙◌, arith}
 use lib.ListN.{length-take, length-drop}
-use lib.Seq.{take_all}
 use borrow.Rule.Slice.PartMut.{same_len_mid}
-use Rattle.identity_file.specs.Files.{commands_of}
-use Rattle.identity_file.specs.Steps.{texts_at}
 use Rattle.identity_file.proofs.Laws.Writing.{size_more, commands_none, commands_le, commands_placed}
 use Rattle.identity_file.proofs.writing.put_commands.Goals as goal
 
@@ -33,10 +30,3 @@ loop-start-preserved c =
       same_len_mid from (length out - from) out part c.put_command.auto.out ∙ c.loop-start.invariant.1,
       commands_placed t ps i out c.args.out.now part from c.loop-start-test.true h c.loop-start.invariant.0 c.loop-start.invariant.2 c.put_command.ensures,
     )
-
-pub returns : goal.returns
-returns c =
-    let t = c.args.text.now in
-    let e = take_all c.loop-start.start-index c.args.places.now c.loop-start-test.false in
-    let f = c.loop-start.invariant.0 ∙ ap (λ qs. length (commands_of (texts_at t qs))) e in
-    record { end = f; buffer = c.loop-start.invariant.2 ∙ rw (e, f) refl }

@@ -6,12 +6,6 @@ use Rattle.strict_base64.specs.Code.{encoded}
 use Rattle.strict_base64.specs.Lines.{wrapped}
 use Rattle.identity_file.proofs.writing.put_transcript.Goals as goal
 
-pub put_commands-end-requires : goal.put_commands-end-requires
-put_commands-end-requires c = record {
-  places = c.requires.places;
-  places_in_bounds = omega (arith, c.requires.places_in_bounds, transcript_length (texts_at c.args.text.now c.args.places.now));
-}
-
 pub slice_bounds-copy_from_slice-end : goal.slice_bounds-copy_from_slice-end
 slice_bounds-copy_from_slice-end c = omega (arith, c.put_commands-end.ensures.end, c.put_commands-end.auto.out, transcript_length (texts_at c.args.text.now c.args.places.now), c.requires.places_in_bounds)
 

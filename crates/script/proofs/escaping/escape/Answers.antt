@@ -1,5 +1,5 @@
 -- `escape` meets its contract: the empty string apart, by what was measured.
-use borrow.Author.Tests.{lt-ltb, le-ltb, ltb-false, true-eqb, false-eqb}
+use borrow.Author.Tests.{lt-ltb, le-ltb, true-eqb, false-eqb}
 use Rattle.std.proofs.Common.{refl, sym, ap, ◌∙◌, length, arith}
 use Rattle.script.specs.Escape.{spelled}
 use Rattle.script.proofs.Laws.Escape.{escaped_none, escaped_some, sized_refused, sized_bytes}
@@ -18,12 +18,6 @@ returns-then-is_empty c =
     let none = escaped_none c.args.bytes.now (true-eqb _ _ c.if-is_empty.ensures) in
     let long = le-ltb (length c.args.out.now) 2 c.if-out-lt2.false in
     record { answer = rw (none, long) refl; buffer = rw (none, long, c.copy_from_slice.ensures.after) refl }
-
-pub spell-requires : goal.spell-requires
-spell-requires c =
-    let n = length (spelled c.args.bytes.now) in
-    let out = length c.args.out.now in
-    ltb-false out n (sized_bytes n out c.in-Bytes.field-0 (sym (ap said c.in-Bytes.is) ∙ c.spelled_length-w.ensures))
 
 pub returns-in-Refused : goal.returns-in-Refused
 returns-in-Refused c =

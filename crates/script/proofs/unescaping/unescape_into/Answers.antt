@@ -1,17 +1,14 @@
 -- `unescape_into` meets its contract. Invariant: the word stands for n bytes and what the rest stands for in this state. Where all of it fits, the n bytes are stored, and
 -- behind them the buffer is as it was.
-use Rattle.std.proofs.Common.{ℕ, ◌+◌, List, Some, refl, sym, ap, ◌∙◌, subst, drop, arith}
+use Rattle.std.proofs.Common.{ℕ, ◌+◌, List, Some, sym, ap, ◌∙◌, subst, drop, arith}
 use Rattle.script.specs.Escape.{Meaning, word, rest, unescaped, measured, state_said, step_said, size_said}
-use Rattle.script.proofs.Laws.Escape.{plus, plus_zero, plus_one, rest_ends, rest_moves, rest_gives, rest_stops, state_plain, behind_none, Stored, stored_space, stored_one, stored_bad, stored_whole}
+use Rattle.script.proofs.Laws.Escape.{plus, plus_one, rest_ends, rest_moves, rest_gives, rest_stops, state_plain, Stored, stored_space, stored_one, stored_bad, stored_whole}
 use Rattle.script.proofs.unescaping.unescape_into.Goals as goal
 use Rattle.script.proofs.unescaping.unescape_into.Goals.{in-Moves, in-Gives, then-n-out, else-n-out}
 
 -- n bytes more
 more : ℕ → Meaning (List ℕ) → Meaning ℕ
 more n m = plus n (measured m)
-
-pub loop-b-init : goal.loop-b-init
-loop-b-init c = (omega arith, plus_zero _, λ f. record { within = omega arith; long = refl; as_it_was = refl; front = behind_none _ })
 
 pub returns-in_err-step : goal.returns-in_err-step
 unfolding more
