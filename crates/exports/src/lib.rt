@@ -80,9 +80,9 @@ pub extern "C" fn flugremio_body(
     ensures length { length.new ≡ length_or length.old (answered (body_at text.now line taken) out.old) }
 {
     let s = Stanza {
-        line: line,
+        line,
         body: 0,
-        taken: taken,
+        taken,
     };
     let w = stanza::body_of(text, s, out);
     tell(w, length)

@@ -62,7 +62,7 @@ fn open_client(machine: &[u8], name: &[u8], screen: ScreenChoice) -> Opening {
     match screen {
         ScreenChoice::Shown => Session::open_with(machine, name, Screen::Shown),
         ScreenChoice::Missing => Session::open_with(machine, name, Screen::Absent),
-        _ => Session::open(machine, name),
+        ScreenChoice::Default => Session::open(machine, name),
     }
 }
 

@@ -12,7 +12,7 @@ use replay_answers::{
     Answer, Output, answer_of, print_bytes, print_numbers, print_row, print_word,
 };
 use replay_lines::{Buffer, LONGEST, Request, Words, cut, front, last_word, word};
-use script::{Call, Number};
+use script::Call;
 use stanza::Stanza;
 
 // A line that needs no session, that no session takes, or that is no call.
@@ -60,7 +60,7 @@ fn with_buffer(
     at: usize,
 ) -> Answer {
     let length = script::read_number(last_word(text, w), LONGEST);
-    let Number::Value(v) = length else {
+    let Some(v) = length else {
         return Answer::Bad;
     };
     call_buffered(call, text, w, cut(buffer, v as usize), out, at)

@@ -1,7 +1,6 @@
 // The lengths of a session's buffers, in the order of a script: R I K H E S F.
 use crate::parts::LONGEST;
 use crate::words::{Words, word};
-use script::Number;
 
 // The lengths of the session's buffers.
 #[derive(Clone, Copy)]
@@ -46,7 +45,7 @@ pub fn read_lengths(text: &[u8], w: Words) -> Given {
     let mut k: usize = 0;
     while k < 7 {
         let length = script::read_number(word(text, w, first + k), LONGEST);
-        let Number::Value(n) = length else {
+        let Some(n) = length else {
             return Given::Bad;
         };
         given[k] = n as usize;

@@ -4,7 +4,7 @@ use crate::parts::LONGEST;
 use crate::words::{Words, last_word, word};
 use bech32::TextKind;
 use responses::Response;
-use script::{Call, EndChoice, KindChoice, Number, ReplyChoice, ScreenChoice};
+use script::{Call, EndChoice, KindChoice, ReplyChoice, ScreenChoice};
 
 // Which end is open.
 #[derive(Clone, Copy)]
@@ -66,7 +66,10 @@ pub enum TalkTwo {
 
 // What a line asks for, by its words and by the end that is open.
 pub fn read_request(end: End, text: &[u8], w: Words) -> Request {
-    let call = script::choose_call(word(text, w, 0));
+    let first = script::choose_call(word(text, w, 0));
+    let Some(call) = first else {
+        return Request::Bad;
+    };
     match call {
         Call::Open => read_open(text, w),
         Call::Buffers => session_at(end, read_setting(8, Setting::Buffers, text, w)),
@@ -85,19 +88,19 @@ pub fn read_request(end: End, text: &[u8], w: Words) -> Request {
 fn read_open(text: &[u8], w: Words) -> Request {
     let end = script::choose_end(word(text, w, 1));
     match end {
-        EndChoice::Client => read_client(text, w),
-        EndChoice::Plugin => read_setting(11, Setting::Plugin, text, w),
-        EndChoice::Other => Request::Bad,
+        Some(EndChoice::Client) => read_client(text, w),
+        Some(EndChoice::Plugin) => read_setting(11, Setting::Plugin, text, w),
+        None => Request::Bad,
     }
 }
 
 // The client end is told of a screen, or left to its default.
 fn read_client(text: &[u8], w: Words) -> Request {
     let screen = script::choose_screen(word(text, w, 4));
-    if let ScreenChoice::Other = screen {
-        return Request::Bad;
+    match screen {
+        Some(told) => read_setting(12, Setting::Client(told), text, w),
+        None => Request::Bad,
     }
-    read_setting(12, Setting::Client(screen), text, w)
 }
 
 // R I K H E S F, the last seven of so many words.
@@ -113,16 +116,16 @@ fn read_setting(count: usize, setting: Setting, text: &[u8], w: Words) -> Reques
 }
 
 // OUT, the last of so many words.
-fn read_out(count: usize, text: &[u8], w: Words) -> Number {
+fn read_out(count: usize, text: &[u8], w: Words) -> Option<u64> {
     if w.count != count {
-        return Number::Bad;
+        return None;
     }
     script::read_number(last_word(text, w), LONGEST)
 }
 
 // send COMMAND ARGS BODY OUT: the client's phase is the first, the plugin's the second.
-fn send_at(end: End, out: Number) -> Request {
-    let Number::Value(n) = out else {
+fn send_at(end: End, out: Option<u64>) -> Request {
+    let Some(n) = out else {
         return Request::Bad;
     };
     match end {
@@ -133,8 +136,8 @@ fn send_at(end: End, out: Number) -> Request {
 }
 
 // chunk BYTES OUT
-fn receive_at(end: End, out: Number) -> Request {
-    let Number::Value(n) = out else {
+fn receive_at(end: End, out: Option<u64>) -> Request {
+    let Some(n) = out else {
         return Request::Bad;
     };
     match end {
@@ -147,22 +150,20 @@ fn receive_at(end: End, out: Number) -> Request {
 // reply ANSWER BODY OUT
 fn read_reply(text: &[u8], w: Words) -> Request {
     let out = read_out(4, text, w);
-    let Number::Value(v) = out else {
+    let Some(v) = out else {
         return Request::Bad;
     };
     let n = v as usize;
     let reply = script::choose_reply(word(text, w, 1));
-    match reply {
-        ReplyChoice::Ok => Request::Change(Change::PhaseTwo(TalkTwo::Reply(Response::Ok), n)),
-        ReplyChoice::Yes => Request::Change(Change::PhaseTwo(TalkTwo::Reply(Response::Yes), n)),
-        ReplyChoice::No => Request::Change(Change::PhaseTwo(TalkTwo::Reply(Response::No), n)),
-        ReplyChoice::Fail => Request::Change(Change::PhaseTwo(TalkTwo::Reply(Response::Fail), n)),
-        ReplyChoice::Unsupported => Request::Change(Change::PhaseTwo(
-            TalkTwo::Reply(Response::Unsupported),
-            n,
-        )),
-        ReplyChoice::Other => Request::Bad,
-    }
+    let response = match reply {
+        Some(ReplyChoice::Ok) => Response::Ok,
+        Some(ReplyChoice::Yes) => Response::Yes,
+        Some(ReplyChoice::No) => Response::No,
+        Some(ReplyChoice::Fail) => Response::Fail,
+        Some(ReplyChoice::Unsupported) => Response::Unsupported,
+        None => return Request::Bad,
+    };
+    Request::Change(Change::PhaseTwo(TalkTwo::Reply(response), n))
 }
 
 // A call that the client end alone has.
@@ -182,14 +183,14 @@ fn read_entry(text: &[u8], w: Words) -> Request {
         return Request::Bad;
     }
     let number = script::read_number(last_word(text, w), u64::MAX);
-    let Number::Value(n) = number else {
+    let Some(n) = number else {
         return Request::Bad;
     };
     let kind = script::choose_kind(word(text, w, 1));
     match kind {
-        KindChoice::Recipient => Request::Look(Look::Entry(TextKind::Recipient, n as usize)),
-        KindChoice::Identity => Request::Look(Look::Entry(TextKind::Identity, n as usize)),
-        KindChoice::Other => Request::Bad,
+        Some(KindChoice::Recipient) => Request::Look(Look::Entry(TextKind::Recipient, n as usize)),
+        Some(KindChoice::Identity) => Request::Look(Look::Entry(TextKind::Identity, n as usize)),
+        None => Request::Bad,
     }
 }
 

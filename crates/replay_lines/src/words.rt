@@ -1,6 +1,5 @@
 // The words of a line, read into one buffer with a space between two.
 use crate::parts::{Buffer, least, part};
-use script::Unescaped;
 
 // The longest line that is a call, without its LF.
 const LONGEST: usize = 65536;
@@ -86,7 +85,7 @@ fn read_word(word: &[u8], text: &mut [u8], at: usize) -> WordEnd {
     }
     let from = least(at, text.len());
     let u = script::unescape(word, &mut text[from..]);
-    let Unescaped::Word(w) = u else {
+    let Some(w) = u else {
         return WordEnd::Bad;
     };
     match w {
