@@ -21,16 +21,16 @@ pub fn find(
 ) -> Found
     ensures { found_said result ≡ found_in (table_of kind (tables_in tables slots.now header_slots.now)) n }
 {
-    let span = span_of(kind);
-    match kind {
-        Kind::Recipients => tables.recipients.find(span, n, slots),
-        Kind::Identities => tables.identities.find(span, n, slots),
-        Kind::Keys => tables.keys.find(span, n, slots),
-        Kind::Headers => tables.headers.find(span, n, header_slots),
-        Kind::Errors => tables.errors.find(span, n, slots),
-        Kind::Stanzas => tables.stanzas.find(span, n, slots),
-        Kind::Returned => tables.returned.find(span, n, slots),
-    }
+    let (table, slots) = match kind {
+        Kind::Recipients => (tables.recipients, slots),
+        Kind::Identities => (tables.identities, slots),
+        Kind::Keys => (tables.keys, slots),
+        Kind::Headers => (tables.headers, header_slots),
+        Kind::Errors => (tables.errors, slots),
+        Kind::Stanzas => (tables.stanzas, slots),
+        Kind::Returned => (tables.returned, slots),
+    };
+    table.find(span_of(kind), n, slots)
 }
 
 // The text of a recipient or an identity, a part of its kind's buffer; empty where there is none, or the buffer is too short for it.
