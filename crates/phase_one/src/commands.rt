@@ -9,15 +9,15 @@ use refusal::Refusal;
 use session::Machine;
 
 // The words of phase one, compared with a command's first argument and written where an end sends.
-const ADD_RECIPIENT: [u8; 13] = *b"add-recipient";
+const ADD_RECIPIENT: &[u8] = b"add-recipient";
 
-const ADD_IDENTITY: [u8; 12] = *b"add-identity";
+const ADD_IDENTITY: &[u8] = b"add-identity";
 
-const WRAP_FILE_KEY: [u8; 13] = *b"wrap-file-key";
+const WRAP_FILE_KEY: &[u8] = b"wrap-file-key";
 
-const RECIPIENT_STANZA: [u8; 16] = *b"recipient-stanza";
+const RECIPIENT_STANZA: &[u8] = b"recipient-stanza";
 
-const DONE: [u8; 4] = *b"done";
+const DONE: &[u8] = b"done";
 
 // The words of phase one.
 #[derive(Clone, Copy)]
@@ -42,46 +42,18 @@ pub enum CommandOne {
     Refused(Refusal),
 }
 
-fn recipient_word(word: &[u8]) -> WordOne
-    ensures { word_said result ≡ word_in Machine.RecipientV1 word.now }
-{
-    if stanza::is_same(word, &ADD_RECIPIENT) {
-        return WordOne::AddRecipient;
-    }
-    if stanza::is_same(word, &ADD_IDENTITY) {
-        return WordOne::AddIdentity;
-    }
-    if stanza::is_same(word, &WRAP_FILE_KEY) {
-        return WordOne::WrapFileKey;
-    }
-    if stanza::is_same(word, &DONE) {
-        return WordOne::Done;
-    }
-    WordOne::Other
-}
-
-fn identity_word(word: &[u8]) -> WordOne
-    ensures { word_said result ≡ word_in Machine.IdentityV1 word.now }
-{
-    if stanza::is_same(word, &ADD_IDENTITY) {
-        return WordOne::AddIdentity;
-    }
-    if stanza::is_same(word, &RECIPIENT_STANZA) {
-        return WordOne::RecipientStanza;
-    }
-    if stanza::is_same(word, &DONE) {
-        return WordOne::Done;
-    }
-    WordOne::Other
-}
-
-// Which command of phase one a word names for a machine.
+// Which command of phase one a word names for a machine. A match on the words themselves was tried: it tests byte by byte, and the proof did not close.
+#[tactic(auto, using(tables::proofs::Laws::Repeats::pointwise_same))]
 fn word_in(machine: Machine, word: &[u8]) -> WordOne
     ensures { word_said result ≡ word_in machine word.now }
 {
     match machine {
-        Machine::RecipientV1 => recipient_word(word),
-        Machine::IdentityV1 => identity_word(word),
+        Machine::RecipientV1 if word == ADD_RECIPIENT => WordOne::AddRecipient,
+        _ if word == ADD_IDENTITY => WordOne::AddIdentity,
+        Machine::RecipientV1 if word == WRAP_FILE_KEY => WordOne::WrapFileKey,
+        Machine::IdentityV1 if word == RECIPIENT_STANZA => WordOne::RecipientStanza,
+        _ if word == DONE => WordOne::Done,
+        _ => WordOne::Other,
     }
 }
 
@@ -89,24 +61,17 @@ fn word_in(machine: Machine, word: &[u8]) -> WordOne
 fn after_space<'a>(text: &'a [u8]) -> &'a [u8]
     ensures { result.now ≡ after_space text.now }
 {
-    let n = text.len();
-    let mut i: usize = 0;
-    while i < n {
-        if text[i] == b' ' {
-            let from = i + 1;
-            return &text[from..];
-        }
-        i += 1;
+    match text.iter().position(|b| *b == b' ') {
+        Some(i) => &text[i + 1..],
+        None => &[],
     }
-    &text[n..]
 }
 
 // The arguments of a header stanza behind its index.
 pub fn rest_of<'a>(line: &'a [u8]) -> &'a [u8]
     ensures { result.now ≡ rest_of line.now }
 {
-    let behind = after_space(line);
-    after_space(behind)
+    after_space(after_space(line))
 }
 
 // A recipient or an identity: one argument, no body.
@@ -144,10 +109,7 @@ fn parse_header(line: &[u8], body: usize) -> CommandOne
 fn is_bare(line: &[u8], body: usize, n: usize) -> bool
     ensures { result ≡ (eqb (count_of line.now) 1 && eqb body n) }
 {
-    if stanza::count(line) != 1 {
-        return false;
-    }
-    body == n
+    stanza::count(line) == 1 && body == n
 }
 
 // The command of phase one that a stanza is, by its arguments and how many bytes its body has.
@@ -198,11 +160,11 @@ pub fn put_line(word: WordOne, arguments: &[u8], out: &mut [u8]) -> Result<usize
     ensures buffer { out.new ≡ filled (line_sent (word_said word) arguments.now) out.old }
 {
     match word {
-        WordOne::AddRecipient => stanza::join(&ADD_RECIPIENT, arguments, out),
-        WordOne::AddIdentity => stanza::join(&ADD_IDENTITY, arguments, out),
-        WordOne::WrapFileKey => stanza::join(&WRAP_FILE_KEY, arguments, out),
-        WordOne::RecipientStanza => stanza::join(&RECIPIENT_STANZA, arguments, out),
-        WordOne::Done => stanza::join(&DONE, arguments, out),
+        WordOne::AddRecipient => stanza::join(ADD_RECIPIENT, arguments, out),
+        WordOne::AddIdentity => stanza::join(ADD_IDENTITY, arguments, out),
+        WordOne::WrapFileKey => stanza::join(WRAP_FILE_KEY, arguments, out),
+        WordOne::RecipientStanza => stanza::join(RECIPIENT_STANZA, arguments, out),
+        WordOne::Done => stanza::join(DONE, arguments, out),
         WordOne::Other => stanza::join(arguments, b"", out),
     }
 }

@@ -29,18 +29,11 @@ pub fn wide(index: u32) -> usize
     index as usize
 }
 
-// A mark as a number of a slot.
-fn wide_mark(mark: u8) -> usize
-    ensures { result ≡ mark }
-{
-    mark as usize
-}
-
 // A recipient's or an identity's mark.
 fn text_mark(kind: TextKind, text: &[u8], plugin: &[u8]) -> usize
     ensures { result ≡ mark_of (parse (form_of kind) text.now) plugin.now }
 {
-    wide_mark(bech32::mark(kind, text, plugin))
+    usize::from(bech32::mark(kind, text, plugin))
 }
 
 // A header stanza's mark, by its tag and arguments and how many bytes its body has.
@@ -60,17 +53,15 @@ fn is_falling(headers: Table, index: u32, slots: &[[usize; 4]]) -> bool
     ensures { result ≡ falls (table_in (span_of Kind.Headers) headers slots.now) index }
 {
     let count = headers.count;
-    if count == 0 {
-        return false;
-    }
-    if Session::HEADER_STANZAS < count {
+    if count == 0 || Session::HEADER_STANZAS < count {
         return false;
     }
     let last = entry_at(span_of(Kind::Headers), count - 1, slots);
     wide(index) < last.index
 }
 
-// A recipient or an identity kept: its text is the command's one argument. Nothing changes where it is refused.
+// A recipient or an identity kept: its text is the command's one argument. Nothing changes where it is refused. Table, span, slots and buffer stay apart, as
+// `Table::store` takes them.
 fn keep_text(
     kind: TextKind,
     table: Table,

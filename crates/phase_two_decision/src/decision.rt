@@ -73,13 +73,7 @@ fn is_second_key(tables: Tables, command: CommandTwo, slots: &[[usize; 4]]) -> b
 fn is_full(recipients: usize, identities: usize, n: usize) -> bool
     ensures { result ≡ leb (recipients + identities) n }
 {
-    if n < recipients {
-        return false;
-    }
-    if n - recipients < identities {
-        return false;
-    }
-    true
+    recipients <= n && identities <= n - recipients
 }
 
 // 10: too many stanzas for a file.
@@ -117,10 +111,7 @@ fn is_against_key(tables: Tables, named: Named, slots: &[[usize; 4]]) -> bool
 fn is_against_work(tables: Tables, named: Named, slots: &[[usize; 4]]) -> bool
     ensures { (hs : List (List ℕ)) → result ≡ is_clashing (tables_in tables slots.now hs) (error (named_said named)) }
 {
-    if 0 < tables.stanzas.count {
-        return true;
-    }
-    is_against_key(tables, named, slots)
+    0 < tables.stanzas.count || is_against_key(tables, named, slots)
 }
 
 // 11: work and error together.
@@ -142,10 +133,8 @@ fn is_clashing(tables: Tables, command: CommandTwo, slots: &[[usize; 4]]) -> boo
 fn has_invalid(tables: Tables, slots: &[[usize; 4]]) -> bool
     ensures { (hs : List (List ℕ)) → result ≡ any_invalid (tables_in tables slots.now hs) }
 {
-    if any_invalid(tables.recipients, span_of(Kind::Recipients), slots) {
-        return true;
-    }
-    any_invalid(tables.identities, span_of(Kind::Identities), slots)
+    any_invalid(tables.recipients, span_of(Kind::Recipients), slots)
+        || any_invalid(tables.identities, span_of(Kind::Identities), slots)
 }
 
 // Whether an error is for an unknown stanza.
@@ -171,16 +160,14 @@ fn is_key_held_back(
         (any_invalid (tables_in tables slots.now header_slots.now) || has_nonconforming
         (tables_in tables slots.now header_slots.now) file) }
 {
-    if has_invalid(tables, slots) {
-        return true;
-    }
-    has_labelled(
-        tables.headers,
-        span_of(Kind::Headers),
-        Mark::NONCONFORMING,
-        file,
-        header_slots,
-    )
+    has_invalid(tables, slots)
+        || has_labelled(
+            tables.headers,
+            span_of(Kind::Headers),
+            Mark::NONCONFORMING,
+            file,
+            header_slots,
+        )
 }
 
 // 19: the plugin end holds the command back.
@@ -228,10 +215,7 @@ fn is_held_by(
 ) -> bool
     ensures { result ≡ (own && is_held_back (tables_in tables slots.now header_slots.now) (command_said command)) }
 {
-    if own {
-        return is_held_back(tables, command, slots, header_slots);
-    }
-    false
+    own && is_held_back(tables, command, slots, header_slots)
 }
 
 // What the tables say of a command: the first of its faults, 4 or 5, 6, 9, 10, 11, at the plugin's own sending 19.

@@ -27,8 +27,9 @@ returns-in-Recipient c = let a = c.args in
       buffers = s.1.1;
     }
 
-pub returns-in-Identity : goal.returns-in-Identity
-returns-in-Identity c = let a = c.args in
+pub returns-in-Identity-clause-tables : goal.returns-in-Identity-clause-tables
+returns-in-Identity-clause-tables c =
+    let a = c.args in
     let y = body_from a.coding a.source.now in
     let t = tables_in a.tables a.slots.now a.header_slots.now in
     let b = buffers_of a.recipients.now a.identities.now a.keys.now a.headers.now in
@@ -36,15 +37,11 @@ returns-in-Identity c = let a = c.args in
     let z = rw c.span_of-span.ensures at c.keep_text-stored.ensures in
     let k = ap (command_said a.plugin.now a.line.now (length y)) (sym c.in-Identity.is) ∙ e in
     let s = step_identity a.machine a.plugin.now t b (verdict_said a.late) a.line.now y _ _ _ _ k z.number z.table z.buffer in
-    record {
-      command = rw c.stepped-in-Identity.ensures e;
-      number = rw c.stepped-in-Identity.ensures s.0;
-      tables = rw c.stepped-in-Identity.ensures (put_identities a.tables a.slots.now _ a.header_slots.now c.keep_text-stored.result.table _ refl z.others ∙ s.1.0);
-      buffers = s.1.1;
-    }
+    rw c.stepped-in-Identity.ensures (put_identities a.tables a.slots.now _ a.header_slots.now c.keep_text-stored.result.table _ refl z.others ∙ s.1.0)
 
-pub returns-in-Key : goal.returns-in-Key
-returns-in-Key c = let a = c.args in
+pub returns-in-Key-clause-tables : goal.returns-in-Key-clause-tables
+returns-in-Key-clause-tables c =
+    let a = c.args in
     let y = body_from a.coding a.source.now in
     let t = tables_in a.tables a.slots.now a.header_slots.now in
     let b = buffers_of a.recipients.now a.identities.now a.keys.now a.headers.now in
@@ -52,12 +49,7 @@ returns-in-Key c = let a = c.args in
     let z = rw c.span_of-span-in-Key.ensures at c.store-stored.ensures in
     let k = ap (command_said a.plugin.now a.line.now (length y)) (sym c.in-Key.is) ∙ e in
     let s = step_key a.machine a.plugin.now t b (verdict_said a.late) a.line.now y _ _ _ k z.number (rw (sym z.number) at z.table) (rw (sym z.number) at z.buffer) in
-    record {
-      command = rw c.stepped-in-Key.ensures e;
-      number = rw c.stepped-in-Key.ensures s.0;
-      tables = rw c.stepped-in-Key.ensures (put_keys a.tables a.slots.now _ a.header_slots.now c.store-stored.result.table _ refl z.others ∙ s.1.0);
-      buffers = s.1.1;
-    }
+    rw c.stepped-in-Key.ensures (put_keys a.tables a.slots.now _ a.header_slots.now c.store-stored.result.table _ refl z.others ∙ s.1.0)
 
 pub returns-in-Header : goal.returns-in-Header
 returns-in-Header c = let a = c.args in
@@ -75,42 +67,30 @@ returns-in-Header c = let a = c.args in
       buffers = s.1.1;
     }
 
-pub returns-in-Done : goal.returns-in-Done
-returns-in-Done c = let a = c.args in
+pub returns-in-Done-clause-tables : goal.returns-in-Done-clause-tables
+returns-in-Done-clause-tables c =
+    let a = c.args in
     let y = body_from a.coding a.source.now in
     let t = tables_in a.tables a.slots.now a.header_slots.now in
     let b = buffers_of a.recipients.now a.identities.now a.keys.now a.headers.now in
     let e = rw c.body_size-n.ensures.0 at (c.parse_one-command.ensures a.plugin.now) in
-    record {
-      command = e;
-      number = (step_done a.machine a.plugin.now t b (verdict_said a.late) a.line.now y (ap (command_said a.plugin.now a.line.now (length y)) (sym c.in-Done.is) ∙ e)).0;
-      tables = (step_done a.machine a.plugin.now t b (verdict_said a.late) a.line.now y (ap (command_said a.plugin.now a.line.now (length y)) (sym c.in-Done.is) ∙ e)).1.0;
-      buffers = (step_done a.machine a.plugin.now t b (verdict_said a.late) a.line.now y (ap (command_said a.plugin.now a.line.now (length y)) (sym c.in-Done.is) ∙ e)).1.1;
-    }
+    (step_done a.machine a.plugin.now t b (verdict_said a.late) a.line.now y (ap (command_said a.plugin.now a.line.now (length y)) (sym c.in-Done.is) ∙ e)).1.0
 
-pub returns-in-Other : goal.returns-in-Other
-returns-in-Other c = let a = c.args in
+pub returns-in-Other-clause-tables : goal.returns-in-Other-clause-tables
+returns-in-Other-clause-tables c =
+    let a = c.args in
     let y = body_from a.coding a.source.now in
     let t = tables_in a.tables a.slots.now a.header_slots.now in
     let b = buffers_of a.recipients.now a.identities.now a.keys.now a.headers.now in
     let e = rw c.body_size-n.ensures.0 at (c.parse_one-command.ensures a.plugin.now) in
-    record {
-      command = e;
-      number = (step_other a.machine a.plugin.now t b (verdict_said a.late) a.line.now y (ap (command_said a.plugin.now a.line.now (length y)) (sym c.in-Other.is) ∙ e)).0;
-      tables = (step_other a.machine a.plugin.now t b (verdict_said a.late) a.line.now y (ap (command_said a.plugin.now a.line.now (length y)) (sym c.in-Other.is) ∙ e)).1.0;
-      buffers = (step_other a.machine a.plugin.now t b (verdict_said a.late) a.line.now y (ap (command_said a.plugin.now a.line.now (length y)) (sym c.in-Other.is) ∙ e)).1.1;
-    }
+    (step_other a.machine a.plugin.now t b (verdict_said a.late) a.line.now y (ap (command_said a.plugin.now a.line.now (length y)) (sym c.in-Other.is) ∙ e)).1.0
 
-pub returns-in-Refused : goal.returns-in-Refused
-returns-in-Refused c = let a = c.args in
+pub returns-in-Refused-clause-tables : goal.returns-in-Refused-clause-tables
+returns-in-Refused-clause-tables c =
+    let a = c.args in
     let y = body_from a.coding a.source.now in
     let t = tables_in a.tables a.slots.now a.header_slots.now in
     let b = buffers_of a.recipients.now a.identities.now a.keys.now a.headers.now in
     let e = rw c.body_size-n.ensures.0 at (c.parse_one-command.ensures a.plugin.now) in
     let k = ap (command_said a.plugin.now a.line.now (length y)) (sym c.in-Refused.is) ∙ e in
-    record {
-      command = k;
-      number = (step_bad a.machine a.plugin.now t b (verdict_said a.late) a.line.now y _ k (number_not_zero c.in-Refused.r)).0;
-      tables = (step_bad a.machine a.plugin.now t b (verdict_said a.late) a.line.now y _ k (number_not_zero c.in-Refused.r)).1.0;
-      buffers = (step_bad a.machine a.plugin.now t b (verdict_said a.late) a.line.now y _ k (number_not_zero c.in-Refused.r)).1.1;
-    }
+    (step_bad a.machine a.plugin.now t b (verdict_said a.late) a.line.now y _ k (number_not_zero c.in-Refused.r)).1.0

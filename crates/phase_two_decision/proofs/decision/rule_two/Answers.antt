@@ -1,11 +1,7 @@
 -- Each test in turn, the first that holds gives the number.
 use mathlib.Core.Path.{sym, ap, ◌∙◌}
 use Rattle.refusal.specs.Verdict.{verdict_said}
-use Rattle.refusal.proofs.Laws.Number.{number_not_zero}
 use Rattle.phase_two_decision.proofs.decision.rule_two.Goals as goal
-
-pub returns-in-Err : goal.returns-in-Err
-returns-in-Err c = rw (sym c.fault_of-fault.ensures, c.in-Err.is, number_not_zero c.in-Err.field-0)
 
 pub returns-then-is_missing : goal.returns-then-is_missing
 returns-then-is_missing c = rw (sym c.fault_of-fault.ensures ∙ ap verdict_said c.in_default.is, sym (c.is_missing.ensures c.args.slots.now) ∙ c.if-is_missing.true)
