@@ -11,8 +11,8 @@ ghost use Rattle.intake.specs.Intake.{intake_of, received_said, stored_in};
 ghost use Rattle.client_room.specs.Room.{stanza_ahead};
 ghost use Rattle.client_receiving.specs.Texts.{lent, Answers};
 
-use crate::texts::{begin, take_front, take_text};
-use intake::{Received, Turn};
+use crate::texts::{take_front, take_text};
+use intake::{Received, Turn, begin};
 use refusal::Refusal;
 use session::Session;
 use stanza::Continued;
@@ -42,7 +42,7 @@ fn take_joined(
     ensures name { result.session.name ≡ session.name }
 {
     let mut store = [0u8; stanza::LONGEST];
-    client_room::put_together(input, kept, &chunk[..k], &mut store);
+    intake::put_together(input, kept, &chunk[..k], &mut store);
     let whole = kept + k;
     take_front(
         session,

@@ -17,8 +17,8 @@ ghost use Rattle.client_room.specs.Room.{has_room};
 ghost use Rattle.client_receiving.specs.Replying.{due_sized, answered_with};
 ghost use Rattle.client_receiving.specs.Texts.{lent};
 
-use crate::texts::{begin, take_text};
-use intake::Received;
+use crate::texts::take_text;
+use intake::{Received, begin};
 use refusal::Refusal;
 use responses::Response;
 use session::{Phase, Session};

@@ -10,7 +10,7 @@ ghost use Rattle.plugin_receiving.specs.Receiving.{taking_said, receipt_said};
 
 use phase_one::{CommandOne, WordOne, step_one};
 use refusal::Refusal;
-use session::{Session, front};
+use session::{Outcome, Session, front};
 use stanza::Stanza;
 use tables::Coding;
 
@@ -21,11 +21,8 @@ pub(crate) struct Taken {
     pub taken: usize,
 }
 
-#[derive(Clone, Copy)]
-pub(crate) struct Receipt {
-    pub answer: Result<Taken, Refusal>,
-    pub session: Session,
-}
+// What a command came to.
+pub(crate) type Receipt = Outcome<Taken>;
 
 // The answer to a command that was judged.
 fn answer_to(verdict: Result<(), Refusal>, command: CommandOne, taken: usize) -> Result<Taken, Refusal>

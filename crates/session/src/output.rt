@@ -6,7 +6,23 @@ ghost use Rattle.stanza.specs.Writing.{written, buffer_after};
 ghost use Rattle.session.specs.Composing.{composed_said, composed_by};
 ghost use Rattle.refusal.specs.Verdict.{verdict_said};
 
+use crate::sessions::Session;
 use refusal::Refusal;
+
+// What a call came to: what it took or wrote, or the refusal; and the session.
+#[derive(Clone, Copy)]
+pub struct Outcome<T> {
+    pub answer: Result<T, Refusal>,
+    pub session: Session,
+}
+
+// A command that was sent: how many bytes were written.
+pub type Sent = Outcome<usize>;
+
+// A short store for a line, and the arguments that have room there behind a command word and its space.
+pub const SHORT_LINE: usize = 128;
+
+pub const SHORT_ARGUMENTS: usize = 112;
 
 // 15 where n bytes are more than the output takes.
 pub fn check_output(n: usize, capacity: usize) -> Result<(), Refusal>

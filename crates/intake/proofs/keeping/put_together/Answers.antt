@@ -2,8 +2,8 @@
 use mathlib.Core.Path.{sym}
 use lib.Seq.{length-take-le}
 use native.Mathlib.Omega.{arith}
-use Rattle.client_room.proofs.Laws.Stanzas.{put_together_is}
-use Rattle.client_room.proofs.stanzas.put_together.Goals as goal
+use Rattle.intake.proofs.Laws.Keeping.{put_together_is}
+use Rattle.intake.proofs.keeping.put_together.Goals as goal
 
 pub returns-then-input-kept : goal.returns-then-input-kept
 returns-then-input-kept c = λ l h. absurd (omega arith)
