@@ -2,6 +2,7 @@
 use mathlib.Core.Path.{sym, ap, ◌∙◌}
 use native.Mathlib.Omega.{arith}
 use borrow.Author.Tests.{le-leb, lt-leb}
+use Rattle.std.proofs.lemmas.Result.{err_from_is_err_and}
 use Rattle.stanza.specs.Arguments.{count_of}
 use Rattle.stanza.specs.Index.{read_index, index_said}
 use Rattle.phase_one.proofs.commands.parse_header.Goals as goal
@@ -9,12 +10,13 @@ use Rattle.phase_one.proofs.commands.parse_header.Goals as goal
 pub returns-then-count-lt3 : goal.returns-then-count-lt3
 returns-then-count-lt3 c = λ plugin. rw (lt-leb 3 (count_of c.args.line.now) (omega (arith, c.count.ensures)))
 
-pub returns-in-Ok : goal.returns-in-Ok
-returns-in-Ok c = λ plugin.
-    let e = ap read_index (sym c.argument-text.ensures) ∙ sym c.read_index-index.ensures ∙ ap index_said c.in-Ok.is in
+pub returns : goal.returns
+returns c = λ plugin.
+    let e = ap read_index (sym c.argument-text.ensures) ∙ sym c.in_ok-index.ensures in
     rw (le-leb 3 (count_of c.args.line.now) (omega (arith, c.count.ensures)), e)
 
-pub returns-in-Err : goal.returns-in-Err
-returns-in-Err c = λ plugin.
-    let e = ap read_index (sym c.argument-text.ensures) ∙ sym c.read_index-index.ensures ∙ ap index_said c.in-Err.is in
-    rw (le-leb 3 (count_of c.args.line.now) (omega (arith, c.count.ensures)), e)
+pub returns-in_err-index : goal.returns-in_err-index
+returns-in_err-index c = λ plugin.
+    let e = ap read_index (sym c.argument-text.ensures) ∙ sym c.in_err-index.ensures in
+    let p = err_from_is_err_and c.from_residual.result c.from_residual.ensures.1 in
+    rw (le-leb 3 (count_of c.args.line.now) (omega (arith, c.count.ensures)), e, p.1, p.2)
