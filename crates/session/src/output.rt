@@ -52,14 +52,9 @@ pub struct Composed {
 pub fn compose(put: Result<usize, Refusal>, store: &[u8], body: &[u8]) -> Result<Composed, Refusal>
     ensures { composed_said result ≡ composed_by (said put) store.now body.now }
 {
-    match put {
-        Err(_) => Err(Refusal::Unwritable),
-        Ok(n) => {
-            let size = stanza::size(front(store, n), body);
-            match size {
-                Ok(k) => Ok(Composed { line: n, stanza: k }),
-                Err(r) => Err(r),
-            }
-        }
-    }
+    let Ok(line) = put else {
+        return Err(Refusal::Unwritable);
+    };
+    let stanza = stanza::size(front(store, line), body)?;
+    Ok(Composed { line, stanza })
 }
