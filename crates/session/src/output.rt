@@ -25,10 +25,8 @@ pub fn write_judged(verdict: Result<(), Refusal>, line: &[u8], body: &[u8], out:
     ensures output { out.new ≡
         pick (eqb (verdict_said verdict) 0) (buffer_after line.now body.now out.old) out.old }
 {
-    match verdict {
-        Ok(()) => stanza::write(line, body, out),
-        Err(r) => Err(r),
-    }
+    verdict?;
+    stanza::write(line, body, out)
 }
 
 // The front of some bytes.
