@@ -30,7 +30,8 @@ pub enum WordOne {
     Other,
 }
 
-// A command of phase one: an entry, for a header stanza with its index; done; any other, which is ignored; or 4 or 5. An entry's mark is made when it is kept.
+// A command of phase one: an entry, for a header stanza with its index; done; or any other, which is ignored. An entry's mark is made when it is kept. One that
+// is read wrongly is 4 or 5 instead.
 #[derive(Clone, Copy)]
 pub enum CommandOne {
     Recipient,
@@ -39,7 +40,6 @@ pub enum CommandOne {
     Header(u32),
     Done,
     Other,
-    Refused(Refusal),
 }
 
 // Which command of phase one a word names for a machine. A match on the words themselves was tried: it tests byte by byte, and the proof did not close.
@@ -75,34 +75,31 @@ pub fn rest_of<'a>(line: &'a [u8]) -> &'a [u8]
 }
 
 // A recipient or an identity: one argument, no body.
-fn parse_text(kind: TextKind, line: &[u8], body: usize) -> CommandOne
+fn parse_text(kind: TextKind, line: &[u8], body: usize) -> Result<CommandOne, Refusal>
     ensures { (plugin : List ℕ) → command_said plugin line.now body result ≡ text_command kind plugin line.now body }
 {
     if stanza::count(line) != 2 {
-        return CommandOne::Refused(Refusal::BadCommand);
+        return Err(Refusal::BadCommand);
     }
     if body != 0 {
-        return CommandOne::Refused(Refusal::BadCommand);
+        return Err(Refusal::BadCommand);
     }
     match kind {
-        TextKind::Recipient => CommandOne::Recipient,
-        TextKind::Identity => CommandOne::Identity,
+        TextKind::Recipient => Ok(CommandOne::Recipient),
+        TextKind::Identity => Ok(CommandOne::Identity),
     }
 }
 
 // A header stanza: an index, a tag, any more arguments, any body.
-fn parse_header(line: &[u8], body: usize) -> CommandOne
+fn parse_header(line: &[u8], body: usize) -> Result<CommandOne, Refusal>
     ensures { (plugin : List ℕ) → command_said plugin line.now body result ≡ header_command plugin line.now body }
 {
     if stanza::count(line) < 3 {
-        return CommandOne::Refused(Refusal::BadCommand);
+        return Err(Refusal::BadCommand);
     }
     let text = stanza::argument(line, 1);
-    let index = stanza::read_index(text);
-    match index {
-        Ok(n) => CommandOne::Header(n),
-        Err(r) => CommandOne::Refused(r),
-    }
+    let index = stanza::read_index(text)?;
+    Ok(CommandOne::Header(index))
 }
 
 // No argument, and a body of n bytes.
@@ -113,7 +110,7 @@ fn is_bare(line: &[u8], body: usize, n: usize) -> bool
 }
 
 // The command of phase one that a stanza is, by its arguments and how many bytes its body has.
-pub(crate) fn parse_one(machine: Machine, line: &[u8], body: usize) -> CommandOne
+pub(crate) fn parse_one(machine: Machine, line: &[u8], body: usize) -> Result<CommandOne, Refusal>
     ensures { (plugin : List ℕ) → command_said plugin line.now body result ≡ command machine plugin line.now body }
 {
     let first = stanza::argument(line, 0);
@@ -124,32 +121,32 @@ pub(crate) fn parse_one(machine: Machine, line: &[u8], body: usize) -> CommandOn
         WordOne::RecipientStanza => parse_header(line, body),
         WordOne::WrapFileKey => {
             if is_bare(line, body, 16) {
-                return CommandOne::Key;
+                return Ok(CommandOne::Key);
             }
-            CommandOne::Refused(Refusal::BadCommand)
+            Err(Refusal::BadCommand)
         }
         WordOne::Done => {
             if is_bare(line, body, 0) {
-                return CommandOne::Done;
+                return Ok(CommandOne::Done);
             }
-            CommandOne::Refused(Refusal::BadCommand)
+            Err(Refusal::BadCommand)
         }
-        WordOne::Other => CommandOne::Other,
+        WordOne::Other => Ok(CommandOne::Other),
     }
 }
 
 // The word of a command.
-pub fn word_of(command: CommandOne) -> WordOne
+pub fn word_of(command: Result<CommandOne, Refusal>) -> WordOne
     ensures { (plugin line : List ℕ) (n : ℕ) → word_said result ≡ word_of (command_said plugin line n command) }
 {
     match command {
-        CommandOne::Recipient => WordOne::AddRecipient,
-        CommandOne::Identity => WordOne::AddIdentity,
-        CommandOne::Key => WordOne::WrapFileKey,
-        CommandOne::Header(_) => WordOne::RecipientStanza,
-        CommandOne::Done => WordOne::Done,
-        CommandOne::Other => WordOne::Other,
-        CommandOne::Refused(_) => WordOne::Other,
+        Ok(CommandOne::Recipient) => WordOne::AddRecipient,
+        Ok(CommandOne::Identity) => WordOne::AddIdentity,
+        Ok(CommandOne::Key) => WordOne::WrapFileKey,
+        Ok(CommandOne::Header(_)) => WordOne::RecipientStanza,
+        Ok(CommandOne::Done) => WordOne::Done,
+        Ok(CommandOne::Other) => WordOne::Other,
+        Err(_) => WordOne::Other,
     }
 }
 

@@ -180,13 +180,13 @@ fn keep_header(
 // What a command of phase one came to: the command, the number if it is refused, and the tables.
 #[derive(Clone, Copy)]
 pub struct StepOne {
-    pub command: CommandOne,
+    pub command: Result<CommandOne, Refusal>,
     pub verdict: Result<(), Refusal>,
     pub tables: Tables,
 }
 
 // What a command came to, by what storing it came to: its kind's table has changed, and no other.
-fn stepped(command: CommandOne, tables: Tables, kind: Kind, stored: Stored) -> StepOne
+fn stepped(command: Result<CommandOne, Refusal>, tables: Tables, kind: Kind, stored: Stored) -> StepOne
     ensures { result ≡ record { command = command; verdict = stored.verdict; tables = with_table tables kind stored.table } }
 {
     let verdict = stored.verdict;
@@ -233,12 +233,12 @@ pub fn step_one(
     let n = tables::body_size(coding, source);
     let command = parse_one(machine, line, n);
     match command {
-        CommandOne::Recipient => {
+        Ok(CommandOne::Recipient) => {
             let t = tables.recipients;
             let stored = keep_recipient(t, plugin, late, line, slots, recipients);
             stepped(command, tables, Kind::Recipients, stored)
         }
-        CommandOne::Identity => {
+        Ok(CommandOne::Identity) => {
             let t = tables.identities;
             let span = span_of(Kind::Identities);
             let stored = keep_text(
@@ -253,13 +253,13 @@ pub fn step_one(
             );
             stepped(command, tables, Kind::Identities, stored)
         }
-        CommandOne::Key => {
+        Ok(CommandOne::Key) => {
             let t = tables.keys;
             let span = span_of(Kind::Keys);
             let stored = t.store(span, late, coding, source, 0, Mark::NONE, slots, keys);
             stepped(command, tables, Kind::Keys, stored)
         }
-        CommandOne::Header(index) => {
+        Ok(CommandOne::Header(index)) => {
             let t = tables.headers;
             let stored = keep_header(
                 t,
@@ -275,17 +275,17 @@ pub fn step_one(
             );
             stepped(command, tables, Kind::Headers, stored)
         }
-        CommandOne::Done => StepOne {
+        Ok(CommandOne::Done) => StepOne {
             command: command,
             verdict: late,
             tables: tables,
         },
-        CommandOne::Other => StepOne {
+        Ok(CommandOne::Other) => StepOne {
             command: command,
             verdict: late,
             tables: tables,
         },
-        CommandOne::Refused(r) => StepOne {
+        Err(r) => StepOne {
             command: command,
             verdict: Err(r),
             tables: tables,

@@ -41,10 +41,8 @@ pub fn write_judged(verdict: Result<(), Refusal>, line: &[u8], body: &[u8], out:
     ensures output { out.new ≡
         pick (eqb (verdict_said verdict) 0) (buffer_after line.now body.now out.old) out.old }
 {
-    match verdict {
-        Ok(()) => stanza::write(line, body, out),
-        Err(r) => Err(r),
-    }
+    verdict?;
+    stanza::write(line, body, out)
 }
 
 // The front of some bytes.
@@ -68,14 +66,9 @@ pub struct Composed {
 pub fn compose(put: Result<usize, Refusal>, store: &[u8], body: &[u8]) -> Result<Composed, Refusal>
     ensures { composed_said result ≡ composed_by (said put) store.now body.now }
 {
-    match put {
-        Err(_) => Err(Refusal::Unwritable),
-        Ok(n) => {
-            let size = stanza::size(front(store, n), body);
-            match size {
-                Ok(k) => Ok(Composed { line: n, stanza: k }),
-                Err(r) => Err(r),
-            }
-        }
-    }
+    let Ok(line) = put else {
+        return Err(Refusal::Unwritable);
+    };
+    let stanza = stanza::size(front(store, line), body)?;
+    Ok(Composed { line, stanza })
 }
