@@ -186,7 +186,7 @@ impl<'a> Separated<'a> {
 
     // A refusal, with the place where it is 16, and no name.
     fn refuse(&self, r: Refusal) -> ReadText
-        ensures answer { result.answer ≡ Written.Refused r }
+        ensures answer { result.answer ≡ Err r }
         ensures place { result.place ≡ pick (eqb (number_of r) 16) (place_in self.now.text.now) 0 }
         ensures bytes { result.name.bytes ≡ padded [] }
         ensures length { result.name.length ≡ 0 }
