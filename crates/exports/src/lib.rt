@@ -162,7 +162,7 @@ pub extern "C" fn flugremio_read_identity(
     read_text(TextKind::Identity, text, name, named, out, length, place)
 }
 
-// The same for a text of the kind.
+// The same for a text of the kind. Its parameters are no struct: they are those of the C functions.
 fn read_text(
     kind: TextKind,
     text: &[u8],
