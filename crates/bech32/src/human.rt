@@ -15,6 +15,7 @@ use symbols::lowered;
 pub const LONGEST_NAME: usize = 32;
 
 // A plugin's name by value: bytes[..length], zeros behind it. It is empty where there is none.
+// No slice and no Option: no heap, and what `read` and `name_of` ensure of both fields may not change.
 #[derive(Clone, Copy)]
 pub struct Name {
     pub bytes: [u8; LONGEST_NAME],

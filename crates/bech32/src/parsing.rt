@@ -27,7 +27,7 @@ pub struct ReadText {
     pub name: Name,
 }
 
-// Where no place comes with an answer.
+// Where no place comes with an answer. No Option: what `read` ensures of the place may not change.
 const NO_PLACE: usize = 0;
 
 // Whether no letter is in lower case. No early exit, so that the loop is vectorised.
@@ -68,7 +68,7 @@ fn eight_without_one(eight: &[u8; 8]) -> bool
     eight.iter().fold(true, |good, b| good & (*b != b'1'))
 }
 
-// Where the last "1" stands, looked for from the right; the length where there is none.
+// Where the last "1" stands, looked for from the right; the length where there is none, as `separator` says.
 fn find_separator(text: &[u8]) -> usize
     ensures { result ≡ separator text.now }
 {
@@ -257,7 +257,7 @@ fn refused(r: Refusal, place: usize) -> ReadText
     }
 }
 
-// The reader's number for a text of the kind, of any plugin: 0, or 16, 21, 22.
+// The reader's number for a text of the kind, of any plugin: 0, or 16, 21, 22. A number, as `judge` and `mark` ensure.
 pub fn judge(kind: TextKind, text: &[u8]) -> u8
     ensures { result ≡ text_number (parse (form_of kind) text.now) }
 {

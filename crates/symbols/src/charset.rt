@@ -67,7 +67,7 @@ const VALUES: [u8; 256] = [
     32, 32, 32, 32, 32, 32, 32, 32, 32, 32, 32, 32,
 ];
 
-// The table by value: a caller copies it once and lends it to each pass over a text.
+// The table by value: a caller copies it once and lends it to each pass over a text. No static as FOLDS: the public functions are lent it.
 pub fn values() -> [u8; 256]
     ensures { Values result }
 {

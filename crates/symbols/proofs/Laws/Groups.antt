@@ -6,7 +6,6 @@ use mathlib.Core.List.{List, [], ◌∷◌, ◌++◌, map, map-append}
 use lib.ListN.{length, replicate, take, drop, get_or, length-map, length-take, length-drop, drop_of_length-le}
 use lib.Seq.{drop-cons, drop-drop, take-add, take_all, length-take-le}
 use native.Mathlib.Nat.{add-zero, add-mul-mod_self_left}
-use native.Mathlib.Decide.{dec_le}
 use native.Mathlib.Omega.{arith}
 use Rattle.std.specs.Simd.{first_chunks}
 use Rattle.refusal.proofs.Laws.Below.{tabulate}

@@ -3,8 +3,5 @@ use mathlib.Core.Path.{◌∙◌}
 use Rattle.symbols.proofs.Laws.Charset.{upper_ascii}
 use Rattle.bech32.proofs.charset.cased.Goals as goal
 
-pub returns-in-Recipient : goal.returns-in-Recipient
-returns-in-Recipient c = rw c.in-Recipient.is
-
 pub returns-in-Identity : goal.returns-in-Identity
 returns-in-Identity c = rw c.in-Identity.is (c.to_ascii_uppercase.ensures.value ∙ upper_ascii c.args.b)

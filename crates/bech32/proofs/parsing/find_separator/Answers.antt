@@ -29,9 +29,6 @@ loop-before-preserved c = let front = c.loop-before.front.now in
       all_append is_not_one eight inv.0 ∙ true_and (all is_not_one eight) (all is_not_one inv.0) (sym c.eight_without_one.ensures ∙ c.if-not-eight_without_one.false) inv.2,
     )
 
-pub loop-last-init : goal.loop-last-init
-loop-last-init c = c.loop-before.invariant
-
 pub returns-then-last-eq49 : goal.returns-then-last-eq49
 returns-then-last-eq49 c = let before = c.in-Some-split_last.before.now in
     let inv = c.loop-last.invariant in

@@ -10,6 +10,6 @@ use Rattle.symbols.proofs.regroup.symbols_rest.Goals as goal
 pub returns : goal.returns
 returns c = let t = c.args.payload.now in
     let w : c.symbols_group.new.out ≡ symbols (t ++ drop (length t) (replicate 5 0)) =
-      c.symbols_group.ensures ∙ ap (λ l. symbols (l ++ drop (length t) (replicate 5 0)) ++ []) c.copy_from_slice.ensures.after ∙ append-nil (symbols (t ++ drop (length t) (replicate 5 0))) in
+    c.symbols_group.ensures ∙ ap (λ l. symbols (l ++ drop (length t) (replicate 5 0)) ++ []) c.copy_from_slice.ensures.after ∙ append-nil (symbols (t ++ drop (length t) (replicate 5 0))) in
     let e : c.copy_from_slice-2.new.self ≡ symbols t = c.copy_from_slice-2.ensures.after ∙ ap (take (symbols_size (length t))) w ∙ symbols_front t c.requires.payload_len_bound in
     ap₂ (λ x n. x ++ drop n c.args.out.now) e (sym (symbols_length t))
