@@ -1,4 +1,5 @@
-// What the decision of phase two asks of the tables, each question by the tables that it needs.
+// What the decision of phase two asks of the tables, each question by the tables that it needs. Table, span and slots stay three parameters: the functions of
+// `look_up` that are public take them so.
 ghost use Rattle.std.specs.Prelude.{◌≡◌, not, ◌||◌, [], ◌+◌, ltb, take};
 ghost use Rattle.tables.specs.Tables.{table_in};
 ghost use Rattle.session.specs.Tables.{span_of, tables_in};

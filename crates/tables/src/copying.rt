@@ -2,7 +2,7 @@
 ghost use Rattle.std.specs.Prelude.{◌≡◌, ◌∷◌, ◌++◌, ◌+◌, ◌≤◌, length, drop, option_copied};
 ghost use Rattle.tables.specs.Bodies.{body_from, payload_from};
 
-// How a body is given.
+// How a body is given. It stays a parameter beside the body's bytes: `Table::store`, `Table::store_lines` and `body_size` are public.
 #[derive(Clone, Copy)]
 pub enum Coding {
     Bytes,
