@@ -233,6 +233,7 @@ impl Table {
 
 // Whether an entry shows a text. The last byte is compared first, since recipients have their front in common and differ in the checksum: `==` alone took more
 // than twice the instructions.
+#[tactic(auto, using(crate::proofs::Laws::Repeats::shows_other, crate::proofs::Laws::Repeats::shows_part, crate::proofs::Laws::Repeats::pointwise_same))]
 fn is_showing(e: Entry, text: &[u8], buffer: &[u8]) -> bool
     ensures { result ≡ shows e buffer.now text.now }
 {

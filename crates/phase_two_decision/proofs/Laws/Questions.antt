@@ -1,16 +1,13 @@
 -- The questions, by the slots of the entries.
-use Prim.Native.Nat.{ℕ, zero, suc, ◌+◌, ◌-◌, ◌<◌, ◌≤◌}
-use mathlib.Core.Path.{◌≡◌, refl, sym, ap, ◌∙◌}
+use Prim.Native.Nat.{ℕ, zero, suc, ◌+◌, ◌<◌, ◌≤◌}
+use mathlib.Core.Path.{◌≡◌, refl, ap, ◌∙◌}
 use mathlib.Core.Bool.{Bool, true, false, not, ◌&&◌, ◌||◌}
 use mathlib.Core.List.{List, [], ◌∷◌, ◌++◌, map}
-use lib.Dec.{eqb}
 use lib.ListN.{length, take, drop, get_or}
 use native.Mathlib.Numerals.{add-one}
 use native.Mathlib.Omega.{arith}
-use borrow.Author.Tests.{eqb-true, eqb-false, eq-eqb, ne_eqb}
 use Rattle.std.specs.List.{list_all, enumerate_from}
 use Rattle.refusal.specs.Pick.{pick}
-use Rattle.refusal.proofs.Laws.Booleans.{cases}
 use Rattle.conversation.specs.PhaseTwo.{Label, how_many, is_any, passes, among, is_file, is_nonconforming, are_reported, are_stanzas_reported, is_naming}
 use Rattle.look_up.specs.LookUp.{number_of}
 use Rattle.look_up.proofs.Laws.Labels.{slot_label}
@@ -62,12 +59,6 @@ module _ (all errors : List Label) where
       ap (λ b. is_settled n (slot_label e) && b) (s ∙ ap (λ before. are_stanzas_reported before (map slot_label es) errors) (ap (λ k. take k all) (add-one n) ∙ r.0))
 
 -- ---- an error for a file's header stanza, by its mark
-
-pub about_low : (m f : ℕ) → m < 3 → false ≡ eqb m (3 + f)
-about_low m f h = sym (ne_eqb m (3 + f) (λ e. omega arith))
-
-pub about_high : (m f : ℕ) → 3 ≤ m → eqb (m - 3) f ≡ eqb m (3 + f)
-about_high m f h = cases (eqb (m - 3) f) (λ e. let z = eqb-true (m - 3) f e in e ∙ sym (eq-eqb m (3 + f) (omega arith))) (λ e. let z = eqb-false (m - 3) f e in e ∙ sym (ne_eqb m (3 + f) (λ y. z (omega arith))))
 
 -- ---- the i-th of those that pass a test
 
