@@ -109,6 +109,7 @@ fn receive_held(
     )
 }
 
+// plugin_receiving's receive begins alike: what the two share are intake's four functions; one for all four would hand an accepted answer back as an error.
 // A chunk of the plugin's commands: how many were taken and which was the last, how many bytes were written to the front of `out`, and the session. 13 or 14
 // out of turn, and 15 where what is written or kept back has no room: then nothing is taken and nothing changes. 1, 3, 4, 5, 6, 9, 10, 11 or 8 close the
 // session, and 13 is given for bytes behind done: the commands before them stand.

@@ -130,11 +130,7 @@ fn reply_ahead(
 fn at_most_longest(n: usize) -> usize
     ensures { result ≡ min n 8192 }
 {
-    if n < stanza::LONGEST {
-        n
-    } else {
-        stanza::LONGEST
-    }
+    n.min(stanza::LONGEST)
 }
 
 // A response of so many bytes, where bytes were kept back: they are copied first, for the input is written anew.

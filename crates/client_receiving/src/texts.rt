@@ -14,7 +14,8 @@ use client_room::next_stanza;
 use intake::{Last, Received, Turn, begin, stop};
 use session::{Phase, Session, WordTwo};
 
-// One command more, answered with so many bytes.
+// One command more, answered with so many bytes. Not one with plugin_receiving's answer_behind: shared it would be public, and no public function requires room
+// for a count.
 fn go_on(so_far: Received, word: WordTwo, size: usize, session: Session) -> Received
     requires { (so_far.count + 1 ≤ 18446744073709551615) × (so_far.written + size ≤ 18446744073709551615) }
     ensures { result ≡ record {
@@ -34,7 +35,7 @@ fn go_on(so_far: Received, word: WordTwo, size: usize, session: Session) -> Rece
     }
 }
 
-// The text that waits for the host's reply, of the last stanza: none where no reply is due.
+// The text that waits for the host's reply, of the last stanza: none where no reply is due. awaited_text has the same arms, but it cuts the text in one of them.
 fn awaited_in<'a>(phase: Phase, text: &'a [u8]) -> &'a [u8]
     ensures { result.now ≡ awaited_behind client phase text.now }
 {
@@ -105,16 +106,11 @@ pub(crate) fn take_text(
 fn is_waiting(phase: Phase) -> bool
     ensures { result ≡ is_waiting client phase }
 {
-    match phase {
-        Phase::One => false,
-        Phase::Two => false,
-        Phase::Awaiting(_) => true,
-        Phase::Ended => false,
-        Phase::Closed => false,
-    }
+    matches!(phase, Phase::Awaiting(_))
 }
 
-// A text that is taken as one stanza, and the text behind it.
+// A text that is taken as one stanza, and the text behind it. Its stanza is a turn of take_text's loop; one function for both would take the loop's variables and
+// hand all of them back.
 pub(crate) fn take_front(
     session: Session,
     front: &[u8],

@@ -80,7 +80,8 @@ fn fits(
     is_keepable(so_far.phase, text.len() - at)
 }
 
-// The same of a text that is taken as one stanza, and the text behind it.
+// The same of a text that is taken as one stanza, and the text behind it. Its stanza is a turn of the loop above; one function for both would take the loop's
+// variables and hand all of them back.
 fn front_fits(
     session: Session,
     front: &[u8],

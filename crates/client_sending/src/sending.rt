@@ -1,4 +1,5 @@
-// Phase one sent: a command is put together, judged as the text that it makes, kept, and written.
+// Phase one sent: a command is put together, judged as the text that it makes, kept, and written. plugin_sending's file is alike, but its words, buffers, rules
+// and phases are phase two's: one for both would take each as a closure and require its calls, and no public function requires anything.
 ghost use Rattle.std.specs.Prelude.{◌≡◌, ◌≤◌, min, length};
 ghost use Rattle.session.specs.Session.{session_of, carried_by};
 ghost use Rattle.phase_one.specs.Commands.{word_said, line_sent};

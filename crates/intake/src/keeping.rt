@@ -24,11 +24,7 @@ const MOST_UNFINISHED: usize = stanza::LONGEST - 1;
 pub fn kept_of(kept: usize) -> usize
     ensures { result ≡ min kept 8191 }
 {
-    if kept < MOST_UNFINISHED {
-        kept
-    } else {
-        MOST_UNFINISHED
-    }
+    kept.min(MOST_UNFINISHED)
 }
 
 // A part behind the first bytes of `out`; nothing where it is too short.

@@ -14,7 +14,7 @@ use session::{Outcome, Session, front};
 use stanza::Stanza;
 use tables::Coding;
 
-// Which command was received and how many bytes of the text it took.
+// Which command was received and how many bytes of the text it took. Not client_room's Taken of another word: nothing is written for a command of phase one.
 #[derive(Clone, Copy)]
 pub(crate) struct Taken {
     pub word: WordOne,

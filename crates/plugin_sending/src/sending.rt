@@ -1,4 +1,4 @@
-// Phase two sent: a command is put together, judged as the text that it makes, kept, and written.
+// Phase two sent: a command is put together, judged as the text that it makes, kept, and written. Not one with client_sending's file, which says why.
 ghost use Rattle.std.specs.Prelude.{◌≡◌, ◌≤◌, min, length};
 ghost use Rattle.session.specs.Session.{session_of, carried_by};
 ghost use Rattle.conversation.specs.CommandsTwo.{line_sent};

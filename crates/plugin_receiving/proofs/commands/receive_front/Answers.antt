@@ -39,9 +39,14 @@ returns-then-k-eq0 c = let a = c.args in
       rest = (λ v. ap (λ (r : Received). is_waiting client r.session.phase) e ∙ ap (is_waiting client) p.phase_value, omega (arith, ap (λ (r : Received). r.count) e), ap (λ (r : Received). r.written) e, ap (λ (r : Received). r.session.name) e);
     }
 
-pub slice_bounds-put_together-end : goal.slice_bounds-put_together-end
-slice_bounds-put_together-end c = let a = c.args in
+pub slice_bounds-put_together-end-2 : goal.slice_bounds-put_together-end-2
+slice_bounds-put_together-end-2 c = let a = c.args in
     sym (length-take-le a.k a.chunk.now (front_within a.session.reading (min a.session.kept 8191) a.chunk.now a.k c.requires.chunk_value (omega arith)).0)
+
+pub overflow_add-whole : goal.overflow_add-whole
+overflow_add-whole c = let a = c.args in
+    let w = front_within a.session.reading (min a.session.kept 8191) a.chunk.now a.k c.requires.chunk_value (omega arith) in
+    omega (arith, c.kept_of-kept.ensures, w.1)
 
 pub answer_behind-requires : goal.answer_behind-requires
 answer_behind-requires c = rw c.begin-in-Ok.ensures (omega arith)
@@ -59,12 +64,12 @@ returns-in-Err c = let a = c.args in
     let l = length-take-le a.k a.chunk.now w.0 in
     let e = joined_front a.input.now (take a.k a.chunk.now) _ _ kept a.k i l (c.put_together.ensures i (omega (arith, w.1, l, c.kept_of-kept.ensures))) in
     let at = c.front.ensures ∙ e ∙ ap (λ j. take j a.input.now ++ take a.k a.chunk.now) c.kept_of-kept.ensures in
-    let f = fronted a.session a.slots.now a.header_slots.now a.slots.now a.header_slots.now b b a.input.now a.chunk.now a.k _ (Err q) c.moved.result long c.requires.phase_value c.requires.chunk_value (λ z. c.if-k-eq0.false z) text at
-    (rw (c.moved.ensures, c.phase_refused.ensures) (refusal_is a.session.machine (name_of a.session.name) a.session.screen a.session.phase (tables_in a.session.tables a.slots.now a.header_slots.now) b (number_of q) ∙ ap (λ r. received_as r s text b) (sym (ap read_said c.in-Err.is) ∙ c.read-first.ensures)))
-    refl in
+    let f = fronted a.session a.slots.now a.header_slots.now a.slots.now a.header_slots.now b b a.input.now a.chunk.now a.k _ (Err q) c.moved-after.result long c.requires.phase_value c.requires.chunk_value (λ z. c.if-k-eq0.false z) text at
+    (rw (c.moved-after.ensures, c.phase_refused.ensures) (refusal_is a.session.machine (name_of a.session.name) a.session.screen a.session.phase (tables_in a.session.tables a.slots.now a.header_slots.now) b (number_of q) ∙ ap (λ r. received_as r s text b) (sym (ap read_said c.in-Err.is) ∙ c.read-first.ensures)))
+    (c.settled.ensures ∙ ap (λ z. answer_behind z (Err q) c.moved-after.result) c.begin-in-Err.ensures) in
     record {
       outcome = f.comes;
-      rest = (f.none_due, f.count, f.written, ap (λ s. s.name) c.moved.ensures);
+      rest = (f.none_due, f.count, f.written, ap (λ (r : Received). r.session.name) c.settled.ensures ∙ ap (λ s. s.name) c.moved-after.ensures);
     }
 
 pub returns-in-Ok : goal.returns-in-Ok

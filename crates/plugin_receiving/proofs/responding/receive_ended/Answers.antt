@@ -15,6 +15,11 @@ pub slice_bounds-put_together-end : goal.slice_bounds-put_together-end
 slice_bounds-put_together-end c = let a = c.args in
     sym (length-take-le a.k a.chunk.now (front_within a.session.reading (min a.session.kept 8191) a.chunk.now a.k c.requires.chunk_value (omega arith)).0)
 
+pub overflow_add-whole : goal.overflow_add-whole
+overflow_add-whole c = let a = c.args in
+    let w = front_within a.session.reading (min a.session.kept 8191) a.chunk.now a.k c.requires.chunk_value (omega arith) in
+    omega (arith, c.kept_of-kept.ensures, w.1)
+
 pub overflow_sub-left : goal.overflow_sub-left
 overflow_sub-left c = let a = c.args in
     let p = c.requires in
