@@ -28,7 +28,11 @@ pub(crate) struct Receipt {
 }
 
 // The answer to a command that was judged.
-fn answer_to(verdict: Result<(), Refusal>, command: Result<CommandOne, Refusal>, taken: usize) -> Result<Taken, Refusal>
+fn answer_to(
+    verdict: Result<(), Refusal>,
+    command: Result<CommandOne, Refusal>,
+    taken: usize,
+) -> Result<Taken, Refusal>
     ensures { (plugin line : List ℕ) (n : ℕ) → taking_said result ≡ answer_of (verdict_said verdict) (command_said plugin line n command) taken }
 {
     verdict?;
