@@ -27,16 +27,11 @@ use session::{Phase, Session};
 fn reply_size(phase: Phase, response: Response, body: &[u8]) -> Result<usize, Refusal>
     ensures { said result ≡ due_sized (due_in phase) response body.now }
 {
-    let due = intake::answer_due(phase);
-    match due {
-        Err(r) => Err(r),
-        Ok(word) => {
-            if !responses::fits_whole(word, response, body.len()) {
-                return Err(Refusal::UnfitResponse);
-            }
-            responses::size(response, body)
-        }
+    let word = intake::answer_due(phase)?;
+    if !responses::fits_whole(word, response, body.len()) {
+        return Err(Refusal::UnfitResponse);
     }
+    responses::size(response, body)
 }
 
 // Whether a response of so many bytes has room, and behind it bytes that were kept back.

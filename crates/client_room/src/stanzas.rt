@@ -30,22 +30,18 @@ pub type Step = Outcome<Taken>;
 // The answer to a command that was judged.
 pub fn answer_to(
     verdict: Result<(), Refusal>,
-    command: CommandTwo,
+    command: Result<CommandTwo, Refusal>,
     taken: usize,
     written: usize,
 ) -> Result<Taken, Refusal>
     ensures { taking_said result ≡ answer_of (verdict_said verdict) (command_said command) taken written }
 {
-    match verdict {
-        Ok(()) => {
-            Ok(Taken {
-                word: phase_two_commands::word_two_of(command),
-                taken: taken,
-                written: written,
-            })
-        }
-        Err(r) => Err(r),
-    }
+    verdict?;
+    Ok(Taken {
+        word: phase_two_commands::word_two_of(command),
+        taken: taken,
+        written: written,
+    })
 }
 
 // The stanza at the front of a text, where commands are received: in phase two, with no reply due.

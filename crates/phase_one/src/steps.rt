@@ -186,7 +186,12 @@ pub struct StepOne {
 }
 
 // What a command came to, by what storing it came to: its kind's table has changed, and no other.
-fn stepped(command: Result<CommandOne, Refusal>, tables: Tables, kind: Kind, stored: Stored) -> StepOne
+fn stepped(
+    command: Result<CommandOne, Refusal>,
+    tables: Tables,
+    kind: Kind,
+    stored: Stored,
+) -> StepOne
     ensures { result ≡ record { command = command; verdict = stored.verdict; tables = with_table tables kind stored.table } }
 {
     let verdict = stored.verdict;

@@ -37,7 +37,11 @@ fn phase_after(command: Result<CommandOne, Refusal>) -> Phase
 }
 
 // The phase behind a command that was received in a phase.
-pub fn phase_received(phase: Phase, verdict: Result<(), Refusal>, command: Result<CommandOne, Refusal>) -> Phase
+pub fn phase_received(
+    phase: Phase,
+    verdict: Result<(), Refusal>,
+    command: Result<CommandOne, Refusal>,
+) -> Phase
     ensures { (plugin line : List ℕ) (n : ℕ) → result ≡ phase_received phase (verdict_said verdict) (command_said plugin line n command) }
 {
     match verdict {
@@ -47,7 +51,11 @@ pub fn phase_received(phase: Phase, verdict: Result<(), Refusal>, command: Resul
 }
 
 // The phase behind a command that was sent in a phase: no refusal closes the session.
-pub fn phase_sent(phase: Phase, verdict: Result<(), Refusal>, command: Result<CommandOne, Refusal>) -> Phase
+pub fn phase_sent(
+    phase: Phase,
+    verdict: Result<(), Refusal>,
+    command: Result<CommandOne, Refusal>,
+) -> Phase
     ensures { (plugin line : List ℕ) (n : ℕ) → result ≡ phase_sent phase (verdict_said verdict) (command_said plugin line n command) }
 {
     match verdict {

@@ -17,7 +17,12 @@ use session::{Kind, Mark, Tables, span_of};
 use tables::{Coding, body_size};
 
 // How many bytes a command's payload has, by its arguments' text and its body: both are slices, so the sum fits.
-pub fn payload_size(command: Result<CommandTwo, Refusal>, line: &[u8], coding: Coding, source: &[u8]) -> usize
+pub fn payload_size(
+    command: Result<CommandTwo, Refusal>,
+    line: &[u8],
+    coding: Coding,
+    source: &[u8],
+) -> usize
     ensures { result ≡ length (payload_of (command_said command) line.now (body_from coding source.now)) }
 {
     match command {

@@ -76,7 +76,11 @@ pub fn phase_received_two(
 }
 
 // The phase behind a command that was sent in a phase: no refusal closes the session.
-pub fn phase_sent_two(phase: Phase, verdict: Result<(), Refusal>, command: Result<CommandTwo, Refusal>) -> Phase
+pub fn phase_sent_two(
+    phase: Phase,
+    verdict: Result<(), Refusal>,
+    command: Result<CommandTwo, Refusal>,
+) -> Phase
     ensures { result ≡ pick (eqb (verdict_said verdict) 0) (phase_sent (command_said command)) phase }
 {
     match verdict {

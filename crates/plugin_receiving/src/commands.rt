@@ -24,13 +24,8 @@ use stanza::Stanza;
 fn next_command(verdict: Result<(), Refusal>, phase: Phase, rest: &[u8]) -> Result<Stanza, Refusal>
     ensures { read_said result ≡ next_in (verdict_said verdict) phase (read_first rest.now) }
 {
-    if let Err(r) = verdict {
-        return Err(r);
-    }
-    let turn = phase_one::turn_one(phase);
-    if let Err(r) = turn {
-        return Err(r);
-    }
+    verdict?;
+    phase_one::turn_one(phase)?;
     stanza::read(rest)
 }
 

@@ -25,16 +25,18 @@ pub(crate) struct Taken {
 pub(crate) type Receipt = Outcome<Taken>;
 
 // The answer to a command that was judged.
-fn answer_to(verdict: Result<(), Refusal>, command: CommandOne, taken: usize) -> Result<Taken, Refusal>
+fn answer_to(
+    verdict: Result<(), Refusal>,
+    command: Result<CommandOne, Refusal>,
+    taken: usize,
+) -> Result<Taken, Refusal>
     ensures { (plugin line : List ℕ) (n : ℕ) → taking_said result ≡ answer_of (verdict_said verdict) (command_said plugin line n command) taken }
 {
-    match verdict {
-        Ok(()) => Ok(Taken {
-            word: phase_one::word_of(command),
-            taken: taken,
-        }),
-        Err(r) => Err(r),
-    }
+    verdict?;
+    Ok(Taken {
+        word: phase_one::word_of(command),
+        taken: taken,
+    })
 }
 
 // A whole stanza at the front of a text.

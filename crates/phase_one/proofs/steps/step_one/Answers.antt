@@ -1,15 +1,14 @@
--- Each arm is one law of a command that is kept, refused or ignored; parsing says which it is, storing what it came to.
+-- Each arm is one law of a command that is kept; parsing says which it is, storing what it came to.
 use mathlib.Core.Path.{refl, sym, ap, ◌∙◌}
 use lib.ListN.{length}
 use Rattle.std.specs.Prelude.{Ok}
 use Rattle.refusal.specs.Verdict.{verdict_said}
-use Rattle.refusal.proofs.Laws.Number.{number_not_zero}
 use Rattle.tables.specs.Bodies.{body_from}
 use Rattle.session.specs.Tables.{tables_in}
 use Rattle.session.proofs.Laws.Putting.{put_recipients, put_identities, put_keys, put_headers}
 use Rattle.phase_one.specs.Commands.{command_said}
 use Rattle.phase_one.specs.PhaseOne.{buffers_of}
-use Rattle.phase_one.proofs.Laws.PhaseOne.{step_bad, step_done, step_other, step_recipient, step_identity, step_key, step_header}
+use Rattle.phase_one.proofs.Laws.PhaseOne.{step_recipient, step_identity, step_key, step_header}
 use Rattle.phase_one.proofs.steps.step_one.Goals as goal
 
 pub returns-in-Ok-Recipient : goal.returns-in-Ok-Recipient
@@ -74,44 +73,4 @@ returns-in-Ok-Header c = let a = c.args in
       number = rw c.stepped-in-Ok-Header.ensures s.0;
       tables = rw c.stepped-in-Ok-Header.ensures (put_headers a.tables a.slots.now c.keep_header-stored.new.slots c.keep_header-stored.result.table _ refl a.header_slots.now ∙ s.1.0);
       buffers = s.1.1;
-    }
-
-pub returns-in-Ok-Done : goal.returns-in-Ok-Done
-returns-in-Ok-Done c = let a = c.args in
-    let y = body_from a.coding a.source.now in
-    let t = tables_in a.tables a.slots.now a.header_slots.now in
-    let b = buffers_of a.recipients.now a.identities.now a.keys.now a.headers.now in
-    let e = rw c.body_size-n.ensures.0 at (c.parse_one-command.ensures a.plugin.now) in
-    record {
-      command = e;
-      number = (step_done a.machine a.plugin.now t b (verdict_said a.late) a.line.now y (ap (command_said a.plugin.now a.line.now (length y)) (sym (c.in-Ok-Done.is ∙ ap Ok (rw c.in-Ok-Done.is at c.in-Ok-Done.field-0-is))) ∙ e)).0;
-      tables = (step_done a.machine a.plugin.now t b (verdict_said a.late) a.line.now y (ap (command_said a.plugin.now a.line.now (length y)) (sym (c.in-Ok-Done.is ∙ ap Ok (rw c.in-Ok-Done.is at c.in-Ok-Done.field-0-is))) ∙ e)).1.0;
-      buffers = (step_done a.machine a.plugin.now t b (verdict_said a.late) a.line.now y (ap (command_said a.plugin.now a.line.now (length y)) (sym (c.in-Ok-Done.is ∙ ap Ok (rw c.in-Ok-Done.is at c.in-Ok-Done.field-0-is))) ∙ e)).1.1;
-    }
-
-pub returns-in-Ok-Other : goal.returns-in-Ok-Other
-returns-in-Ok-Other c = let a = c.args in
-    let y = body_from a.coding a.source.now in
-    let t = tables_in a.tables a.slots.now a.header_slots.now in
-    let b = buffers_of a.recipients.now a.identities.now a.keys.now a.headers.now in
-    let e = rw c.body_size-n.ensures.0 at (c.parse_one-command.ensures a.plugin.now) in
-    record {
-      command = e;
-      number = (step_other a.machine a.plugin.now t b (verdict_said a.late) a.line.now y (ap (command_said a.plugin.now a.line.now (length y)) (sym (c.in-Ok-Other.is ∙ ap Ok (rw c.in-Ok-Other.is at c.in-Ok-Other.field-0-is))) ∙ e)).0;
-      tables = (step_other a.machine a.plugin.now t b (verdict_said a.late) a.line.now y (ap (command_said a.plugin.now a.line.now (length y)) (sym (c.in-Ok-Other.is ∙ ap Ok (rw c.in-Ok-Other.is at c.in-Ok-Other.field-0-is))) ∙ e)).1.0;
-      buffers = (step_other a.machine a.plugin.now t b (verdict_said a.late) a.line.now y (ap (command_said a.plugin.now a.line.now (length y)) (sym (c.in-Ok-Other.is ∙ ap Ok (rw c.in-Ok-Other.is at c.in-Ok-Other.field-0-is))) ∙ e)).1.1;
-    }
-
-pub returns-in-Err : goal.returns-in-Err
-returns-in-Err c = let a = c.args in
-    let y = body_from a.coding a.source.now in
-    let t = tables_in a.tables a.slots.now a.header_slots.now in
-    let b = buffers_of a.recipients.now a.identities.now a.keys.now a.headers.now in
-    let e = rw c.body_size-n.ensures.0 at (c.parse_one-command.ensures a.plugin.now) in
-    let k = ap (command_said a.plugin.now a.line.now (length y)) (sym c.in-Err.is) ∙ e in
-    record {
-      command = k;
-      number = (step_bad a.machine a.plugin.now t b (verdict_said a.late) a.line.now y _ k (number_not_zero c.in-Err.r)).0;
-      tables = (step_bad a.machine a.plugin.now t b (verdict_said a.late) a.line.now y _ k (number_not_zero c.in-Err.r)).1.0;
-      buffers = (step_bad a.machine a.plugin.now t b (verdict_said a.late) a.line.now y _ k (number_not_zero c.in-Err.r)).1.1;
     }
