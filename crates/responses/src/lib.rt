@@ -30,21 +30,24 @@ pub enum Response {
     Unsupported,
 }
 
+// What fits: a row for each command and a column for each response, in the order of their variants.
+static FITTING: [[bool; 5]; 9] = [
+    [true, false, false, true, false],
+    [false, true, true, true, false],
+    [true, false, false, true, false],
+    [true, false, false, true, false],
+    [true, false, false, false, false],
+    [true, false, false, false, false],
+    [true, false, false, false, false],
+    [false, false, false, false, true],
+    [false, false, false, false, false],
+];
+
 // Whether a response fits a command.
 pub fn fits(word: WordTwo, response: Response) -> bool
     ensures { result ≡ fitting word response }
 {
-    match word {
-        WordTwo::Msg => matches!(response, Response::Ok | Response::Fail),
-        WordTwo::Confirm => matches!(response, Response::Yes | Response::No | Response::Fail),
-        WordTwo::RequestPublic => matches!(response, Response::Ok | Response::Fail),
-        WordTwo::RequestSecret => matches!(response, Response::Ok | Response::Fail),
-        WordTwo::RecipientStanza => matches!(response, Response::Ok),
-        WordTwo::FileKey => matches!(response, Response::Ok),
-        WordTwo::Error => matches!(response, Response::Ok),
-        WordTwo::Other => matches!(response, Response::Unsupported),
-        WordTwo::Done => false,
-    }
+    FITTING[word as usize][response as usize]
 }
 
 // A request.
