@@ -25,7 +25,11 @@ pub(crate) struct Taken {
 pub(crate) type Receipt = Outcome<Taken>;
 
 // The answer to a command that was judged.
-fn answer_to(verdict: Result<(), Refusal>, command: CommandOne, taken: usize) -> Result<Taken, Refusal>
+fn answer_to(
+    verdict: Result<(), Refusal>,
+    command: CommandOne,
+    taken: usize,
+) -> Result<Taken, Refusal>
     ensures { (plugin line : List ℕ) (n : ℕ) → taking_said result ≡ answer_of (verdict_said verdict) (command_said plugin line n command) taken }
 {
     match verdict {
