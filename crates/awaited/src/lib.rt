@@ -7,20 +7,14 @@ ghost use Rattle.refusal.specs.Output.{said, answered, filled};
 ghost use Rattle.awaited.specs.Awaited.{awaited_text, line_in, message_in, label_count, label_in};
 
 use refusal::Refusal;
-use session::{Phase, Session, front};
+use session::{Session, front};
 
 // Its whole text, a part of the input; empty where nothing waits.
 pub fn awaited_text<'a>(session: Session, input: &'a [u8]) -> &'a [u8]
     ensures { result.now ≡ awaited_text session input.now }
 {
-    let phase = session.phase;
-    match phase {
-        Phase::One => &input[..0],
-        Phase::Two => &input[..0],
-        Phase::Awaiting(_) => front(front(input, stanza::LONGEST), session.awaited),
-        Phase::Ended => &input[..0],
-        Phase::Closed => &input[..0],
-    }
+    let kept = front(input, stanza::LONGEST);
+    intake::awaited_in(session.phase, front(kept, session.awaited))
 }
 
 // Its message, decoded to the front of `out`: how many bytes, or 15 and nothing written. Empty where nothing waits.
@@ -56,7 +50,12 @@ pub fn awaited_labels(session: Session, input: &[u8]) -> usize
 }
 
 // A label by its number, counted from 0, decoded to the front of `out`: how many bytes, or 15 and nothing written. Empty where there is none.
-pub fn awaited_label(session: Session, input: &[u8], n: usize, out: &mut [u8]) -> Result<usize, Refusal>
+pub fn awaited_label(
+    session: Session,
+    input: &[u8],
+    n: usize,
+    out: &mut [u8],
+) -> Result<usize, Refusal>
     ensures answer { said result ≡ answered (label_in n (awaited_text session input.now)) out.old }
     ensures buffer { out.new ≡ filled (label_in n (awaited_text session input.now)) out.old }
 {

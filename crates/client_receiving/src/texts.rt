@@ -3,7 +3,7 @@ ghost use Rattle.std.specs.Prelude.{◌≡◌, Ok, Err, true, [], ◌+◌, ◌�
 ghost use Rattle.session.specs.Session.{session_of};
 ghost use Rattle.session.specs.declared.phases.Phase.TheVariants.{Two};
 ghost use Rattle.phase_one.specs.PhaseOne.{BuffersOne};
-ghost use Rattle.chunks.specs.Taking.{client, awaited_behind};
+ghost use Rattle.chunks.specs.Taking.{client};
 ghost use Rattle.chunks.specs.Chunks.{is_held};
 ghost use Rattle.chunks.specs.Uncut.{is_waiting};
 ghost use Rattle.client_room.specs.Room.{stanza_ahead};
@@ -11,7 +11,7 @@ ghost use Rattle.client_receiving.specs.Texts.{lent, behind_answer, MayTake, Ans
 
 use crate::stanzas::receive_stanza;
 use client_room::next_stanza;
-use intake::{Last, Received, Turn, begin, stop};
+use intake::{Last, Received, Turn, awaited_in, begin, stop};
 use session::{Phase, Session, WordTwo};
 
 // One command more, answered with so many bytes. Not one with plugin_receiving's answer_behind: shared it would be public, and no public function requires room
@@ -32,19 +32,6 @@ fn go_on(so_far: Received, word: WordTwo, size: usize, session: Session) -> Rece
         last: Last::CommandTwo(word),
         written: so_far.written + size,
         session: session,
-    }
-}
-
-// The text that waits for the host's reply, of the last stanza: none where no reply is due. awaited_text has the same arms, but it cuts the text in one of them.
-fn awaited_in<'a>(phase: Phase, text: &'a [u8]) -> &'a [u8]
-    ensures { result.now ≡ awaited_behind client phase text.now }
-{
-    match phase {
-        Phase::One => &text[..0],
-        Phase::Two => &text[..0],
-        Phase::Awaiting(_) => text,
-        Phase::Ended => &text[..0],
-        Phase::Closed => &text[..0],
     }
 }
 

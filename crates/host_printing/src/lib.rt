@@ -15,7 +15,12 @@ pub fn print_number(stdout: &impl Print, label: &[u8], n: usize) {
 }
 
 // As many of the first bytes as were written, or the refusal.
-pub fn print_written(stdout: &impl Print, label: &[u8], written: Result<usize, Refusal>, bytes: &[u8]) {
+pub fn print_written(
+    stdout: &impl Print,
+    label: &[u8],
+    written: Result<usize, Refusal>,
+    bytes: &[u8],
+) {
     match written {
         Ok(n) => print(stdout, label, session::front(bytes, n)),
         Err(r) => print_number(stdout, b"refused: ", refusal::number(r) as usize),

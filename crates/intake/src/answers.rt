@@ -44,7 +44,11 @@ impl Received {
           session = session;
         } }
     {
-        Received { verdict, session, ..self }
+        Received {
+            verdict,
+            session,
+            ..self
+        }
     }
 }
 

@@ -103,7 +103,13 @@ fn read_within(reading: Place, b: u8) -> Option<Place>
 }
 
 // A chunk of one byte, read on without a loop: within the arguments or a body line the byte is kept behind the stanza's front. Else nothing is done.
-pub fn read_one(turn: Turn, reading: Place, kept: usize, chunk: &[u8], input: &mut [u8]) -> Option<Place>
+pub fn read_one(
+    turn: Turn,
+    reading: Place,
+    kept: usize,
+    chunk: &[u8],
+    input: &mut [u8],
+) -> Option<Place>
     ensures { OneByteSays (turn_said turn) reading (min kept 8191) chunk.now input.old input.new result }
 {
     if !is_reading(turn) {
@@ -230,9 +236,7 @@ fn settle_read(so_far: Received, rest: &[u8], input: &mut [u8]) -> Received
     }
     let continued = read_more(Place::Start, 0, rest, input);
     match continued {
-        Continued::Whole(_) => {
-            so_far.settled(Ok(()), session.keeping(Place::Start, 0, 0))
-        }
+        Continued::Whole(_) => { so_far.settled(Ok(()), session.keeping(Place::Start, 0, 0)) }
         Continued::Unfinished(place) => {
             so_far.settled(Ok(()), session.keeping(place, rest.len(), 0))
         }
@@ -271,8 +275,5 @@ fn settle_back(so_far: Received, awaited: &[u8], rest: &[u8], input: &mut [u8]) 
     let n = awaited.len();
     stanza::copy(awaited, input);
     copy_behind(rest, n, input);
-    so_far.settled(
-        Ok(()),
-        session.keeping(Place::Start, rest.len(), n),
-    )
+    so_far.settled(Ok(()), session.keeping(Place::Start, rest.len(), n))
 }

@@ -9,4 +9,4 @@ mod turns;
 
 pub use answers::{Last, Received, begin, close, leave, stop};
 pub use keeping::{keep_on, kept_of, put_together, read_front, read_one, settle};
-pub use turns::{Turn, answer_due, finish, turn_client, turn_plugin};
+pub use turns::{Turn, answer_due, awaited_in, finish, turn_client, turn_plugin};

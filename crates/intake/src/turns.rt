@@ -2,7 +2,7 @@
 ghost use Rattle.std.specs.Prelude.{◌≡◌};
 ghost use Rattle.refusal.specs.Verdict.{verdict_said};
 ghost use Rattle.conversation.specs.TurnsTwo.{due_in};
-ghost use Rattle.chunks.specs.Taking.{client, plugin, turn_at};
+ghost use Rattle.chunks.specs.Taking.{client, plugin, turn_at, awaited_behind};
 ghost use Rattle.chunks.specs.Chunks.{finished};
 ghost use Rattle.intake.specs.Turns.{due_said, turn_said};
 
@@ -53,6 +53,19 @@ pub fn turn_plugin(phase: Phase) -> Turn
         Phase::Awaiting(_) => Turn::Reads,
         Phase::Ended => Turn::Drops(Refusal::SessionOver),
         Phase::Closed => Turn::Drops(Refusal::SessionOver),
+    }
+}
+
+// The text that waits for the host's reply at the client end, of the last stanza: none where no reply is due.
+pub fn awaited_in<'a>(phase: Phase, text: &'a [u8]) -> &'a [u8]
+    ensures { result.now ≡ awaited_behind client phase text.now }
+{
+    match phase {
+        Phase::One => &text[..0],
+        Phase::Two => &text[..0],
+        Phase::Awaiting(_) => text,
+        Phase::Ended => &text[..0],
+        Phase::Closed => &text[..0],
     }
 }
 

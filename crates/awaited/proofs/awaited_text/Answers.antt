@@ -1,21 +1,24 @@
 -- A command waits in one of the five phases.
-use mathlib.Core.Path.{ap, ◌∙◌}
+use Prim.Native.Nat.{ℕ, min}
+use mathlib.Core.Path.{◌≡◌, refl, ap, ◌∙◌}
+use mathlib.Core.List.{List}
 use lib.ListN.{take}
+use Rattle.session.specs.declared.phases.Phase.{Phase}
+use Rattle.session.specs.declared.phases.Phase.TheVariants.{One, Two, Awaiting, Ended, Closed}
+use Rattle.chunks.specs.Taking.{client, awaited_behind}
+use Rattle.chunks.specs.Uncut.{is_waiting}
+use Rattle.refusal.specs.Pick.{pick}
 use Rattle.awaited.proofs.Laws.Awaited.{front_within}
 use Rattle.awaited.proofs.awaited_text.Goals as goal
 
-pub returns-in-One : goal.returns-in-One
-returns-in-One c = rw c.in-One.is
+waits_in : (p : Phase) (n : ℕ) (x : List ℕ) → awaited_behind client p (take n (take 8192 x)) ≡ take (pick (is_waiting client p) (min n 8192) 0) x
+waits_in One n x = refl
+waits_in Two n x = refl
+waits_in (Awaiting w) n x = front_within n x
+waits_in Ended n x = refl
+waits_in Closed n x = refl
 
-pub returns-in-Two : goal.returns-in-Two
-returns-in-Two c = rw c.in-Two.is
-
-pub returns-in-Awaiting : goal.returns-in-Awaiting
-returns-in-Awaiting c = rw c.in-Awaiting.is
-    (c.front-in-Awaiting.ensures ∙ ap (take c.args.session.awaited) c.front.ensures ∙ front_within c.args.session.awaited c.args.input.now)
-
-pub returns-in-Ended : goal.returns-in-Ended
-returns-in-Ended c = rw c.in-Ended.is
-
-pub returns-in-Closed : goal.returns-in-Closed
-returns-in-Closed c = rw c.in-Closed.is
+pub returns : goal.returns
+returns c = let a = c.args in
+    c.awaited_in.ensures ∙ ap (awaited_behind client a.session.phase) (c.front.ensures ∙ ap (take a.session.awaited) c.front-kept.ensures)
+    ∙ waits_in a.session.phase a.session.awaited a.input.now

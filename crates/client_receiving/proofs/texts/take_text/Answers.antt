@@ -1,6 +1,5 @@
 -- The invariant: what is left, behind the stanzas that were taken, comes to what the whole text came to (`Going`). Each turn takes a byte at least.
 use mathlib.Core.Path.{subst}
-use mathlib.Core.List.{[], ◌++◌}
 use lib.ListN.{take}
 use Rattle.refusal.specs.Number.{number_of}
 use Rattle.stanza.specs.Reading.{read_said}
@@ -11,9 +10,9 @@ use Rattle.intake.specs.Turns.{turn_said}
 use Rattle.intake.specs.Settling.{MaySettle, Says}
 use Rattle.client_room.specs.Stanzas.{taking_said}
 use Rattle.client_room.proofs.Laws.Room.{next_within}
-use Rattle.client_receiving.specs.Texts.{lent, behind_answer, Answers}
+use Rattle.client_receiving.specs.Texts.{lent}
 use Prim.Native.Nat.{◌-◌}
-use mathlib.Core.Path.{refl, sym, ap, ◌∙◌}
+use mathlib.Core.Path.{sym, ap, ◌∙◌}
 use lib.ListN.{length, drop}
 use native.Mathlib.Omega.{arith}
 use Rattle.client_receiving.proofs.Laws.Texts.{going_first, going_settles, going_settled, going_fits, going_few, going_size, going_on, going_refused}

@@ -1,6 +1,5 @@
 -- The invariant: what is left, behind the stanzas that were taken, comes to what the whole text came to (`Going`). Each turn takes a byte at least.
 use Prim.Native.Nat.{◌-◌}
-use mathlib.Core.Path.{◌≡◌}
 use lib.ListN.{length}
 use Rattle.client_receiving.proofs.Laws.Texts.{Going}
 use Rattle.client_receiving.proofs.texts.take_text.Given as goal

@@ -1,6 +1,6 @@
 -- The stanza that was put together is one command, or reads as none.
 use Prim.Native.Nat.{◌≤◌, min}
-use mathlib.Core.Path.{◌≡◌, refl, sym, ap, ap₂, ◌∙◌}
+use mathlib.Core.Path.{◌≡◌, sym, ap, ap₂, ◌∙◌}
 use mathlib.Core.List.{◌++◌}
 use lib.ListN.{length, take, drop}
 use lib.Seq.{length-take-le}
@@ -23,7 +23,6 @@ use Rattle.std.specs.Prelude.{Err}
 use Rattle.intake.proofs.Laws.Fronts.{front_within}
 use Rattle.intake.proofs.Laws.Keeping.{joined_front}
 use Rattle.plugin_receiving.proofs.Laws.Commands.{chunk_begun, fronted}
-use borrow.Author.Rules.{rules}
 use Rattle.plugin_receiving.proofs.commands.receive_front.Goals as goal
 
 pub returns-then-k-eq0 : goal.returns-then-k-eq0
