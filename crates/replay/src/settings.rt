@@ -20,7 +20,7 @@ pub struct Open {
 }
 
 // open client MACHINE NAME .., open plugin MACHINE NAME ..: the buffers of a session that is opened are zeros.
-pub fn open(
+pub fn open_session(
     opened: Opened,
     lengths: Lengths,
     words: &Words,
@@ -33,9 +33,7 @@ pub fn open(
         Opened::Plugin => End::Plugin,
     };
     let opening = match opened {
-        Opened::Client(ScreenChoice::Shown) => {
-            Session::open_with(machine, name, Screen::Shown)
-        }
+        Opened::Client(ScreenChoice::Shown) => { Session::open_with(machine, name, Screen::Shown) }
         Opened::Client(ScreenChoice::Missing) => {
             Session::open_with(machine, name, Screen::Absent)
         }

@@ -1,6 +1,6 @@
 // The call of a line; and those that keep what a session says: each end sends in its phase and receives in the other's, and the client's host
 // replies. Each is lent the session's buffers, and an output buffer of the length that the line names.
-use crate::settings::{End, Open, open};
+use crate::settings::{End, Open, open_session};
 use intake::Received;
 use refusal::Refusal;
 use replay_answers::{Answer, Memory, Output, answer_received, look};
@@ -23,7 +23,7 @@ pub fn make_call<'a>(
     match request {
         Request::Plain(call) => call_plain(call, words, buffer, out),
         Request::Open(opened, lengths) => {
-            *host = Some(open(opened, lengths, words, memory)?);
+            *host = Some(open_session(opened, lengths, words, memory)?);
             Ok(Answer::Accepted)
         }
         Request::Session(call) => match host {
