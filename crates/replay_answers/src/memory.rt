@@ -28,7 +28,7 @@ impl Lent {
 
     // Zeros, of some length.
     fn open(&mut self, length: usize) {
-        self.bytes.fill(0);
+        self.lend_mut().fill(0);
         self.length = length;
     }
 
