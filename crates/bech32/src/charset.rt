@@ -1,13 +1,12 @@
 // The alphabet in the case of each kind of text.
-ghost use Rattle.std.specs.Prelude.{◌≡◌, ◌<◌};
-ghost use Rattle.symbols.specs.Charset.{character_of};
+ghost use Rattle.std.specs.Prelude.{◌≡◌};
 ghost use Rattle.bech32.specs.Calls.{form_of};
 ghost use Rattle.bech32.specs.Steps.{Characters, cased_byte};
 
 use crate::TextKind;
-use symbols::{ALPHABET, CAPITALS, CASE, is_lower};
+use symbols::{ALPHABET, CAPITALS};
 
-// The table by value: a caller copies it once and lends it to each look-up.
+// The character of each value in the kind's case.
 pub(crate) fn characters(kind: TextKind) -> [u8; 32]
     ensures { Characters (form_of kind) result }
 {
@@ -17,32 +16,12 @@ pub(crate) fn characters(kind: TextKind) -> [u8; 32]
     }
 }
 
-fn wide(b: u8) -> usize
-    ensures { result ≡ b }
-{
-    b as usize
-}
-
-// A value's character, by the table.
-pub(crate) fn character(kind: TextKind, table: &[u8; 32], v: u8) -> u8
-    requires characters { Characters (form_of kind) table.now }
-    requires v_bound { v < 32 }
-    ensures { result ≡ cased_byte (form_of kind) (character_of v) }
-{
-    table[wide(v)]
-}
-
 // A byte in the kind's case.
 pub(crate) fn cased(kind: TextKind, b: u8) -> u8
     ensures { result ≡ cased_byte (form_of kind) b }
 {
     match kind {
         TextKind::Recipient => b,
-        TextKind::Identity => {
-            if is_lower(b) {
-                return b - CASE;
-            }
-            b
-        }
+        TextKind::Identity => b.to_ascii_uppercase(),
     }
 }

@@ -1,11 +1,11 @@
 // The human part: what stands before and behind a plugin's name, and the name.
-ghost use Rattle.std.specs.Prelude.{◌≡◌, [], ◌++◌, map, ◌+◌, ◌≤◌, length, drop};
+ghost use Rattle.std.specs.Prelude.{◌≡◌, [], ◌++◌, map, ◌+◌, ◌<◌, ◌≤◌, length, drop, MatchOption};
 ghost use Rattle.refusal.specs.Run.{all};
 ghost use Rattle.refusal.specs.Same.{same};
 ghost use Rattle.symbols.specs.Charset.{lower};
 ghost use Rattle.bech32.specs.Text.{is_name_byte, is_name, in_case, human_part};
 ghost use Rattle.bech32.specs.Calls.{form_of, padded, given_name};
-ghost use Rattle.bech32.specs.Steps.{shortened, name_between, name_or};
+ghost use Rattle.bech32.specs.Steps.{IsText, IsGiven, name_between, name_or};
 
 use crate::TextKind;
 use crate::charset::cased;
@@ -15,6 +15,7 @@ use symbols::lowered;
 pub const LONGEST_NAME: usize = 32;
 
 // A plugin's name by value: bytes[..length], zeros behind it. It is empty where there is none.
+// No slice and no Option: no heap, and what `read` and `name_of` ensure of both fields may not change.
 #[derive(Clone, Copy)]
 pub struct Name {
     pub bytes: [u8; LONGEST_NAME],
@@ -35,35 +36,20 @@ pub(crate) fn nameless() -> Name
 fn is_name_byte(b: u8) -> bool
     ensures { result ≡ is_name_byte b }
 {
-    ((b'a' <= b) & (b <= b'z'))
-        | ((b'0' <= b) & (b <= b'9'))
-        | (b == b'+')
-        | (b == b'-')
-        | (b == b'.')
-        | (b == b'_')
+    matches!(b, b'a'..=b'z' | b'0'..=b'9' | b'+' | b'-' | b'.' | b'_')
 }
 
 fn are_name_bytes(text: &[u8]) -> bool
     ensures { result ≡ all is_name_byte text.now }
 {
-    let mut i: usize = 0;
-    while i < text.len() {
-        if !is_name_byte(text[i]) {
-            return false;
-        }
-        i += 1;
-    }
-    true
+    text.iter().all(|b| is_name_byte(*b))
 }
 
 // Whether a text is a plugin's name in lower case.
 pub(crate) fn is_name(text: &[u8]) -> bool
     ensures { result ≡ is_name text.now }
 {
-    if text.len() == 0 {
-        return false;
-    }
-    if LONGEST_NAME < text.len() {
+    if text.is_empty() || LONGEST_NAME < text.len() {
         return false;
     }
     are_name_bytes(text)
@@ -73,39 +59,23 @@ pub(crate) fn is_name(text: &[u8]) -> bool
 pub fn is_lowered(text: &[u8], word: &[u8]) -> bool
     ensures { result ≡ same (map lower text.now) word.now }
 {
-    let n = text.len();
-    if n != word.len() {
-        return false;
-    }
-    let mut i: usize = 0;
-    while i < n {
-        if lowered(text[i]) != word[i] {
-            return false;
-        }
-        i += 1;
-    }
-    true
+    text.len() == word.len() && text.iter().zip(word).all(|(b, c)| lowered(*b) == *c)
 }
 
-// A text of at most 32 bytes in lower case, by value; no name where it is longer.
-fn lower_name(text: &[u8]) -> Name
-    ensures bytes { result.bytes ≡ padded (shortened (map lower text.now)) }
-    ensures length { result.length ≡ length (shortened (map lower text.now)) }
+// A text by value; none where it is longer than a name.
+fn copied(text: &[u8]) -> Option<Name>
+    ensures { MatchOption result (32 < length text.now) (λ n. IsText n text.now) }
 {
     let n = text.len();
     if LONGEST_NAME < n {
-        return nameless();
+        return None;
     }
-    let mut bytes: [u8; LONGEST_NAME] = [0; LONGEST_NAME];
-    let mut i: usize = 0;
-    while i < n {
-        bytes[i] = lowered(text[i]);
-        i += 1;
-    }
-    Name {
+    let mut bytes = [0; LONGEST_NAME];
+    bytes[..n].copy_from_slice(text);
+    Some(Name {
         bytes: bytes,
         length: n,
-    }
+    })
 }
 
 // A plugin's name by value, from a text that must be one in lower case; no name where it is none.
@@ -113,67 +83,70 @@ pub fn name_of(text: &[u8]) -> Name
     ensures bytes { result.bytes ≡ padded (given_name text.now) }
     ensures length { result.length ≡ length (given_name text.now) }
 {
-    if !is_name(text) {
-        return nameless();
+    match copied(text) {
+        Some(name) if is_name(text) => name,
+        _ => nameless(),
     }
-    lower_name(text)
 }
 
-// The name between what stands before and behind it, in lower case; no name where there is none.
-fn name_between(human: &[u8], front: &[u8], back: &[u8]) -> Name
-    ensures bytes { result.bytes ≡ padded (name_between front.now back.now (map lower human.now)) }
-    ensures length { result.length ≡ length (name_between front.now back.now (map lower human.now)) }
+// The name that a text in lower case is.
+fn lower_name(text: &[u8]) -> Option<Name>
+    ensures { IsGiven result (given_name (map lower text.now)) }
 {
-    let n = human.len();
-    let f = front.len();
-    let b = back.len();
-    if n < f {
-        return nameless();
+    let mut name = copied(text)?;
+    name.bytes.make_ascii_lowercase();
+    if !is_name(&name.bytes[..name.length]) {
+        return None;
     }
-    if n - f < b {
-        return nameless();
-    }
-    let e = n - b;
-    if !is_lowered(&human[..f], front) {
-        return nameless();
-    }
-    if !is_lowered(&human[e..], back) {
-        return nameless();
-    }
-    let name = lower_name(&human[f..e]);
-    let bytes = name.bytes;
-    let length = name.length;
-    if !is_name(&bytes[..length]) {
-        return nameless();
-    }
-    name
+    Some(name)
 }
 
-// The name in a human part of the kind, in lower case; no name where there is none.
-pub(crate) fn name_in(kind: TextKind, human: &[u8]) -> Name
-    ensures bytes { result.bytes ≡ padded (name_or (form_of kind) (map lower human.now)) }
-    ensures length { result.length ≡ length (name_or (form_of kind) (map lower human.now)) }
+// The name between what stands before and behind it, in lower case.
+fn name_between(human: &[u8], front: &[u8], back: &[u8]) -> Option<Name>
+    ensures { IsGiven result (name_between front.now back.now (map lower human.now)) }
 {
-    match kind {
-        TextKind::Recipient => name_between(human, b"age1", b""),
-        TextKind::Identity => name_between(human, b"age-plugin-", b"-"),
+    let (start, rest) = human.split_at_checked(front.len())?;
+    let (middle, end) = rest.split_at_checked(rest.len().checked_sub(back.len())?)?;
+    if !is_lowered(start, front) || !is_lowered(end, back) {
+        return None;
+    }
+    lower_name(middle)
+}
+
+impl TextKind {
+    // What stands before a name in the human part, in lower case, and what behind it.
+    fn front(self) -> &'static [u8]
+        ensures { result.now ≡ (form_of self).front }
+    {
+        match self {
+            TextKind::Recipient => b"age1",
+            TextKind::Identity => b"age-plugin-",
+        }
+    }
+
+    fn back(self) -> &'static [u8]
+        ensures { result.now ≡ (form_of self).back }
+    {
+        match self {
+            TextKind::Recipient => b"",
+            TextKind::Identity => b"-",
+        }
     }
 }
 
-// What a human part has besides the name: "age1", or "age-plugin-" and "-".
-const RECIPIENT_REST: usize = 4;
-
-const IDENTITY_REST: usize = 12;
+// The name in a human part of the kind, in lower case.
+pub(crate) fn name_in(kind: TextKind, human: &[u8]) -> Option<Name>
+    ensures { IsGiven result (name_or (form_of kind) (map lower human.now)) }
+{
+    name_between(human, kind.front(), kind.back())
+}
 
 // How long the human part of a name of n bytes is.
 pub(crate) fn human_length(kind: TextKind, n: usize) -> usize
     requires { n ≤ 32 }
     ensures { result ≡ n + length (human_part (form_of kind) []) }
 {
-    match kind {
-        TextKind::Recipient => n + RECIPIENT_REST,
-        TextKind::Identity => n + IDENTITY_REST,
-    }
+    kind.front().len() + n + kind.back().len()
 }
 
 // A word in the kind's case at the front of `out`, which is long enough.
@@ -181,10 +154,8 @@ fn put_word(kind: TextKind, word: &[u8], out: &mut [u8])
     requires { length word.now ≤ length out.old }
     ensures { out.new ≡ in_case (form_of kind) word.now ++ drop (length word.now) out.old }
 {
-    let mut i: usize = 0;
-    while i < word.len() {
-        out[i] = cased(kind, word[i]);
-        i += 1;
+    for (i, b) in word.iter().enumerate() {
+        out[i] = cased(kind, *b);
     }
 }
 
@@ -208,8 +179,5 @@ pub(crate) fn put_human(kind: TextKind, name: &[u8], out: &mut [u8])
     ensures { out.new ≡
         in_case (form_of kind) (human_part (form_of kind) name.now) ++ drop (length (human_part (form_of kind) name.now)) out.old }
 {
-    match kind {
-        TextKind::Recipient => put_words(kind, b"age1", name, b"", out),
-        TextKind::Identity => put_words(kind, b"age-plugin-", name, b"-", out),
-    }
+    put_words(kind, kind.front(), name, kind.back(), out)
 }

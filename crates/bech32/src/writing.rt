@@ -5,10 +5,10 @@ ghost use Rattle.symbols.specs.Charset.{character_of};
 ghost use Rattle.symbols.specs.Checksum.{polymod, checksum, are_symbols};
 ghost use Rattle.bech32.specs.Text.{in_case, human_part, text_of, is_name};
 ghost use Rattle.bech32.specs.Calls.{form_of, write_answer, write_buffer};
-ghost use Rattle.bech32.specs.Steps.{Characters, with_checksum};
+ghost use Rattle.bech32.specs.Steps.{with_checksum};
 ghost use Rattle.symbols.specs.Calls.{symbols_size};
 
-use crate::charset::{character, characters};
+use crate::charset::characters;
 use crate::human::{human_length, is_name, put_human};
 use crate::{CHECKSUM, LONGEST, TAIL, TextKind};
 use refusal::Refusal;
@@ -72,8 +72,7 @@ fn put_characters(kind: TextKind, payload: &[u8], from: u32, out: &mut [u8])
 {
     let end = symbols_length(payload.len()) + CHECKSUM;
     put_symbols(payload, from, out);
-    let table = characters(kind);
-    translate(kind, &table, &mut out[..end]);
+    translate(kind, &mut out[..end]);
 }
 
 // The symbols of a payload and of its checksum behind a state, at the front of `out`, which is long enough.
@@ -111,14 +110,12 @@ fn six_zeros(from: u32) -> u32
 }
 
 // Symbols to characters, in place.
-fn translate(kind: TextKind, table: &[u8; 32], out: &mut [u8])
-    requires characters { Characters (form_of kind) table.now }
-    requires out_value { are_symbols out.old ≡ true }
+fn translate(kind: TextKind, out: &mut [u8])
+    requires { are_symbols out.old ≡ true }
     ensures { out.new ≡ in_case (form_of kind) (map character_of out.old) }
 {
-    let mut i: usize = 0;
-    while i < out.len() {
-        out[i] = character(kind, table, out[i]);
-        i += 1;
+    let table = characters(kind);
+    for v in out {
+        *v = table[usize::from(*v)];
     }
 }

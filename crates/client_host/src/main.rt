@@ -2,10 +2,8 @@
 // pipe might cut it. Standard output says what goes to the plugin, what the user is shown, and what the files have got.
 #![tactic(auto)]
 
-mod print;
-
 use client::{Received, Response, Screen, Session, WordOne};
-use print::{print, print_number, print_verdict, print_written};
+use host_printing::{print, print_number, print_verdict, print_written};
 
 // How long the buffers are that the host lends.
 const STORE: usize = 256;

@@ -11,8 +11,8 @@ ghost use Rattle.intake.specs.Intake.{intake_of, received_said, stored_in};
 ghost use Rattle.client_room.specs.Room.{stanza_ahead};
 ghost use Rattle.client_receiving.specs.Texts.{lent, Answers};
 
-use crate::texts::{begin, take_front, take_text};
-use intake::{Received, Turn};
+use crate::texts::{take_front, take_text};
+use intake::{Received, Turn, begin};
 use refusal::Refusal;
 use session::Session;
 use stanza::Continued;
@@ -42,7 +42,7 @@ fn take_joined(
     ensures name { result.session.name ≡ session.name }
 {
     let mut store = [0u8; stanza::LONGEST];
-    client_room::put_together(input, kept, &chunk[..k], &mut store);
+    intake::put_together(input, kept, &chunk[..k], &mut store);
     let whole = kept + k;
     take_front(
         session,
@@ -109,6 +109,7 @@ fn receive_held(
     )
 }
 
+// plugin_receiving's receive begins alike: what the two share are intake's four functions; one for all four would hand an accepted answer back as an error.
 // A chunk of the plugin's commands: how many were taken and which was the last, how many bytes were written to the front of `out`, and the session. 13 or 14
 // out of turn, and 15 where what is written or kept back has no room: then nothing is taken and nothing changes. 1, 3, 4, 5, 6, 9, 10, 11 or 8 close the
 // session, and 13 is given for bytes behind done: the commands before them stand.

@@ -17,8 +17,8 @@ ghost use Rattle.client_room.specs.Room.{has_room};
 ghost use Rattle.client_receiving.specs.Replying.{due_sized, answered_with};
 ghost use Rattle.client_receiving.specs.Texts.{lent};
 
-use crate::texts::{begin, take_text};
-use intake::Received;
+use crate::texts::take_text;
+use intake::{Received, begin};
 use refusal::Refusal;
 use responses::Response;
 use session::{Phase, Session};
@@ -27,16 +27,11 @@ use session::{Phase, Session};
 fn reply_size(phase: Phase, response: Response, body: &[u8]) -> Result<usize, Refusal>
     ensures { said result ≡ due_sized (due_in phase) response body.now }
 {
-    let due = intake::answer_due(phase);
-    match due {
-        Err(r) => Err(r),
-        Ok(word) => {
-            if !responses::fits_whole(word, response, body.len()) {
-                return Err(Refusal::UnfitResponse);
-            }
-            responses::size(response, body)
-        }
+    let word = intake::answer_due(phase)?;
+    if !responses::fits_whole(word, response, body.len()) {
+        return Err(Refusal::UnfitResponse);
     }
+    responses::size(response, body)
 }
 
 // Whether a response of so many bytes has room, and behind it bytes that were kept back.
@@ -130,11 +125,7 @@ fn reply_ahead(
 fn at_most_longest(n: usize) -> usize
     ensures { result ≡ min n 8192 }
 {
-    if n < stanza::LONGEST {
-        n
-    } else {
-        stanza::LONGEST
-    }
+    n.min(stanza::LONGEST)
 }
 
 // A response of so many bytes, where bytes were kept back: they are copied first, for the input is written anew.

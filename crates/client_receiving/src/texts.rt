@@ -11,25 +11,11 @@ ghost use Rattle.client_receiving.specs.Texts.{lent, behind_answer, MayTake, Ans
 
 use crate::stanzas::receive_stanza;
 use client_room::next_stanza;
-use intake::{Last, Received, Turn};
-use refusal::Refusal;
+use intake::{Last, Received, Turn, begin, stop};
 use session::{Phase, Session, WordTwo};
-use stanza::Place;
 
-// Nothing taken yet.
-pub(crate) fn begin(session: Session, written: usize) -> Received
-    ensures { result ≡ record { verdict = Ok tt; count = 0; last = Last.Nothing; written = written; session = session } }
-{
-    Received {
-        verdict: Ok(()),
-        count: 0,
-        last: Last::Nothing,
-        written: written,
-        session: session,
-    }
-}
-
-// One command more, answered with so many bytes.
+// One command more, answered with so many bytes. Not one with plugin_receiving's answer_behind: shared it would be public, and no public function requires room
+// for a count.
 fn go_on(so_far: Received, word: WordTwo, size: usize, session: Session) -> Received
     requires { (so_far.count + 1 ≤ 18446744073709551615) × (so_far.written + size ≤ 18446744073709551615) }
     ensures { result ≡ record {
@@ -49,36 +35,7 @@ fn go_on(so_far: Received, word: WordTwo, size: usize, session: Session) -> Rece
     }
 }
 
-// A refusal behind what was taken. Nothing is kept.
-pub(crate) fn stop(so_far: Received, refusal: Refusal, session: Session) -> Received
-    ensures { result ≡ record {
-      verdict = Err refusal;
-      count = so_far.count;
-      last = so_far.last;
-      written = so_far.written;
-      session = record {
-        machine = session.machine;
-        phase = session.phase;
-        screen = session.screen;
-        name = session.name;
-        tables = session.tables;
-        reading = Place.Start;
-        kept = 0;
-        awaited = 0;
-      };
-    } }
-{
-    let last = so_far.last;
-    Received {
-        verdict: Err(refusal),
-        count: so_far.count,
-        last: last,
-        written: so_far.written,
-        session: session.keeping(Place::Start, 0, 0),
-    }
-}
-
-// The text that waits for the host's reply, of the last stanza: none where no reply is due.
+// The text that waits for the host's reply, of the last stanza: none where no reply is due. awaited_text has the same arms, but it cuts the text in one of them.
 fn awaited_in<'a>(phase: Phase, text: &'a [u8]) -> &'a [u8]
     ensures { result.now ≡ awaited_behind client phase text.now }
 {
@@ -113,60 +70,47 @@ pub(crate) fn take_text(
     let mut done = so_far;
     let mut at = 0;
     let mut begun = 0;
-    loop {
-        let session = done.session;
-        let phase = session.phase;
-        let first = next_stanza(phase, &text[at..]);
-        match first {
-            Err(_) => {
-                let turn = intake::turn_client(phase);
-                let awaited = awaited_in(phase, &text[begun..at]);
-                return intake::settle(done, turn, awaited, &text[at..], input);
+    while let Ok(s) = next_stanza(done.session.phase, &text[at..]) {
+        let written = done.written;
+        let step = receive_stanza(
+            done.session,
+            &text[at..],
+            s,
+            slots,
+            header_slots,
+            errors,
+            stanzas,
+            returned,
+            &mut out[written..],
+        );
+        let answer = step.answer;
+        let after = step.session;
+        match answer {
+            Err(r) => {
+                return stop(done, r, after);
             }
-            Ok(s) => {
-                let written = done.written;
-                let step = receive_stanza(
-                    session,
-                    &text[at..],
-                    s,
-                    slots,
-                    header_slots,
-                    errors,
-                    stanzas,
-                    returned,
-                    &mut out[written..],
-                );
-                let answer = step.answer;
-                let after = step.session;
-                match answer {
-                    Err(r) => {
-                        return stop(done, r, after);
-                    }
-                    Ok(taken) => {
-                        done = go_on(done, taken.word, taken.written, after);
-                        begun = at;
-                        at += s.taken;
-                    }
-                }
+            Ok(taken) => {
+                done = go_on(done, taken.word, taken.written, after);
+                begun = at;
+                at += s.taken;
             }
         }
     }
+    let phase = done.session.phase;
+    let turn = intake::turn_client(phase);
+    let awaited = awaited_in(phase, &text[begun..at]);
+    intake::settle(done, turn, awaited, &text[at..], input)
 }
 
 // Whether the host's reply is due.
 fn is_waiting(phase: Phase) -> bool
     ensures { result ≡ is_waiting client phase }
 {
-    match phase {
-        Phase::One => false,
-        Phase::Two => false,
-        Phase::Awaiting(_) => true,
-        Phase::Ended => false,
-        Phase::Closed => false,
-    }
+    matches!(phase, Phase::Awaiting(_))
 }
 
-// A text that is taken as one stanza, and the text behind it.
+// A text that is taken as one stanza, and the text behind it. Its stanza is a turn of take_text's loop; one function for both would take the loop's variables and
+// hand all of them back.
 pub(crate) fn take_front(
     session: Session,
     front: &[u8],

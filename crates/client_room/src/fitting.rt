@@ -11,7 +11,7 @@ ghost use Rattle.intake.specs.Intake.{intake_of};
 ghost use Rattle.phase_two.specs.Entering.{AreLong};
 ghost use Rattle.client_room.specs.Room.{has_room, is_keepable, stanza_ahead};
 
-use crate::stanzas::{next_stanza, put_together, try_stanza};
+use crate::stanzas::{next_stanza, try_stanza};
 use session::{Phase, Session};
 
 // A chunk of so many bytes leaves no more to keep back than there is room for: the stanza that waits has a byte of it at least.
@@ -50,45 +50,38 @@ fn fits(
     let mut so_far = session;
     let mut left = room;
     let mut at = 0;
-    loop {
-        let phase = so_far.phase;
-        let first = next_stanza(phase, &text[at..]);
-        match first {
+    while let Ok(s) = next_stanza(so_far.phase, &text[at..]) {
+        let step = try_stanza(
+            so_far,
+            &text[at..],
+            s,
+            slots,
+            header_slots,
+            errors,
+            stanzas,
+            returned,
+        );
+        let answer = step.answer;
+        match answer {
             Err(_) => {
-                return is_keepable(phase, text.len() - at);
+                return true;
             }
-            Ok(s) => {
-                let step = try_stanza(
-                    so_far,
-                    &text[at..],
-                    s,
-                    slots,
-                    header_slots,
-                    errors,
-                    stanzas,
-                    returned,
-                );
-                let answer = step.answer;
-                match answer {
-                    Err(_) => {
-                        return true;
-                    }
-                    Ok(taken) => {
-                        let size = taken.written;
-                        if left < size {
-                            return false;
-                        }
-                        left -= size;
-                        at += s.taken;
-                        so_far = step.session;
-                    }
+            Ok(taken) => {
+                let size = taken.written;
+                if left < size {
+                    return false;
                 }
+                left -= size;
+                at += s.taken;
+                so_far = step.session;
             }
         }
     }
+    is_keepable(so_far.phase, text.len() - at)
 }
 
-// The same of a text that is taken as one stanza, and the text behind it.
+// The same of a text that is taken as one stanza, and the text behind it. Its stanza is a turn of the loop above; one function for both would take the loop's
+// variables and hand all of them back.
 fn front_fits(
     session: Session,
     front: &[u8],
@@ -202,7 +195,7 @@ fn joined_fits(
         (take kept input.now ++ take k chunk.now) (drop k chunk.now)) room }
 {
     let mut store = [0u8; stanza::LONGEST];
-    put_together(input, kept, &chunk[..k], &mut store);
+    intake::put_together(input, kept, &chunk[..k], &mut store);
     let whole = kept + k;
     let mut trial = *slots;
     front_fits(

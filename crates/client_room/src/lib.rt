@@ -5,4 +5,4 @@ mod fitting;
 mod stanzas;
 
 pub use fitting::{has_room, text_has_room};
-pub use stanzas::{Step, Taken, answer_to, next_stanza, put_together};
+pub use stanzas::{Step, Taken, answer_to, next_stanza};

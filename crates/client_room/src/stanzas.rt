@@ -12,7 +12,7 @@ ghost use Rattle.client_room.specs.Stanzas.{answer_of, taking_said, next_in, Tri
 
 use phase_two_commands::CommandTwo;
 use refusal::Refusal;
-use session::{Phase, Session, WordTwo};
+use session::{Outcome, Phase, Session, WordTwo};
 use stanza::Stanza;
 use tables::Coding;
 
@@ -24,31 +24,24 @@ pub struct Taken {
     pub written: usize,
 }
 
-#[derive(Clone, Copy)]
-pub struct Step {
-    pub answer: Result<Taken, Refusal>,
-    pub session: Session,
-}
+// What a stanza came to.
+pub type Step = Outcome<Taken>;
 
 // The answer to a command that was judged.
 pub fn answer_to(
     verdict: Result<(), Refusal>,
-    command: CommandTwo,
+    command: Result<CommandTwo, Refusal>,
     taken: usize,
     written: usize,
 ) -> Result<Taken, Refusal>
     ensures { taking_said result ≡ answer_of (verdict_said verdict) (command_said command) taken written }
 {
-    match verdict {
-        Ok(()) => {
-            Ok(Taken {
-                word: phase_two_commands::word_two_of(command),
-                taken: taken,
-                written: written,
-            })
-        }
-        Err(r) => Err(r),
-    }
+    verdict?;
+    Ok(Taken {
+        word: phase_two_commands::word_two_of(command),
+        taken: taken,
+        written: written,
+    })
 }
 
 // The stanza at the front of a text, where commands are received: in phase two, with no reply due.
@@ -62,21 +55,6 @@ pub fn next_stanza(phase: Phase, text: &[u8]) -> Result<Stanza, Refusal>
         Phase::Ended => Err(Refusal::Unfinished),
         Phase::Closed => Err(Refusal::Unfinished),
     }
-}
-
-// The front of a stanza, so many bytes of the input, and its rest, one behind the other in a store that has room.
-pub fn put_together(input: &[u8], kept: usize, rest: &[u8], store: &mut [u8])
-    ensures { kept ≤ length input.now → kept + length rest.now ≤ length store.old → store.new ≡
-        (take kept input.now ++ rest.now) ++ drop (kept + length rest.now) store.old }
-{
-    if input.len() < kept {
-        return;
-    }
-    if store.len() < kept {
-        return;
-    }
-    stanza::copy(&input[..kept], store);
-    stanza::copy(rest, &mut store[kept..]);
 }
 
 // A whole stanza at the front of a text, entered without its payload, for buffers of these lengths; its answer has room.

@@ -3,4 +3,5 @@
 
 mod sending;
 
-pub use sending::{Sent, send};
+pub use sending::send;
+pub use session::Sent;

@@ -1,4 +1,5 @@
-// Phase one sent: a command is put together, judged as the text that it makes, kept, and written.
+// Phase one sent: a command is put together, judged as the text that it makes, kept, and written. plugin_sending's file is alike, but its words, buffers, rules
+// and phases are phase two's: one for both would take each as a closure and require its calls, and no public function requires anything.
 ghost use Rattle.std.specs.Prelude.{◌≡◌, ◌≤◌, min, length};
 ghost use Rattle.session.specs.Session.{session_of, carried_by};
 ghost use Rattle.phase_one.specs.Commands.{word_said, line_sent};
@@ -8,19 +9,8 @@ ghost use Rattle.client_sending.specs.Sending.{sent_said};
 
 use phase_one::{WordOne, put_line, step_one};
 use refusal::Refusal;
-use session::{Session, front};
+use session::{SHORT_ARGUMENTS, SHORT_LINE, Sent, Session, front};
 use tables::Coding;
-
-// A short store for a line, and the arguments that have room there behind a command word and its space.
-const SHORT: usize = 128;
-
-const SHORT_ARGUMENTS: usize = 112;
-
-#[derive(Clone, Copy)]
-pub struct Sent {
-    pub answer: Result<usize, Refusal>,
-    pub session: Session,
-}
 
 // A command put together in a store, which is long enough for every line that can be written.
 fn send_in(
@@ -111,14 +101,13 @@ fn send_due(
         (line_sent (word_said word) arguments.now) body.now out.old }
     ensures carried { carried_by result.session ≡ carried_by session }
 {
-    if arguments.len() < SHORT_ARGUMENTS {
-        let mut store = [0u8; SHORT];
-        return send_in(
+    let mut send_with = |store: &mut [u8]| {
+        send_in(
             session,
             word,
             arguments,
             body,
-            &mut store,
+            store,
             slots,
             header_slots,
             recipients,
@@ -126,23 +115,12 @@ fn send_due(
             keys,
             headers,
             out,
-        );
+        )
+    };
+    if arguments.len() < SHORT_ARGUMENTS {
+        return send_with(&mut [0u8; SHORT_LINE]);
     }
-    let mut store = [0u8; stanza::LONGEST];
-    send_in(
-        session,
-        word,
-        arguments,
-        body,
-        &mut store,
-        slots,
-        header_slots,
-        recipients,
-        identities,
-        keys,
-        headers,
-        out,
-    )
+    send_with(&mut [0u8; stanza::LONGEST])
 }
 
 // A command of phase one, its arguments' text (empty for none; any other word stands first in it) and its body, written to the front of `out`: how many bytes,

@@ -80,9 +80,9 @@ pub extern "C" fn flugremio_body(
     ensures length { length.new ≡ length_or length.old (answered (body_at text.now line taken) out.old) }
 {
     let s = Stanza {
-        line: line,
+        line,
         body: 0,
-        taken: taken,
+        taken,
     };
     let w = stanza::body_of(text, s, out);
     tell(w, length)
@@ -162,7 +162,7 @@ pub extern "C" fn flugremio_read_identity(
     read_text(TextKind::Identity, text, name, named, out, length, place)
 }
 
-// The same for a text of the kind.
+// The same for a text of the kind. Its parameters are no struct: they are those of the C functions.
 fn read_text(
     kind: TextKind,
     text: &[u8],

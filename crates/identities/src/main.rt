@@ -2,11 +2,11 @@
 // invalid line with its number and what that means, goes to standard error.
 #![tactic(auto)]
 
-ghost use Rattle.std.specs.Prelude.{◌≡◌, ◌≤◌, length};
+ghost use Rattle.std.specs.Prelude.{◌≤◌, length};
 
 mod report;
 
-use identity_file::{MOST_FAULTS, Reading};
+use identity_file::MOST_FAULTS;
 use report::report;
 use std::io::Read;
 
@@ -16,23 +16,9 @@ const INPUT: usize = 131073;
 const OUTPUT: usize = 66697;
 
 fn main(rt: HostRuntime) {
-    let mut text = input_buffer();
-    let mut out = output_buffer();
+    let mut text = [0; INPUT];
+    let mut out = [0; OUTPUT];
     run(&mut rt.stdin(), &rt, &mut text, &mut out);
-}
-
-// Zeros for the file.
-fn input_buffer() -> [u8; INPUT]
-    ensures { 131073 ≡ length result }
-{
-    [0; INPUT]
-}
-
-// Zeros for the commands.
-fn output_buffer() -> [u8; OUTPUT]
-    ensures { 66697 ≡ length result }
-{
-    [0; OUTPUT]
 }
 
 // Reads the file, and prints what it comes to.
@@ -44,8 +30,15 @@ fn run(stdin: &mut impl Read, rt: &(impl Print + Eprint), text: &mut [u8], out: 
         return;
     }
     let reading = identity_file::read(&text[..n], &mut faults, out);
-    if print(rt, reading, out) {
-        report(rt, reading.keys, reading.invalid, &faults);
+    let answer = reading.answer;
+    match answer {
+        Ok(size) => {
+            print(rt, &out[..size]);
+            report(rt, reading.keys, reading.invalid, &faults);
+        }
+        Err(_) => {
+            let _ = eprintln!(rt; "identities: 8, more than 64 identities; nothing written");
+        }
     }
 }
 
@@ -64,22 +57,9 @@ fn read_full(stdin: &mut impl Read, text: &mut [u8]) -> usize
     done
 }
 
-// Prints the commands; or the refusal, and false.
-fn print(rt: &(impl Print + Eprint), reading: Reading, out: &[u8]) -> bool {
-    let answer = reading.answer;
-    match answer {
-        Ok(size) => {
-            if out.len() < size {
-                return false;
-            }
-            if rt.write_all(&out[..size]).is_err() {
-                let _ = eprintln!(rt; "identities: standard output failed");
-            }
-            true
-        }
-        Err(_) => {
-            let _ = eprintln!(rt; "identities: 8, more than 64 identities; nothing written");
-            false
-        }
+// Prints the commands.
+fn print(rt: &(impl Print + Eprint), commands: &[u8]) {
+    if rt.write_all(commands).is_err() {
+        let _ = eprintln!(rt; "identities: standard output failed");
     }
 }

@@ -10,11 +10,8 @@ pub fn report(
 ) {
     print_count(stderr, "secret keys skipped", keys);
     print_count(stderr, "invalid lines", invalid);
-    let mut i: usize = 0;
-    while i < MOST_FAULTS && i < invalid {
-        let fault = faults[i];
-        print_fault(stderr, fault[0], fault[1]);
-        i += 1;
+    for &[number, line] in faults.iter().take(invalid) {
+        print_fault(stderr, number, line);
     }
 }
 

@@ -1,5 +1,5 @@
 -- What the private functions work out, and what they ask of what they are lent. Nobody has to believe this: `read` shows that it comes to what Files says.
-use Rattle.std.specs.Prelude.{ℕ, ◌+◌, ◌-◌, ◌<◌, ◌≤◌, List, [], ◌∷◌, map, ltb, length, take, drop, get_or, set}
+use Rattle.std.specs.Prelude.{ℕ, ◌+◌, ◌-◌, ◌<◌, ◌≤◌, List, [], ◌∷◌, map, ltb, length, take, drop, get_or, set, replicate}
 use Rattle.refusal.specs.Pick.{pick}
 use Rattle.refusal.specs.Run.{run}
 use Rattle.identity_file.specs.Lines.{is_line_byte}
@@ -35,13 +35,17 @@ pub record Survey : Type 0 where
   pub places : List (List ℕ)
   pub faults : List (List ℕ)
 
--- a survey of the code's counts and pairs
-abbrev pub survey_of : Tally → List (List ℕ) → List (List ℕ) → Survey
-survey_of t ps fs = record { keys = t.keys; invalid = t.invalid; valid = t.valid; places = ps; faults = fs }
+-- what the code's tally stands for
+abbrev pub survey_of : Tally → Survey
+survey_of t = record { keys = t.keys; invalid = t.invalid; valid = t.valid; places = t.places; faults = t.faults }
 
 -- nothing counted yet
 abbrev pub started : List (List ℕ) → List (List ℕ) → Survey
 started ps fs = record { keys = 0; invalid = 0; valid = 0; places = ps; faults = fs }
+
+-- .. in slots of zeros
+abbrev pub nothing : Survey
+nothing = started (replicate 64 (0 ∷ 0 ∷ [])) (replicate 64 (0 ∷ 0 ∷ []))
 
 -- one line more, of a kind, with a number, from a to e
 abbrev pub noted : Kind → ℕ → ℕ → ℕ → Survey → Survey

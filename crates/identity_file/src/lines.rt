@@ -9,22 +9,17 @@ use refusal::Refusal;
 // The longest line, without its LF.
 const LONGEST: usize = 1024;
 
-// How a line begins that is a secret key of age's own.
-const SECRET_KEY: [u8; 16] = *b"AGE-SECRET-KEY-1";
-
 // Where the line ends that begins at `from`: at its LF, or at the text's end.
 pub(crate) fn line_end(text: &[u8], from: usize) -> usize
     requires { from ≤ length text.now }
     ensures { result ≡ line_end text.now from }
 {
-    let mut i = from;
-    while i < text.len() {
+    for i in from..text.len() {
         if text[i] == b'\n' {
             return i;
         }
-        i += 1;
     }
-    i
+    text.len()
 }
 
 // Where the next line begins behind one that ends there; the text's end where there is none.
@@ -38,7 +33,7 @@ pub(crate) fn next_line(text: &[u8], end: usize) -> usize
     n
 }
 
-// What a line is: skipped, a secret key, invalid with the refusal's number, or valid.
+// What a line is: skipped, a secret key, invalid with the refusal's number, as `bech32::judge` gives it and `read` lists it, or valid.
 #[derive(Clone, Copy)]
 pub(crate) enum LineKind {
     Skipped,
@@ -51,23 +46,18 @@ pub(crate) enum LineKind {
 fn is_skipped(line: &[u8]) -> bool
     ensures { result ≡ is_skipped line.now }
 {
-    if line.len() == 0 {
-        return true;
-    }
-    line[0] == b'#'
+    line.is_empty() || line[0] == b'#'
 }
 
-// Whether a line begins as a secret key does.
+// Whether a line begins as a secret key of age's own does.
 fn is_secret_key(line: &[u8]) -> bool
     ensures { result ≡ is_secret_key line.now }
 {
-    if line.len() < 16 {
-        return false;
-    }
-    stanza::is_same(&line[..16], &SECRET_KEY)
+    line.starts_with(b"AGE-SECRET-KEY-1")
 }
 
 // What a line is. Its length is looked at first, whatever it holds.
+#[tactic(auto, unfolding(crate::specs::Kinds::kind_of))]
 pub(crate) fn judge_line(line: &[u8]) -> LineKind
     ensures { kind_said result ≡ kind_of line.now }
 {
@@ -80,9 +70,8 @@ pub(crate) fn judge_line(line: &[u8]) -> LineKind
     if is_secret_key(line) {
         return LineKind::SecretKey;
     }
-    let number = bech32::judge(TextKind::Identity, line);
-    if number == 0 {
-        return LineKind::Valid;
+    match bech32::judge(TextKind::Identity, line) {
+        0 => LineKind::Valid,
+        number => LineKind::Invalid(number),
     }
-    LineKind::Invalid(number)
 }

@@ -9,7 +9,7 @@ use crate::{MOST_FAULTS, MOST_IDENTITIES};
 use refusal::Refusal;
 
 // What a file gives: how many bytes the commands at the buffer's front have, or 8 or 15; how many secret keys were skipped, and how many lines
-// are invalid; none where refused.
+// are invalid; none where refused. It is no `Result`: `read` keeps its signature.
 #[derive(Clone, Copy)]
 pub struct Reading {
     pub answer: Result<usize, Refusal>,
@@ -39,19 +39,18 @@ pub fn read(text: &[u8], faults: &mut [[usize; 2]; MOST_FAULTS], out: &mut [u8])
     ensures faults { faults.new ≡ faults_listed text.now out.old faults.old }
     ensures buffer { out.new ≡ file_buffer text.now out.old }
 {
-    let mut places = [[0usize; 2]; MOST_IDENTITIES];
-    let mut found = [[0usize; 2]; MOST_FAULTS];
-    let t = survey(text, &mut places, &mut found);
+    let t = survey(text);
     let n = t.valid;
     if MOST_IDENTITIES < n {
         return refused(Refusal::NoSpace);
     }
-    let size = transcript_size(text, &places, n);
+    let places = &t.places[..n];
+    let size = transcript_size(text, places);
     if out.len() < size {
         return refused(Refusal::ShortOutput);
     }
-    put_transcript(text, &places, n, out);
-    *faults = found;
+    put_transcript(text, places, out);
+    *faults = t.faults;
     Reading {
         answer: Ok(size),
         keys: t.keys,

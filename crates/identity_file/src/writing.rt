@@ -1,5 +1,5 @@
 // The commands of a file's valid lines, written one behind the other, and done.
-ghost use Rattle.std.specs.Prelude.{◌≡◌, ◌++◌, ◌+◌, ◌≤◌, length, take, drop};
+ghost use Rattle.std.specs.Prelude.{◌≡◌, ◌++◌, ◌+◌, ◌≤◌, length, drop};
 ghost use Rattle.identity_file.specs.Files.{command_of, commands_of, transcript};
 ghost use Rattle.identity_file.specs.Steps.{texts_at, Places};
 
@@ -13,18 +13,15 @@ const DONE: [u8; 9] = *b"-> done\n\n";
 // How long a command is beside its identity.
 const AROUND: usize = 18;
 
-// How long the commands of the first n places are, and done.
-pub(crate) fn transcript_size(text: &[u8], places: &[[usize; 2]], n: usize) -> usize
-    requires n_bound { (n ≤ 64) × (n ≤ length places.now) }
-    requires places { Places text.now places.now n }
-    ensures { result ≡ length (transcript (texts_at text.now (take n places.now))) }
+// How long the commands of the places are, and done.
+pub(crate) fn transcript_size(text: &[u8], places: &[[usize; 2]]) -> usize
+    requires few { length places.now ≤ 64 }
+    requires places { Places text.now places.now (length places.now) }
+    ensures { result ≡ length (transcript (texts_at text.now places.now)) }
 {
     let mut size = DONE.len();
-    let mut i: usize = 0;
-    while i < n {
-        let place = places[i];
-        size = size + (place[1] - place[0]) + AROUND;
-        i += 1;
+    for &[start, end] in places {
+        size = size + (end - start) + AROUND;
     }
     size
 }
@@ -35,43 +32,36 @@ fn put_command(line: &[u8], out: &mut [u8])
     ensures { out.new ≡ command_of line.now ++ drop (length line.now + 18) out.old }
 {
     let end = 16 + line.len();
-    stanza::copy(&FRONT, out);
-    stanza::copy(line, &mut out[16..]);
-    stanza::copy(&BACK, &mut out[end..]);
+    out[..16].copy_from_slice(&FRONT);
+    out[16..end].copy_from_slice(line);
+    out[end..end + 2].copy_from_slice(&BACK);
 }
 
-// The commands of the first n places at the front of `out`, which is long enough, and where they end.
-fn put_commands(text: &[u8], places: &[[usize; 2]], n: usize, out: &mut [u8]) -> usize
-    requires n_bound { (n ≤ 64) × (n ≤ length places.now) }
-    requires places { Places text.now places.now n }
-    requires places_in_bounds { length (commands_of (texts_at text.now (take n places.now))) ≤ length out.old }
-    ensures end { result ≡ length (commands_of (texts_at text.now (take n places.now))) }
+// The commands of the places at the front of `out`, which is long enough, and where they end.
+fn put_commands(text: &[u8], places: &[[usize; 2]], out: &mut [u8]) -> usize
+    requires places { Places text.now places.now (length places.now) }
+    requires places_in_bounds { length (commands_of (texts_at text.now places.now)) ≤ length out.old }
+    ensures end { result ≡ length (commands_of (texts_at text.now places.now)) }
     ensures buffer { out.new ≡
-        commands_of (texts_at text.now (take n places.now)) ++ drop
-        (length (commands_of (texts_at text.now (take n places.now)))) out.old }
+        commands_of (texts_at text.now places.now) ++ drop
+        (length (commands_of (texts_at text.now places.now))) out.old }
 {
     let mut from: usize = 0;
-    let mut i: usize = 0;
-    while i < n {
-        let place = places[i];
-        let start = place[0];
-        let end = place[1];
+    for &[start, end] in places {
         put_command(&text[start..end], &mut out[from..]);
         from = from + (end - start) + AROUND;
-        i += 1;
     }
     from
 }
 
 // The same, and done behind them.
-pub(crate) fn put_transcript(text: &[u8], places: &[[usize; 2]], n: usize, out: &mut [u8])
-    requires n_bound { (n ≤ 64) × (n ≤ length places.now) }
-    requires places { Places text.now places.now n }
-    requires places_in_bounds { length (transcript (texts_at text.now (take n places.now))) ≤ length out.old }
+pub(crate) fn put_transcript(text: &[u8], places: &[[usize; 2]], out: &mut [u8])
+    requires places { Places text.now places.now (length places.now) }
+    requires places_in_bounds { length (transcript (texts_at text.now places.now)) ≤ length out.old }
     ensures { out.new ≡
-        transcript (texts_at text.now (take n places.now)) ++ drop
-        (length (transcript (texts_at text.now (take n places.now)))) out.old }
+        transcript (texts_at text.now places.now) ++ drop
+        (length (transcript (texts_at text.now places.now))) out.old }
 {
-    let end = put_commands(text, places, n, out);
-    stanza::copy(&DONE, &mut out[end..]);
+    let end = put_commands(text, places, out);
+    out[end..end + 9].copy_from_slice(&DONE);
 }

@@ -1,5 +1,5 @@
 // What a call that receives answers.
-ghost use Rattle.std.specs.Prelude.{◌≡◌, List, ℕ, ◌≤◌, min, length};
+ghost use Rattle.std.specs.Prelude.{◌≡◌, Ok, Err, List, ℕ, ◌≤◌, min, length};
 ghost use Rattle.refusal.specs.Number.{number_of};
 ghost use Rattle.stanza.specs.Resuming.{refused};
 ghost use Rattle.conversation.specs.Kinds.{Buffers};
@@ -35,7 +35,7 @@ pub struct Received {
 
 impl Received {
     // The same behind what stands behind the stanzas: another verdict and session.
-    pub(crate) fn settled(self, verdict: Result<(), Refusal>, session: Session) -> Received
+    pub fn settled(self, verdict: Result<(), Refusal>, session: Session) -> Received
         ensures { result ≡ record {
           verdict = verdict;
           count = self.count;
@@ -44,15 +44,43 @@ impl Received {
           session = session;
         } }
     {
-        let last = self.last;
-        Received {
-            verdict: verdict,
-            count: self.count,
-            last: last,
-            written: self.written,
-            session: session,
-        }
+        Received { verdict, session, ..self }
     }
+}
+
+// Nothing taken yet.
+pub fn begin(session: Session, written: usize) -> Received
+    ensures { result ≡ record { verdict = Ok tt; count = 0; last = Last.Nothing; written = written; session = session } }
+{
+    Received {
+        verdict: Ok(()),
+        count: 0,
+        last: Last::Nothing,
+        written: written,
+        session: session,
+    }
+}
+
+// A refusal behind what was taken. Nothing is kept.
+pub fn stop(so_far: Received, refusal: Refusal, session: Session) -> Received
+    ensures { result ≡ record {
+      verdict = Err refusal;
+      count = so_far.count;
+      last = so_far.last;
+      written = so_far.written;
+      session = record {
+        machine = session.machine;
+        phase = session.phase;
+        screen = session.screen;
+        name = session.name;
+        tables = session.tables;
+        reading = Place.Start;
+        kept = 0;
+        awaited = 0;
+      };
+    } }
+{
+    so_far.settled(Err(refusal), session.keeping(Place::Start, 0, 0))
 }
 
 // A refusal that takes nothing and leaves everything as it was.

@@ -1,5 +1,5 @@
 // What is kept of the input between calls, in the lent array.
-ghost use Rattle.std.specs.Prelude.{◌≡◌, List, [], ◌++◌, ℕ, ◌≤◌, min, length, take, drop};
+ghost use Rattle.std.specs.Prelude.{◌≡◌, List, [], ◌++◌, ℕ, ◌+◌, ◌≤◌, min, length, take, drop};
 ghost use Rattle.refusal.specs.Output.{filled};
 ghost use Rattle.refusal.specs.Number.{number_of};
 ghost use Rattle.stanza.specs.Resuming.{place_said, continued_said, continued, unfinished};
@@ -24,11 +24,7 @@ const MOST_UNFINISHED: usize = stanza::LONGEST - 1;
 pub fn kept_of(kept: usize) -> usize
     ensures { result ≡ min kept 8191 }
 {
-    if kept < MOST_UNFINISHED {
-        kept
-    } else {
-        MOST_UNFINISHED
-    }
+    kept.min(MOST_UNFINISHED)
 }
 
 // A part behind the first bytes of `out`; nothing where it is too short.
@@ -39,6 +35,21 @@ fn copy_behind(part: &[u8], at: usize, out: &mut [u8])
         return;
     }
     stanza::copy(part, &mut out[at..]);
+}
+
+// The front of a stanza, so many bytes of the input, and its rest, one behind the other in a store that has room.
+pub fn put_together(input: &[u8], kept: usize, rest: &[u8], store: &mut [u8])
+    ensures { kept ≤ length input.now → kept + length rest.now ≤ length store.old → store.new ≡
+        (take kept input.now ++ rest.now) ++ drop (kept + length rest.now) store.old }
+{
+    if input.len() < kept {
+        return;
+    }
+    if store.len() < kept {
+        return;
+    }
+    stanza::copy(&input[..kept], store);
+    stanza::copy(rest, &mut store[kept..]);
 }
 
 // Whether no stanza is unfinished.

@@ -7,6 +7,6 @@ mod answers;
 mod keeping;
 mod turns;
 
-pub use answers::{Last, Received, close, leave};
-pub use keeping::{keep_on, kept_of, read_front, read_one, settle};
+pub use answers::{Last, Received, begin, close, leave, stop};
+pub use keeping::{keep_on, kept_of, put_together, read_front, read_one, settle};
 pub use turns::{Turn, answer_due, finish, turn_client, turn_plugin};

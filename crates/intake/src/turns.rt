@@ -29,6 +29,7 @@ pub enum Turn {
     KeepsBack,
 }
 
+// Not one function with turn_plugin: the ends differ in three phases of five, and a function that is told the end would choose in each of the three.
 // At the client end: while its host's reply is due they are kept back.
 pub fn turn_client(phase: Phase) -> Turn
     ensures { turn_said result ≡ turn_at client phase }

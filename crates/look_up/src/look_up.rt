@@ -6,10 +6,10 @@ ghost use Rattle.session.specs.Tables.{tables_in};
 ghost use Rattle.conversation.specs.PhaseTwo.{labels, is_file, stanzas_for, has_key};
 ghost use Rattle.look_up.specs.LookUp.{table_of, entry_text, awaited_said, awaited_in, name_said, named_by, error_named, number_of, message_of, stanza_of, key_of};
 
-use crate::entries::{count_entries, count_file, has_file};
+use crate::entries::{count_file, has_file};
 use bech32::TextKind;
 use session::{Kind, Mark, Phase, Tables, WordTwo, span_of};
-use tables::{Entry, Span, Table, entry_at, payload};
+use tables::{Entry, Span, Table, payload};
 
 // What stands at a number of a kind's table.
 pub fn find(
@@ -21,16 +21,16 @@ pub fn find(
 ) -> Option<Entry>
     ensures { found_said result ≡ found_in (table_of kind (tables_in tables slots.now header_slots.now)) n }
 {
-    let span = span_of(kind);
-    match kind {
-        Kind::Recipients => tables.recipients.find(span, n, slots),
-        Kind::Identities => tables.identities.find(span, n, slots),
-        Kind::Keys => tables.keys.find(span, n, slots),
-        Kind::Headers => tables.headers.find(span, n, header_slots),
-        Kind::Errors => tables.errors.find(span, n, slots),
-        Kind::Stanzas => tables.stanzas.find(span, n, slots),
-        Kind::Returned => tables.returned.find(span, n, slots),
-    }
+    let (table, slots) = match kind {
+        Kind::Recipients => (tables.recipients, slots),
+        Kind::Identities => (tables.identities, slots),
+        Kind::Keys => (tables.keys, slots),
+        Kind::Headers => (tables.headers, header_slots),
+        Kind::Errors => (tables.errors, slots),
+        Kind::Stanzas => (tables.stanzas, slots),
+        Kind::Returned => (tables.returned, slots),
+    };
+    table.find(span_of(kind), n, slots)
 }
 
 // The text of a recipient or an identity, a part of its kind's buffer; empty where there is none, or the buffer is too short for it.
@@ -145,19 +145,17 @@ pub fn error_message<'a>(
 pub fn number_of(table: Table, span: Span, file: usize, k: usize, slots: &[[usize; 4]]) -> usize
     ensures { result ≡ number_of (is_file file) (labels (table_in span table slots.now)) k }
 {
+    let entries = table.entries(span, slots);
     let mut left = k;
-    let mut i = 0;
-    while i < count_entries(table, span, slots) {
-        let e = entry_at(span, i, slots);
-        if e.index == file {
+    for (i, slot) in entries.iter().enumerate() {
+        if Entry::from(*slot).index == file {
             if left == 0 {
                 return i;
             }
             left -= 1;
         }
-        i += 1;
     }
-    i
+    entries.len()
 }
 
 // The k-th stanza of a file, a part of the stanzas' buffer; empty where there is none, or the buffer is too short for it.

@@ -1,8 +1,9 @@
 -- The commands of phase one (document 01, "Phase one": the table of commands).
-use Rattle.std.specs.Prelude.{ℕ, Bool, ◌&&◌, List, [], ◌∷◌, ◌++◌, leb, eqb}
+use Rattle.std.specs.Prelude.{ℕ, Bool, ◌&&◌, List, [], ◌∷◌, ◌++◌, leb, eqb, Result, Ok, Err}
 use Rattle.refusal.specs.Number.{number_of}
 use Rattle.refusal.specs.Pick.{pick}
 use Rattle.refusal.specs.Same.{same}
+use Rattle.refusal.specs.declared.Refusal.{Refusal}
 use Rattle.stanza.specs.Arguments.{count_of, argument_of, line_with}
 use Rattle.stanza.specs.Index.{read_index, ReadIndex, number, refused}
 use Rattle.bech32.specs.Text.{parse}
@@ -165,11 +166,11 @@ payload_of other line body = []
 payload_of (bad n) line body = []
 
 -- what the code's command stands for: its mark is the one that the text and the body have for a plugin
-abbrev pub command_said : List ℕ → List ℕ → ℕ → CodeCommand → CommandOne
-command_said plugin line body code_command.Recipient = recipient (mark_of (parse (form_of the_kind.Recipient) (argument_of line 1)) plugin)
-command_said plugin line body code_command.Identity = identity (mark_of (parse (form_of the_kind.Identity) (argument_of line 1)) plugin)
-command_said plugin line body code_command.Key = key
-command_said plugin line body (code_command.Header i) = header i (header_mark plugin line body)
-command_said plugin line body code_command.Done = done
-command_said plugin line body code_command.Other = other
-command_said plugin line body (code_command.Refused r) = bad (number_of r)
+abbrev pub command_said : List ℕ → List ℕ → ℕ → Result CodeCommand Refusal → CommandOne
+command_said plugin line body (Ok code_command.Recipient) = recipient (mark_of (parse (form_of the_kind.Recipient) (argument_of line 1)) plugin)
+command_said plugin line body (Ok code_command.Identity) = identity (mark_of (parse (form_of the_kind.Identity) (argument_of line 1)) plugin)
+command_said plugin line body (Ok code_command.Key) = key
+command_said plugin line body (Ok (code_command.Header i)) = header i (header_mark plugin line body)
+command_said plugin line body (Ok code_command.Done) = done
+command_said plugin line body (Ok code_command.Other) = other
+command_said plugin line body (Err r) = bad (number_of r)

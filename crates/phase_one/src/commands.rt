@@ -9,15 +9,15 @@ use refusal::Refusal;
 use session::Machine;
 
 // The words of phase one, compared with a command's first argument and written where an end sends.
-const ADD_RECIPIENT: [u8; 13] = *b"add-recipient";
+const ADD_RECIPIENT: &[u8] = b"add-recipient";
 
-const ADD_IDENTITY: [u8; 12] = *b"add-identity";
+const ADD_IDENTITY: &[u8] = b"add-identity";
 
-const WRAP_FILE_KEY: [u8; 13] = *b"wrap-file-key";
+const WRAP_FILE_KEY: &[u8] = b"wrap-file-key";
 
-const RECIPIENT_STANZA: [u8; 16] = *b"recipient-stanza";
+const RECIPIENT_STANZA: &[u8] = b"recipient-stanza";
 
-const DONE: [u8; 4] = *b"done";
+const DONE: &[u8] = b"done";
 
 // The words of phase one.
 #[derive(Clone, Copy)]
@@ -30,7 +30,8 @@ pub enum WordOne {
     Other,
 }
 
-// A command of phase one: an entry, for a header stanza with its index; done; any other, which is ignored; or 4 or 5. An entry's mark is made when it is kept.
+// A command of phase one: an entry, for a header stanza with its index; done; or any other, which is ignored. An entry's mark is made when it is kept. One that
+// is read wrongly is 4 or 5 instead.
 #[derive(Clone, Copy)]
 pub enum CommandOne {
     Recipient,
@@ -39,49 +40,20 @@ pub enum CommandOne {
     Header(u32),
     Done,
     Other,
-    Refused(Refusal),
 }
 
-fn recipient_word(word: &[u8]) -> WordOne
-    ensures { word_said result ≡ word_in Machine.RecipientV1 word.now }
-{
-    if stanza::is_same(word, &ADD_RECIPIENT) {
-        return WordOne::AddRecipient;
-    }
-    if stanza::is_same(word, &ADD_IDENTITY) {
-        return WordOne::AddIdentity;
-    }
-    if stanza::is_same(word, &WRAP_FILE_KEY) {
-        return WordOne::WrapFileKey;
-    }
-    if stanza::is_same(word, &DONE) {
-        return WordOne::Done;
-    }
-    WordOne::Other
-}
-
-fn identity_word(word: &[u8]) -> WordOne
-    ensures { word_said result ≡ word_in Machine.IdentityV1 word.now }
-{
-    if stanza::is_same(word, &ADD_IDENTITY) {
-        return WordOne::AddIdentity;
-    }
-    if stanza::is_same(word, &RECIPIENT_STANZA) {
-        return WordOne::RecipientStanza;
-    }
-    if stanza::is_same(word, &DONE) {
-        return WordOne::Done;
-    }
-    WordOne::Other
-}
-
-// Which command of phase one a word names for a machine.
+// Which command of phase one a word names for a machine. A match on the words themselves was tried: it tests byte by byte, and the proof did not close.
+#[tactic(auto, using(tables::proofs::Laws::Repeats::pointwise_same))]
 fn word_in(machine: Machine, word: &[u8]) -> WordOne
     ensures { word_said result ≡ word_in machine word.now }
 {
     match machine {
-        Machine::RecipientV1 => recipient_word(word),
-        Machine::IdentityV1 => identity_word(word),
+        Machine::RecipientV1 if word == ADD_RECIPIENT => WordOne::AddRecipient,
+        _ if word == ADD_IDENTITY => WordOne::AddIdentity,
+        Machine::RecipientV1 if word == WRAP_FILE_KEY => WordOne::WrapFileKey,
+        Machine::IdentityV1 if word == RECIPIENT_STANZA => WordOne::RecipientStanza,
+        _ if word == DONE => WordOne::Done,
+        _ => WordOne::Other,
     }
 }
 
@@ -89,69 +61,56 @@ fn word_in(machine: Machine, word: &[u8]) -> WordOne
 fn after_space<'a>(text: &'a [u8]) -> &'a [u8]
     ensures { result.now ≡ after_space text.now }
 {
-    let n = text.len();
-    let mut i: usize = 0;
-    while i < n {
-        if text[i] == b' ' {
-            let from = i + 1;
-            return &text[from..];
-        }
-        i += 1;
+    match text.iter().position(|b| *b == b' ') {
+        Some(i) => &text[i + 1..],
+        None => &[],
     }
-    &text[n..]
 }
 
 // The arguments of a header stanza behind its index.
 pub fn rest_of<'a>(line: &'a [u8]) -> &'a [u8]
     ensures { result.now ≡ rest_of line.now }
 {
-    let behind = after_space(line);
-    after_space(behind)
+    after_space(after_space(line))
 }
 
 // A recipient or an identity: one argument, no body.
-fn parse_text(kind: TextKind, line: &[u8], body: usize) -> CommandOne
+fn parse_text(kind: TextKind, line: &[u8], body: usize) -> Result<CommandOne, Refusal>
     ensures { (plugin : List ℕ) → command_said plugin line.now body result ≡ text_command kind plugin line.now body }
 {
     if stanza::count(line) != 2 {
-        return CommandOne::Refused(Refusal::BadCommand);
+        return Err(Refusal::BadCommand);
     }
     if body != 0 {
-        return CommandOne::Refused(Refusal::BadCommand);
+        return Err(Refusal::BadCommand);
     }
     match kind {
-        TextKind::Recipient => CommandOne::Recipient,
-        TextKind::Identity => CommandOne::Identity,
+        TextKind::Recipient => Ok(CommandOne::Recipient),
+        TextKind::Identity => Ok(CommandOne::Identity),
     }
 }
 
 // A header stanza: an index, a tag, any more arguments, any body.
-fn parse_header(line: &[u8], body: usize) -> CommandOne
+fn parse_header(line: &[u8], body: usize) -> Result<CommandOne, Refusal>
     ensures { (plugin : List ℕ) → command_said plugin line.now body result ≡ header_command plugin line.now body }
 {
     if stanza::count(line) < 3 {
-        return CommandOne::Refused(Refusal::BadCommand);
+        return Err(Refusal::BadCommand);
     }
     let text = stanza::argument(line, 1);
-    let index = stanza::read_index(text);
-    match index {
-        Ok(n) => CommandOne::Header(n),
-        Err(r) => CommandOne::Refused(r),
-    }
+    let index = stanza::read_index(text)?;
+    Ok(CommandOne::Header(index))
 }
 
 // No argument, and a body of n bytes.
 fn is_bare(line: &[u8], body: usize, n: usize) -> bool
     ensures { result ≡ (eqb (count_of line.now) 1 && eqb body n) }
 {
-    if stanza::count(line) != 1 {
-        return false;
-    }
-    body == n
+    stanza::count(line) == 1 && body == n
 }
 
 // The command of phase one that a stanza is, by its arguments and how many bytes its body has.
-pub(crate) fn parse_one(machine: Machine, line: &[u8], body: usize) -> CommandOne
+pub(crate) fn parse_one(machine: Machine, line: &[u8], body: usize) -> Result<CommandOne, Refusal>
     ensures { (plugin : List ℕ) → command_said plugin line.now body result ≡ command machine plugin line.now body }
 {
     let first = stanza::argument(line, 0);
@@ -162,32 +121,32 @@ pub(crate) fn parse_one(machine: Machine, line: &[u8], body: usize) -> CommandOn
         WordOne::RecipientStanza => parse_header(line, body),
         WordOne::WrapFileKey => {
             if is_bare(line, body, 16) {
-                return CommandOne::Key;
+                return Ok(CommandOne::Key);
             }
-            CommandOne::Refused(Refusal::BadCommand)
+            Err(Refusal::BadCommand)
         }
         WordOne::Done => {
             if is_bare(line, body, 0) {
-                return CommandOne::Done;
+                return Ok(CommandOne::Done);
             }
-            CommandOne::Refused(Refusal::BadCommand)
+            Err(Refusal::BadCommand)
         }
-        WordOne::Other => CommandOne::Other,
+        WordOne::Other => Ok(CommandOne::Other),
     }
 }
 
 // The word of a command.
-pub fn word_of(command: CommandOne) -> WordOne
+pub fn word_of(command: Result<CommandOne, Refusal>) -> WordOne
     ensures { (plugin line : List ℕ) (n : ℕ) → word_said result ≡ word_of (command_said plugin line n command) }
 {
     match command {
-        CommandOne::Recipient => WordOne::AddRecipient,
-        CommandOne::Identity => WordOne::AddIdentity,
-        CommandOne::Key => WordOne::WrapFileKey,
-        CommandOne::Header(_) => WordOne::RecipientStanza,
-        CommandOne::Done => WordOne::Done,
-        CommandOne::Other => WordOne::Other,
-        CommandOne::Refused(_) => WordOne::Other,
+        Ok(CommandOne::Recipient) => WordOne::AddRecipient,
+        Ok(CommandOne::Identity) => WordOne::AddIdentity,
+        Ok(CommandOne::Key) => WordOne::WrapFileKey,
+        Ok(CommandOne::Header(_)) => WordOne::RecipientStanza,
+        Ok(CommandOne::Done) => WordOne::Done,
+        Ok(CommandOne::Other) => WordOne::Other,
+        Err(_) => WordOne::Other,
     }
 }
 
@@ -198,11 +157,11 @@ pub fn put_line(word: WordOne, arguments: &[u8], out: &mut [u8]) -> Result<usize
     ensures buffer { out.new ≡ filled (line_sent (word_said word) arguments.now) out.old }
 {
     match word {
-        WordOne::AddRecipient => stanza::join(&ADD_RECIPIENT, arguments, out),
-        WordOne::AddIdentity => stanza::join(&ADD_IDENTITY, arguments, out),
-        WordOne::WrapFileKey => stanza::join(&WRAP_FILE_KEY, arguments, out),
-        WordOne::RecipientStanza => stanza::join(&RECIPIENT_STANZA, arguments, out),
-        WordOne::Done => stanza::join(&DONE, arguments, out),
+        WordOne::AddRecipient => stanza::join(ADD_RECIPIENT, arguments, out),
+        WordOne::AddIdentity => stanza::join(ADD_IDENTITY, arguments, out),
+        WordOne::WrapFileKey => stanza::join(WRAP_FILE_KEY, arguments, out),
+        WordOne::RecipientStanza => stanza::join(RECIPIENT_STANZA, arguments, out),
+        WordOne::Done => stanza::join(DONE, arguments, out),
         WordOne::Other => stanza::join(arguments, b"", out),
     }
 }

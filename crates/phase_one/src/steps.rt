@@ -29,18 +29,11 @@ pub fn wide(index: u32) -> usize
     index as usize
 }
 
-// A mark as a number of a slot.
-fn wide_mark(mark: u8) -> usize
-    ensures { result ≡ mark }
-{
-    mark as usize
-}
-
 // A recipient's or an identity's mark.
 fn text_mark(kind: TextKind, text: &[u8], plugin: &[u8]) -> usize
     ensures { result ≡ mark_of (parse (form_of kind) text.now) plugin.now }
 {
-    wide_mark(bech32::mark(kind, text, plugin))
+    usize::from(bech32::mark(kind, text, plugin))
 }
 
 // A header stanza's mark, by its tag and arguments and how many bytes its body has.
@@ -60,17 +53,15 @@ fn is_falling(headers: Table, index: u32, slots: &[[usize; 4]]) -> bool
     ensures { result ≡ falls (table_in (span_of Kind.Headers) headers slots.now) index }
 {
     let count = headers.count;
-    if count == 0 {
-        return false;
-    }
-    if Session::HEADER_STANZAS < count {
+    if count == 0 || Session::HEADER_STANZAS < count {
         return false;
     }
     let last = entry_at(span_of(Kind::Headers), count - 1, slots);
     wide(index) < last.index
 }
 
-// A recipient or an identity kept: its text is the command's one argument. Nothing changes where it is refused.
+// A recipient or an identity kept: its text is the command's one argument. Nothing changes where it is refused. Table, span, slots and buffer stay apart, as
+// `Table::store` takes them.
 fn keep_text(
     kind: TextKind,
     table: Table,
@@ -189,13 +180,18 @@ fn keep_header(
 // What a command of phase one came to: the command, the number if it is refused, and the tables.
 #[derive(Clone, Copy)]
 pub struct StepOne {
-    pub command: CommandOne,
+    pub command: Result<CommandOne, Refusal>,
     pub verdict: Result<(), Refusal>,
     pub tables: Tables,
 }
 
 // What a command came to, by what storing it came to: its kind's table has changed, and no other.
-fn stepped(command: CommandOne, tables: Tables, kind: Kind, stored: Stored) -> StepOne
+fn stepped(
+    command: Result<CommandOne, Refusal>,
+    tables: Tables,
+    kind: Kind,
+    stored: Stored,
+) -> StepOne
     ensures { result ≡ record { command = command; verdict = stored.verdict; tables = with_table tables kind stored.table } }
 {
     let verdict = stored.verdict;
@@ -242,12 +238,12 @@ pub fn step_one(
     let n = tables::body_size(coding, source);
     let command = parse_one(machine, line, n);
     match command {
-        CommandOne::Recipient => {
+        Ok(CommandOne::Recipient) => {
             let t = tables.recipients;
             let stored = keep_recipient(t, plugin, late, line, slots, recipients);
             stepped(command, tables, Kind::Recipients, stored)
         }
-        CommandOne::Identity => {
+        Ok(CommandOne::Identity) => {
             let t = tables.identities;
             let span = span_of(Kind::Identities);
             let stored = keep_text(
@@ -262,13 +258,13 @@ pub fn step_one(
             );
             stepped(command, tables, Kind::Identities, stored)
         }
-        CommandOne::Key => {
+        Ok(CommandOne::Key) => {
             let t = tables.keys;
             let span = span_of(Kind::Keys);
             let stored = t.store(span, late, coding, source, 0, Mark::NONE, slots, keys);
             stepped(command, tables, Kind::Keys, stored)
         }
-        CommandOne::Header(index) => {
+        Ok(CommandOne::Header(index)) => {
             let t = tables.headers;
             let stored = keep_header(
                 t,
@@ -284,17 +280,17 @@ pub fn step_one(
             );
             stepped(command, tables, Kind::Headers, stored)
         }
-        CommandOne::Done => StepOne {
+        Ok(CommandOne::Done) => StepOne {
             command: command,
             verdict: late,
             tables: tables,
         },
-        CommandOne::Other => StepOne {
+        Ok(CommandOne::Other) => StepOne {
             command: command,
             verdict: late,
             tables: tables,
         },
-        CommandOne::Refused(r) => StepOne {
+        Err(r) => StepOne {
             command: command,
             verdict: Err(r),
             tables: tables,

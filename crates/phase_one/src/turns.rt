@@ -22,22 +22,26 @@ pub fn turn_one(phase: Phase) -> Result<(), Refusal>
 }
 
 // The phase behind an accepted command of phase one.
-fn phase_after(command: CommandOne) -> Phase
+fn phase_after(command: Result<CommandOne, Refusal>) -> Phase
     ensures { (plugin line : List ℕ) (n : ℕ) → result ≡ phase_after (command_said plugin line n command) }
 {
     match command {
-        CommandOne::Done => Phase::Two,
-        CommandOne::Recipient => Phase::One,
-        CommandOne::Identity => Phase::One,
-        CommandOne::Key => Phase::One,
-        CommandOne::Header(_) => Phase::One,
-        CommandOne::Other => Phase::One,
-        CommandOne::Refused(_) => Phase::One,
+        Ok(CommandOne::Done) => Phase::Two,
+        Ok(CommandOne::Recipient) => Phase::One,
+        Ok(CommandOne::Identity) => Phase::One,
+        Ok(CommandOne::Key) => Phase::One,
+        Ok(CommandOne::Header(_)) => Phase::One,
+        Ok(CommandOne::Other) => Phase::One,
+        Err(_) => Phase::One,
     }
 }
 
 // The phase behind a command that was received in a phase.
-pub fn phase_received(phase: Phase, verdict: Result<(), Refusal>, command: CommandOne) -> Phase
+pub fn phase_received(
+    phase: Phase,
+    verdict: Result<(), Refusal>,
+    command: Result<CommandOne, Refusal>,
+) -> Phase
     ensures { (plugin line : List ℕ) (n : ℕ) → result ≡ phase_received phase (verdict_said verdict) (command_said plugin line n command) }
 {
     match verdict {
@@ -47,7 +51,11 @@ pub fn phase_received(phase: Phase, verdict: Result<(), Refusal>, command: Comma
 }
 
 // The phase behind a command that was sent in a phase: no refusal closes the session.
-pub fn phase_sent(phase: Phase, verdict: Result<(), Refusal>, command: CommandOne) -> Phase
+pub fn phase_sent(
+    phase: Phase,
+    verdict: Result<(), Refusal>,
+    command: Result<CommandOne, Refusal>,
+) -> Phase
     ensures { (plugin line : List ℕ) (n : ℕ) → result ≡ phase_sent phase (verdict_said verdict) (command_said plugin line n command) }
 {
     match verdict {

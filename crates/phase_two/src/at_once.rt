@@ -6,25 +6,26 @@ ghost use Rattle.phase_two_commands.specs.Commands.{command_said};
 ghost use Rattle.phase_two.specs.AtOnce.{at_once_said};
 
 use phase_two_commands::CommandTwo;
+use refusal::Refusal;
 use responses::Response;
 
 // What a client with or without a screen answers at once.
-pub fn answer_at_once(screen: bool, command: CommandTwo) -> Option<Response>
+pub fn answer_at_once(screen: bool, command: Result<CommandTwo, Refusal>) -> Option<Response>
     ensures { at_once_said result ≡ at_once screen (command_said command) }
 {
     match command {
-        CommandTwo::Ask(_) => {
+        Ok(CommandTwo::Ask(_)) => {
             if screen {
                 return None;
             }
             Some(Response::Fail)
         }
-        CommandTwo::Stanza(_) => Some(Response::Ok),
-        CommandTwo::Key(_) => Some(Response::Ok),
-        CommandTwo::Error(_) => Some(Response::Ok),
-        CommandTwo::Done => None,
-        CommandTwo::Other => Some(Response::Unsupported),
-        CommandTwo::Refused(_) => None,
+        Ok(CommandTwo::Stanza(_)) => Some(Response::Ok),
+        Ok(CommandTwo::Key(_)) => Some(Response::Ok),
+        Ok(CommandTwo::Error(_)) => Some(Response::Ok),
+        Ok(CommandTwo::Done) => None,
+        Ok(CommandTwo::Other) => Some(Response::Unsupported),
+        Err(_) => None,
     }
 }
 

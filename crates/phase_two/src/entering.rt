@@ -17,20 +17,25 @@ use session::{Kind, Mark, Tables, span_of};
 use tables::{Coding, body_size};
 
 // How many bytes a command's payload has, by its arguments' text and its body: both are slices, so the sum fits.
-pub fn payload_size(command: CommandTwo, line: &[u8], coding: Coding, source: &[u8]) -> usize
+pub fn payload_size(
+    command: Result<CommandTwo, Refusal>,
+    line: &[u8],
+    coding: Coding,
+    source: &[u8],
+) -> usize
     ensures { result ≡ length (payload_of (command_said command) line.now (body_from coding source.now)) }
 {
     match command {
-        CommandTwo::Stanza(_) => {
+        Ok(CommandTwo::Stanza(_)) => {
             let rest = rest_of(line);
             rest.len() + 1 + body_size(coding, source)
         }
-        CommandTwo::Key(_) => body_size(coding, source),
-        CommandTwo::Error(_) => body_size(coding, source),
-        CommandTwo::Ask(_) => 0,
-        CommandTwo::Done => 0,
-        CommandTwo::Other => 0,
-        CommandTwo::Refused(_) => 0,
+        Ok(CommandTwo::Key(_)) => body_size(coding, source),
+        Ok(CommandTwo::Error(_)) => body_size(coding, source),
+        Ok(CommandTwo::Ask(_)) => 0,
+        Ok(CommandTwo::Done) => 0,
+        Ok(CommandTwo::Other) => 0,
+        Err(_) => 0,
     }
 }
 
@@ -40,7 +45,7 @@ pub fn enter_two(
     ruled: Result<(), Refusal>,
     late: Result<(), Refusal>,
     tables: Tables,
-    command: CommandTwo,
+    command: Result<CommandTwo, Refusal>,
     size: usize,
     errors: usize,
     stanzas: usize,
@@ -66,7 +71,7 @@ pub fn enter_two(
 fn enter(
     late: Result<(), Refusal>,
     tables: Tables,
-    command: CommandTwo,
+    command: Result<CommandTwo, Refusal>,
     size: usize,
     errors: usize,
     stanzas: usize,
@@ -78,19 +83,19 @@ fn enter(
         (tables_in result.tables slots.new hs) }
 {
     match command {
-        CommandTwo::Stanza(file) => {
+        Ok(CommandTwo::Stanza(file)) => {
             let t = tables.stanzas;
             let span = span_of(Kind::Stanzas);
             let stored = t.enter(span, late, size, wide(file), Mark::NONE, stanzas, slots);
             stepped(tables, Kind::Stanzas, stored)
         }
-        CommandTwo::Key(file) => {
+        Ok(CommandTwo::Key(file)) => {
             let t = tables.returned;
             let span = span_of(Kind::Returned);
             let stored = t.enter(span, late, size, wide(file), Mark::NONE, returned, slots);
             stepped(tables, Kind::Returned, stored)
         }
-        CommandTwo::Error(named) => {
+        Ok(CommandTwo::Error(named)) => {
             let t = tables.errors;
             let span = span_of(Kind::Errors);
             let index = index_of(named);
@@ -98,19 +103,19 @@ fn enter(
             let stored = t.enter(span, late, size, index, mark, errors, slots);
             stepped(tables, Kind::Errors, stored)
         }
-        CommandTwo::Ask(_) => StepTwo {
+        Ok(CommandTwo::Ask(_)) => StepTwo {
             verdict: late,
             tables: tables,
         },
-        CommandTwo::Done => StepTwo {
+        Ok(CommandTwo::Done) => StepTwo {
             verdict: late,
             tables: tables,
         },
-        CommandTwo::Other => StepTwo {
+        Ok(CommandTwo::Other) => StepTwo {
             verdict: late,
             tables: tables,
         },
-        CommandTwo::Refused(_) => StepTwo {
+        Err(_) => StepTwo {
             verdict: late,
             tables: tables,
         },

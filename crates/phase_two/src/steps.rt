@@ -171,7 +171,7 @@ pub fn step_two(
     ruled: Result<(), Refusal>,
     late: Result<(), Refusal>,
     tables: Tables,
-    command: CommandTwo,
+    command: Result<CommandTwo, Refusal>,
     line: &[u8],
     coding: Coding,
     source: &[u8],
@@ -214,7 +214,7 @@ pub fn step_two(
 fn keep(
     late: Result<(), Refusal>,
     tables: Tables,
-    command: CommandTwo,
+    command: Result<CommandTwo, Refusal>,
     line: &[u8],
     coding: Coding,
     source: &[u8],
@@ -240,34 +240,34 @@ fn keep(
         (buffers_of errors.old stanzas.old returned.old) }
 {
     match command {
-        CommandTwo::Stanza(file) => {
+        Ok(CommandTwo::Stanza(file)) => {
             let t = tables.stanzas;
             let stored = keep_stanza(t, late, line, coding, source, file, slots, stanzas);
             stepped(tables, Kind::Stanzas, stored)
         }
-        CommandTwo::Key(file) => {
+        Ok(CommandTwo::Key(file)) => {
             let t = tables.returned;
             let stored = keep_key(t, late, coding, source, file, slots, returned);
             stepped(tables, Kind::Returned, stored)
         }
-        CommandTwo::Error(named) => {
+        Ok(CommandTwo::Error(named)) => {
             let t = tables.errors;
             let stored = keep_error(t, late, coding, source, named, slots, errors);
             stepped(tables, Kind::Errors, stored)
         }
-        CommandTwo::Ask(_) => StepTwo {
+        Ok(CommandTwo::Ask(_)) => StepTwo {
             verdict: late,
             tables: tables,
         },
-        CommandTwo::Done => StepTwo {
+        Ok(CommandTwo::Done) => StepTwo {
             verdict: late,
             tables: tables,
         },
-        CommandTwo::Other => StepTwo {
+        Ok(CommandTwo::Other) => StepTwo {
             verdict: late,
             tables: tables,
         },
-        CommandTwo::Refused(_) => StepTwo {
+        Err(_) => StepTwo {
             verdict: late,
             tables: tables,
         },

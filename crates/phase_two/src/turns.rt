@@ -26,37 +26,37 @@ pub fn turn_two(phase: Phase) -> Result<(), Refusal>
 }
 
 // The phase behind an accepted command that was received.
-fn phase_taken(screen: bool, command: CommandTwo) -> Phase
+fn phase_taken(screen: bool, command: Result<CommandTwo, Refusal>) -> Phase
     ensures { result ≡ phase_received screen (command_said command) }
 {
     match command {
-        CommandTwo::Ask(word) => {
+        Ok(CommandTwo::Ask(word)) => {
             if screen {
                 return Phase::Awaiting(word);
             }
             Phase::Two
         }
-        CommandTwo::Stanza(_) => Phase::Two,
-        CommandTwo::Key(_) => Phase::Two,
-        CommandTwo::Error(_) => Phase::Two,
-        CommandTwo::Done => Phase::Ended,
-        CommandTwo::Other => Phase::Two,
-        CommandTwo::Refused(_) => Phase::Two,
+        Ok(CommandTwo::Stanza(_)) => Phase::Two,
+        Ok(CommandTwo::Key(_)) => Phase::Two,
+        Ok(CommandTwo::Error(_)) => Phase::Two,
+        Ok(CommandTwo::Done) => Phase::Ended,
+        Ok(CommandTwo::Other) => Phase::Two,
+        Err(_) => Phase::Two,
     }
 }
 
 // The phase behind an accepted command that was sent.
-fn phase_spoken(command: CommandTwo) -> Phase
+fn phase_spoken(command: Result<CommandTwo, Refusal>) -> Phase
     ensures { result ≡ phase_sent (command_said command) }
 {
     match command {
-        CommandTwo::Ask(word) => Phase::Awaiting(word),
-        CommandTwo::Stanza(_) => Phase::Awaiting(WordTwo::RecipientStanza),
-        CommandTwo::Key(_) => Phase::Awaiting(WordTwo::FileKey),
-        CommandTwo::Error(_) => Phase::Awaiting(WordTwo::Error),
-        CommandTwo::Done => Phase::Ended,
-        CommandTwo::Other => Phase::Awaiting(WordTwo::Other),
-        CommandTwo::Refused(_) => Phase::Two,
+        Ok(CommandTwo::Ask(word)) => Phase::Awaiting(word),
+        Ok(CommandTwo::Stanza(_)) => Phase::Awaiting(WordTwo::RecipientStanza),
+        Ok(CommandTwo::Key(_)) => Phase::Awaiting(WordTwo::FileKey),
+        Ok(CommandTwo::Error(_)) => Phase::Awaiting(WordTwo::Error),
+        Ok(CommandTwo::Done) => Phase::Ended,
+        Ok(CommandTwo::Other) => Phase::Awaiting(WordTwo::Other),
+        Err(_) => Phase::Two,
     }
 }
 
@@ -65,7 +65,7 @@ pub fn phase_received_two(
     phase: Phase,
     screen: bool,
     verdict: Result<(), Refusal>,
-    command: CommandTwo,
+    command: Result<CommandTwo, Refusal>,
 ) -> Phase
     ensures { result ≡ pick (eqb (verdict_said verdict) 0) (phase_received screen (command_said command)) (phase_refused phase (verdict_said verdict)) }
 {
@@ -76,7 +76,11 @@ pub fn phase_received_two(
 }
 
 // The phase behind a command that was sent in a phase: no refusal closes the session.
-pub fn phase_sent_two(phase: Phase, verdict: Result<(), Refusal>, command: CommandTwo) -> Phase
+pub fn phase_sent_two(
+    phase: Phase,
+    verdict: Result<(), Refusal>,
+    command: Result<CommandTwo, Refusal>,
+) -> Phase
     ensures { result ≡ pick (eqb (verdict_said verdict) 0) (phase_sent (command_said command)) phase }
 {
     match verdict {

@@ -1,8 +1,9 @@
 -- What the code's commands of phase two stand for.
-use Rattle.std.specs.Prelude.{ℕ, List}
+use Rattle.std.specs.Prelude.{ℕ, List, Result, Ok, Err}
 use Rattle.refusal.specs.Number.{number_of}
 use Rattle.refusal.specs.Pick.{pick}
 use Rattle.refusal.specs.Same.{same}
+use Rattle.refusal.specs.declared.Refusal.{Refusal}
 use Rattle.bech32.specs.declared.TextKind.{TextKind}
 use Rattle.bech32.specs.declared.TextKind.TheVariants as the_kind
 use Rattle.stanza.specs.Arguments.{argument_of}
@@ -25,14 +26,14 @@ named_said (the_named.Recipient i) = two.recipient i
 named_said (the_named.Header f i) = two.header f i
 
 -- a command
-abbrev pub command_said : CommandTwo → two.CommandTwo
-command_said (the_command.Ask w) = two.ask w
-command_said (the_command.Stanza f) = two.stanza f
-command_said (the_command.Key f) = two.key f
-command_said (the_command.Error n) = two.error (named_said n)
-command_said the_command.Done = two.done
-command_said the_command.Other = two.other
-command_said (the_command.Refused r) = two.bad (number_of r)
+abbrev pub command_said : Result CommandTwo Refusal → two.CommandTwo
+command_said (Ok (the_command.Ask w)) = two.ask w
+command_said (Ok (the_command.Stanza f)) = two.stanza f
+command_said (Ok (the_command.Key f)) = two.key f
+command_said (Ok (the_command.Error n)) = two.error (named_said n)
+command_said (Ok the_command.Done) = two.done
+command_said (Ok the_command.Other) = two.other
+command_said (Err r) = two.bad (number_of r)
 
 -- the command of a stanza, by its arguments' text and how many bytes its body has
 abbrev pub command_of : Machine → List ℕ → ℕ → two.CommandTwo

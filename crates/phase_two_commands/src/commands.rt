@@ -49,7 +49,7 @@ pub enum Named {
     Header(u32, u32),
 }
 
-// A command of phase two: msg, confirm or a request; a stanza or a key for a file; an error; done; any other; or 4 or 5.
+// A command of phase two: msg, confirm or a request; a stanza or a key for a file; an error; done; or any other. One that is read wrongly is 4 or 5 instead.
 #[derive(Clone, Copy)]
 pub enum CommandTwo {
     Ask(WordTwo),
@@ -58,7 +58,6 @@ pub enum CommandTwo {
     Error(Named),
     Done,
     Other,
-    Refused(Refusal),
 }
 
 // A machine's word for its work; to the other machine it is any other word.
@@ -117,11 +116,7 @@ fn word_two(machine: Machine, word: &[u8]) -> WordTwo
 fn is_base64(text: &[u8]) -> bool
     ensures { result ≡ is_base64 text.now }
 {
-    let size = strict_base64::measure(text);
-    match size {
-        Some(_) => true,
-        None => false,
-    }
+    strict_base64::measure(text).is_some()
 }
 
 // Whether a confirm's arguments are one or two labels.
@@ -165,36 +160,27 @@ fn name_of(kind: TextKind, index: u32) -> Named
 }
 
 // An error that names an identity or a recipient by its index.
-fn error_at(kind: TextKind, line: &[u8]) -> CommandTwo
+fn error_at(kind: TextKind, line: &[u8]) -> Result<CommandTwo, Refusal>
     ensures { command_said result ≡ error_at (name_of kind) (read_index (argument_of line.now 2)) }
 {
     let text = stanza::argument(line, 2);
-    let index = stanza::read_index(text);
-    match index {
-        Ok(i) => CommandTwo::Error(name_of(kind, i)),
-        Err(r) => CommandTwo::Refused(r),
-    }
+    let index = stanza::read_index(text)?;
+    Ok(CommandTwo::Error(name_of(kind, index)))
 }
 
 // An error that names a header stanza by its file and its number.
-fn header_at(line: &[u8]) -> CommandTwo
+fn header_at(line: &[u8]) -> Result<CommandTwo, Refusal>
     ensures { command_said result ≡ header_at (read_index (argument_of line.now 2)) (read_index (argument_of line.now 3)) }
 {
     let first = stanza::argument(line, 2);
     let second = stanza::argument(line, 3);
-    let file = stanza::read_index(first);
-    let number = stanza::read_index(second);
-    match file {
-        Ok(f) => match number {
-            Ok(i) => CommandTwo::Error(Named::Header(f, i)),
-            Err(r) => CommandTwo::Refused(r),
-        },
-        Err(r) => CommandTwo::Refused(r),
-    }
+    let file = stanza::read_index(first)?;
+    let number = stanza::read_index(second)?;
+    Ok(CommandTwo::Error(Named::Header(file, number)))
 }
 
 // An error that only one machine has.
-fn parse_own_error(machine: Machine, line: &[u8]) -> CommandTwo
+fn parse_own_error(machine: Machine, line: &[u8]) -> Result<CommandTwo, Refusal>
     ensures { command_said result ≡ error_of machine line.now }
 {
     match machine {
@@ -202,23 +188,23 @@ fn parse_own_error(machine: Machine, line: &[u8]) -> CommandTwo
             if is_kind(line, &RECIPIENT, 3) {
                 return error_at(TextKind::Recipient, line);
             }
-            CommandTwo::Refused(Refusal::BadCommand)
+            Err(Refusal::BadCommand)
         }
         Machine::IdentityV1 => {
             if is_kind(line, &STANZA, 4) {
                 return header_at(line);
             }
-            CommandTwo::Refused(Refusal::BadCommand)
+            Err(Refusal::BadCommand)
         }
     }
 }
 
 // An error, by what it names.
-fn parse_error(machine: Machine, line: &[u8]) -> CommandTwo
+fn parse_error(machine: Machine, line: &[u8]) -> Result<CommandTwo, Refusal>
     ensures { command_said result ≡ error_command machine line.now }
 {
     if is_kind(line, &INTERNAL, 2) {
-        return CommandTwo::Error(Named::Internal);
+        return Ok(CommandTwo::Error(Named::Internal));
     }
     if is_kind(line, &IDENTITY, 3) {
         return error_at(TextKind::Identity, line);
@@ -227,74 +213,68 @@ fn parse_error(machine: Machine, line: &[u8]) -> CommandTwo
 }
 
 // msg or a request: no argument, any body.
-fn parse_ask(word: WordTwo, line: &[u8]) -> CommandTwo
+fn parse_ask(word: WordTwo, line: &[u8]) -> Result<CommandTwo, Refusal>
     ensures { command_said result ≡ pick (eqb (count_of line.now) 1) (ask word) (bad 4) }
 {
     if stanza::count(line) == 1 {
-        return CommandTwo::Ask(word);
+        return Ok(CommandTwo::Ask(word));
     }
-    CommandTwo::Refused(Refusal::BadCommand)
+    Err(Refusal::BadCommand)
 }
 
 // confirm: one or two labels, any body.
-fn parse_confirm(line: &[u8]) -> CommandTwo
+fn parse_confirm(line: &[u8]) -> Result<CommandTwo, Refusal>
     ensures { command_said result ≡ pick (are_labels line.now) (ask WordTwo.Confirm) (bad 4) }
 {
     if are_labels(line) {
-        return CommandTwo::Ask(WordTwo::Confirm);
+        return Ok(CommandTwo::Ask(WordTwo::Confirm));
     }
-    CommandTwo::Refused(Refusal::BadCommand)
+    Err(Refusal::BadCommand)
 }
 
 // A stanza for a file: an index, a tag, any more arguments, any body.
-fn parse_stanza(line: &[u8]) -> CommandTwo
+fn parse_stanza(line: &[u8]) -> Result<CommandTwo, Refusal>
     ensures { command_said result ≡ pick (leb 3 (count_of line.now)) (stanza_at (read_index (argument_of line.now 1))) (bad 4) }
 {
     if stanza::count(line) < 3 {
-        return CommandTwo::Refused(Refusal::BadCommand);
+        return Err(Refusal::BadCommand);
     }
     let text = stanza::argument(line, 1);
-    let index = stanza::read_index(text);
-    match index {
-        Ok(f) => CommandTwo::Stanza(f),
-        Err(r) => CommandTwo::Refused(r),
-    }
+    let file = stanza::read_index(text)?;
+    Ok(CommandTwo::Stanza(file))
 }
 
 // A key for a file: an index, and a body of 16 bytes.
-fn parse_key(line: &[u8], body: usize) -> CommandTwo
+fn parse_key(line: &[u8], body: usize) -> Result<CommandTwo, Refusal>
     ensures { command_said result ≡
         pick (eqb (count_of line.now) 2 && eqb body 16) (key_at (read_index (argument_of line.now 1))) (bad 4) }
 {
     if stanza::count(line) != 2 {
-        return CommandTwo::Refused(Refusal::BadCommand);
+        return Err(Refusal::BadCommand);
     }
     if body != 16 {
-        return CommandTwo::Refused(Refusal::BadCommand);
+        return Err(Refusal::BadCommand);
     }
     let text = stanza::argument(line, 1);
-    let index = stanza::read_index(text);
-    match index {
-        Ok(f) => CommandTwo::Key(f),
-        Err(r) => CommandTwo::Refused(r),
-    }
+    let file = stanza::read_index(text)?;
+    Ok(CommandTwo::Key(file))
 }
 
 // done: no argument, no body.
-fn parse_done(line: &[u8], body: usize) -> CommandTwo
+fn parse_done(line: &[u8], body: usize) -> Result<CommandTwo, Refusal>
     ensures { command_said result ≡ pick (is_bare line.now body 0) done (bad 4) }
 {
     if stanza::count(line) != 1 {
-        return CommandTwo::Refused(Refusal::BadCommand);
+        return Err(Refusal::BadCommand);
     }
     if body != 0 {
-        return CommandTwo::Refused(Refusal::BadCommand);
+        return Err(Refusal::BadCommand);
     }
-    CommandTwo::Done
+    Ok(CommandTwo::Done)
 }
 
 // The command of phase two that a stanza is, by its arguments and how many bytes its body has.
-pub fn parse_two(machine: Machine, line: &[u8], body: usize) -> CommandTwo
+pub fn parse_two(machine: Machine, line: &[u8], body: usize) -> Result<CommandTwo, Refusal>
     ensures { command_said result ≡ command_of machine line.now body }
 {
     let first = stanza::argument(line, 0);
@@ -307,23 +287,23 @@ pub fn parse_two(machine: Machine, line: &[u8], body: usize) -> CommandTwo
         WordTwo::RecipientStanza => parse_stanza(line),
         WordTwo::FileKey => parse_key(line, body),
         WordTwo::Error => parse_error(machine, line),
-        WordTwo::Other => CommandTwo::Other,
+        WordTwo::Other => Ok(CommandTwo::Other),
         WordTwo::Done => parse_done(line, body),
     }
 }
 
 // The word of a command.
-pub fn word_two_of(command: CommandTwo) -> WordTwo
+pub fn word_two_of(command: Result<CommandTwo, Refusal>) -> WordTwo
     ensures { result ≡ word_of (command_said command) }
 {
     match command {
-        CommandTwo::Ask(word) => word,
-        CommandTwo::Stanza(_) => WordTwo::RecipientStanza,
-        CommandTwo::Key(_) => WordTwo::FileKey,
-        CommandTwo::Error(_) => WordTwo::Error,
-        CommandTwo::Done => WordTwo::Done,
-        CommandTwo::Other => WordTwo::Other,
-        CommandTwo::Refused(_) => WordTwo::Other,
+        Ok(CommandTwo::Ask(word)) => word,
+        Ok(CommandTwo::Stanza(_)) => WordTwo::RecipientStanza,
+        Ok(CommandTwo::Key(_)) => WordTwo::FileKey,
+        Ok(CommandTwo::Error(_)) => WordTwo::Error,
+        Ok(CommandTwo::Done) => WordTwo::Done,
+        Ok(CommandTwo::Other) => WordTwo::Other,
+        Err(_) => WordTwo::Other,
     }
 }
 

@@ -1,9 +1,9 @@
 // The decision of phase two: each fault's test, and the first fault of a command.
-ghost use Rattle.std.specs.Prelude.{◌≡◌, not, ◌&&◌, ◌||◌, List, ℕ, ◌+◌, ltb, leb};
+ghost use Rattle.std.specs.Prelude.{◌≡◌, not, ◌&&◌, ◌||◌, List, ℕ, ◌+◌, ltb, leb, Ok};
 ghost use Rattle.session.specs.Tables.{tables_in};
 ghost use Rattle.refusal.specs.Verdict.{verdict_said};
 ghost use Rattle.conversation.specs.CommandsTwo.{error};
-ghost use Rattle.conversation.specs.PhaseTwo.{is_missing, is_second_key, is_too_many, is_against_key, is_clashing, any_invalid, has_nonconforming, is_for_unknown, is_held_back, fault_of, ruled};
+ghost use Rattle.conversation.specs.PhaseTwo.{is_missing, is_second_key, is_too_many, is_against_key, is_clashing, any_invalid, has_nonconforming, is_for_unknown, is_held_back, ruled};
 ghost use Rattle.phase_two_commands.specs.Commands.{named_said, command_said};
 
 use crate::questions::{
@@ -36,7 +36,7 @@ fn is_nameless(tables: Tables, named: Named, header_slots: &[[usize; 4]]) -> boo
 
 // 6: an index names nothing.
 fn is_missing(tables: Tables, command: CommandTwo, header_slots: &[[usize; 4]]) -> bool
-    ensures { (xs : List (List ℕ)) → result ≡ is_missing (tables_in tables xs header_slots.now) (command_said command) }
+    ensures { (xs : List (List ℕ)) → result ≡ is_missing (tables_in tables xs header_slots.now) (command_said (Ok command)) }
 {
     match command {
         CommandTwo::Stanza(file) => is_beyond(file, tables.keys.count),
@@ -50,13 +50,12 @@ fn is_missing(tables: Tables, command: CommandTwo, header_slots: &[[usize; 4]]) 
         CommandTwo::Ask(_) => false,
         CommandTwo::Done => false,
         CommandTwo::Other => false,
-        CommandTwo::Refused(_) => false,
     }
 }
 
 // 9: a second key for a file.
 fn is_second_key(tables: Tables, command: CommandTwo, slots: &[[usize; 4]]) -> bool
-    ensures { (hs : List (List ℕ)) → result ≡ is_second_key (tables_in tables slots.now hs) (command_said command) }
+    ensures { (hs : List (List ℕ)) → result ≡ is_second_key (tables_in tables slots.now hs) (command_said (Ok command)) }
 {
     match command {
         CommandTwo::Key(file) => has_key(tables, wide(file), slots),
@@ -65,7 +64,6 @@ fn is_second_key(tables: Tables, command: CommandTwo, slots: &[[usize; 4]]) -> b
         CommandTwo::Ask(_) => false,
         CommandTwo::Done => false,
         CommandTwo::Other => false,
-        CommandTwo::Refused(_) => false,
     }
 }
 
@@ -73,18 +71,12 @@ fn is_second_key(tables: Tables, command: CommandTwo, slots: &[[usize; 4]]) -> b
 fn is_full(recipients: usize, identities: usize, n: usize) -> bool
     ensures { result ≡ leb (recipients + identities) n }
 {
-    if n < recipients {
-        return false;
-    }
-    if n - recipients < identities {
-        return false;
-    }
-    true
+    recipients <= n && identities <= n - recipients
 }
 
 // 10: too many stanzas for a file.
 fn is_too_many(tables: Tables, command: CommandTwo, slots: &[[usize; 4]]) -> bool
-    ensures { (hs : List (List ℕ)) → result ≡ is_too_many (tables_in tables slots.now hs) (command_said command) }
+    ensures { (hs : List (List ℕ)) → result ≡ is_too_many (tables_in tables slots.now hs) (command_said (Ok command)) }
 {
     match command {
         CommandTwo::Stanza(file) => is_full(
@@ -97,7 +89,6 @@ fn is_too_many(tables: Tables, command: CommandTwo, slots: &[[usize; 4]]) -> boo
         CommandTwo::Ask(_) => false,
         CommandTwo::Done => false,
         CommandTwo::Other => false,
-        CommandTwo::Refused(_) => false,
     }
 }
 
@@ -117,15 +108,12 @@ fn is_against_key(tables: Tables, named: Named, slots: &[[usize; 4]]) -> bool
 fn is_against_work(tables: Tables, named: Named, slots: &[[usize; 4]]) -> bool
     ensures { (hs : List (List ℕ)) → result ≡ is_clashing (tables_in tables slots.now hs) (error (named_said named)) }
 {
-    if 0 < tables.stanzas.count {
-        return true;
-    }
-    is_against_key(tables, named, slots)
+    0 < tables.stanzas.count || is_against_key(tables, named, slots)
 }
 
 // 11: work and error together.
 fn is_clashing(tables: Tables, command: CommandTwo, slots: &[[usize; 4]]) -> bool
-    ensures { (hs : List (List ℕ)) → result ≡ is_clashing (tables_in tables slots.now hs) (command_said command) }
+    ensures { (hs : List (List ℕ)) → result ≡ is_clashing (tables_in tables slots.now hs) (command_said (Ok command)) }
 {
     match command {
         CommandTwo::Stanza(_) => 0 < tables.errors.count,
@@ -134,7 +122,6 @@ fn is_clashing(tables: Tables, command: CommandTwo, slots: &[[usize; 4]]) -> boo
         CommandTwo::Ask(_) => false,
         CommandTwo::Done => false,
         CommandTwo::Other => false,
-        CommandTwo::Refused(_) => false,
     }
 }
 
@@ -142,10 +129,8 @@ fn is_clashing(tables: Tables, command: CommandTwo, slots: &[[usize; 4]]) -> boo
 fn has_invalid(tables: Tables, slots: &[[usize; 4]]) -> bool
     ensures { (hs : List (List ℕ)) → result ≡ any_invalid (tables_in tables slots.now hs) }
 {
-    if any_invalid(tables.recipients, span_of(Kind::Recipients), slots) {
-        return true;
-    }
-    any_invalid(tables.identities, span_of(Kind::Identities), slots)
+    any_invalid(tables.recipients, span_of(Kind::Recipients), slots)
+        || any_invalid(tables.identities, span_of(Kind::Identities), slots)
 }
 
 // Whether an error is for an unknown stanza.
@@ -171,16 +156,14 @@ fn is_key_held_back(
         (any_invalid (tables_in tables slots.now header_slots.now) || has_nonconforming
         (tables_in tables slots.now header_slots.now) file) }
 {
-    if has_invalid(tables, slots) {
-        return true;
-    }
-    has_labelled(
-        tables.headers,
-        span_of(Kind::Headers),
-        Mark::NONCONFORMING,
-        file,
-        header_slots,
-    )
+    has_invalid(tables, slots)
+        || has_labelled(
+            tables.headers,
+            span_of(Kind::Headers),
+            Mark::NONCONFORMING,
+            file,
+            header_slots,
+        )
 }
 
 // 19: the plugin end holds the command back.
@@ -190,7 +173,7 @@ fn is_held_back(
     slots: &[[usize; 4]],
     header_slots: &[[usize; 4]],
 ) -> bool
-    ensures { result ≡ is_held_back (tables_in tables slots.now header_slots.now) (command_said command) }
+    ensures { result ≡ is_held_back (tables_in tables slots.now header_slots.now) (command_said (Ok command)) }
 {
     match command {
         CommandTwo::Stanza(_) => has_invalid(tables, slots),
@@ -199,22 +182,6 @@ fn is_held_back(
         CommandTwo::Done => !all_reported(tables, slots, header_slots),
         CommandTwo::Ask(_) => false,
         CommandTwo::Other => false,
-        CommandTwo::Refused(_) => false,
-    }
-}
-
-// 4 or 5, where the command was read so.
-fn fault_of(command: CommandTwo) -> Result<(), Refusal>
-    ensures { verdict_said result ≡ fault_of (command_said command) }
-{
-    match command {
-        CommandTwo::Refused(r) => Err(r),
-        CommandTwo::Stanza(_) => Ok(()),
-        CommandTwo::Key(_) => Ok(()),
-        CommandTwo::Error(_) => Ok(()),
-        CommandTwo::Ask(_) => Ok(()),
-        CommandTwo::Done => Ok(()),
-        CommandTwo::Other => Ok(()),
     }
 }
 
@@ -226,28 +193,22 @@ fn is_held_by(
     slots: &[[usize; 4]],
     header_slots: &[[usize; 4]],
 ) -> bool
-    ensures { result ≡ (own && is_held_back (tables_in tables slots.now header_slots.now) (command_said command)) }
+    ensures { result ≡ (own && is_held_back (tables_in tables slots.now header_slots.now) (command_said (Ok command))) }
 {
-    if own {
-        return is_held_back(tables, command, slots, header_slots);
-    }
-    false
+    own && is_held_back(tables, command, slots, header_slots)
 }
 
 // What the tables say of a command: the first of its faults, 4 or 5, 6, 9, 10, 11, at the plugin's own sending 19.
 pub fn rule_two(
     own: bool,
     tables: Tables,
-    command: CommandTwo,
+    command: Result<CommandTwo, Refusal>,
     slots: &[[usize; 4]],
     header_slots: &[[usize; 4]],
 ) -> Result<(), Refusal>
     ensures { verdict_said result ≡ ruled own (tables_in tables slots.now header_slots.now) (command_said command) }
 {
-    let fault = fault_of(command);
-    if let Err(_) = fault {
-        return fault;
-    }
+    let command = command?;
     if is_missing(tables, command, header_slots) {
         return Err(Refusal::NoSuchIndex);
     }

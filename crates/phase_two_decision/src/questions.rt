@@ -20,9 +20,9 @@ ghost use Rattle.conversation.specs.PhaseTwo.{
   all_reported,
 };
 
-use look_up::{count_before, count_entries, count_file, number_of};
+use look_up::{count_before, count_file, number_of};
 use session::{Kind, Mark, Tables, span_of};
-use tables::{Entry, Span, Table, entry_at};
+use tables::{Entry, Span, Table};
 
 // Whether a file has a header stanza of a number: more than so many.
 pub(crate) fn has_header(headers: Table, file: usize, i: usize, header_slots: &[[usize; 4]]) -> bool
@@ -35,12 +35,10 @@ pub(crate) fn has_header(headers: Table, file: usize, i: usize, header_slots: &[
 fn is_unknown_at(headers: Table, n: usize, header_slots: &[[usize; 4]]) -> bool
     ensures { result ≡ passes is_unknown (labels (table_in (span_of Kind.Headers) headers header_slots.now)) n }
 {
-    let span = span_of(Kind::Headers);
-    if count_entries(headers, span, header_slots) <= n {
-        return false;
-    }
-    let e = entry_at(span, n, header_slots);
-    e.mark == Mark::UNKNOWN
+    headers
+        .entries(span_of(Kind::Headers), header_slots)
+        .get(n)
+        .is_some_and(|slot| Entry::from(*slot).mark == Mark::UNKNOWN)
 }
 
 // Whether the i-th header stanza of a file is unknown.
@@ -61,51 +59,34 @@ pub(crate) fn is_unknown_in(
 fn is_about(file: usize, e: Entry) -> bool
     ensures { result ≡ is_about file (label_of e) }
 {
-    if e.mark < Mark::STANZA {
-        return false;
-    }
-    e.mark - Mark::STANZA == file
+    Mark::STANZA <= e.mark && e.mark - Mark::STANZA == file
 }
 
 // Whether there is an error for a header stanza of a file.
 pub(crate) fn has_error_for(errors: Table, file: usize, slots: &[[usize; 4]]) -> bool
     ensures { result ≡ is_any (is_about file) (labels (table_in (span_of Kind.Errors) errors slots.now)) }
 {
-    let span = span_of(Kind::Errors);
-    let mut i = 0;
-    while i < count_entries(errors, span, slots) {
-        let e = entry_at(span, i, slots);
-        if is_about(file, e) {
-            return true;
-        }
-        i += 1;
-    }
-    false
+    errors
+        .entries(span_of(Kind::Errors), slots)
+        .iter()
+        .any(|slot| is_about(file, Entry::from(*slot)))
 }
 
 // Whether a recipient or an identity is invalid.
 pub(crate) fn any_invalid(table: Table, span: Span, slots: &[[usize; 4]]) -> bool
     ensures { result ≡ is_any is_invalid (labels (table_in span table slots.now)) }
 {
-    let mut i = 0;
-    while i < count_entries(table, span, slots) {
-        let e = entry_at(span, i, slots);
-        if e.mark != Mark::VALID {
-            return true;
-        }
-        i += 1;
-    }
-    false
+    table
+        .entries(span, slots)
+        .iter()
+        .any(|slot| Entry::from(*slot).mark != Mark::VALID)
 }
 
 // Whether an entry has a mark and an index.
 fn is_labelled(mark: usize, index: usize, e: Entry) -> bool
     ensures { result ≡ is_naming mark index (label_of e) }
 {
-    if e.mark != mark {
-        return false;
-    }
-    e.index == index
+    e.mark == mark && e.index == index
 }
 
 // Whether an entry of a table has a mark and an index: an error that names a number, a nonconforming header stanza of a file.
@@ -118,25 +99,17 @@ pub(crate) fn has_labelled(
 ) -> bool
     ensures { result ≡ is_any (is_naming mark index) (labels (table_in span table slots.now)) }
 {
-    let mut i = 0;
-    while i < count_entries(table, span, slots) {
-        let e = entry_at(span, i, slots);
-        if is_labelled(mark, index, e) {
-            return true;
-        }
-        i += 1;
-    }
-    false
+    table
+        .entries(span, slots)
+        .iter()
+        .any(|slot| is_labelled(mark, index, Entry::from(*slot)))
 }
 
 // Whether an entry owes no error, or has had it.
 fn is_settled(owing: bool, errors: Table, mark: usize, n: usize, slots: &[[usize; 4]]) -> bool
     ensures { result ≡ (not owing || is_any (is_naming mark n) (labels (table_in (span_of Kind.Errors) errors slots.now))) }
 {
-    if owing {
-        return has_labelled(errors, span_of(Kind::Errors), mark, n, slots);
-    }
-    true
+    !owing || has_labelled(errors, span_of(Kind::Errors), mark, n, slots)
 }
 
 // Whether each invalid entry of a table has had its error.
@@ -144,41 +117,27 @@ fn are_reported(table: Table, span: Span, errors: Table, mark: usize, slots: &[[
     ensures { result ≡
         are_reported is_invalid mark 0 (labels (table_in span table slots.now)) (labels (table_in (span_of Kind.Errors) errors slots.now)) }
 {
-    let mut i = 0;
-    while i < count_entries(table, span, slots) {
-        let e = entry_at(span, i, slots);
-        if !is_settled(e.mark != Mark::VALID, errors, mark, i, slots) {
-            return false;
-        }
-        i += 1;
-    }
-    true
+    table.entries(span, slots).iter().enumerate().all(|(n, slot)| {
+        let e = Entry::from(*slot);
+        is_settled(e.mark != Mark::VALID, errors, mark, n, slots)
+    })
 }
 
 // Whether an entry is the error for the i-th header stanza of a file.
 fn names_stanza(file: usize, i: usize, e: Entry) -> bool
     ensures { result ≡ is_naming (3 + file) i (label_of e) }
 {
-    if !is_about(file, e) {
-        return false;
-    }
-    e.index == i
+    is_about(file, e) && e.index == i
 }
 
 // Whether the i-th header stanza of a file has had its error.
 fn has_stanza_error(errors: Table, file: usize, i: usize, slots: &[[usize; 4]]) -> bool
     ensures { result ≡ is_any (is_naming (3 + file) i) (labels (table_in (span_of Kind.Errors) errors slots.now)) }
 {
-    let span = span_of(Kind::Errors);
-    let mut k = 0;
-    while k < count_entries(errors, span, slots) {
-        let e = entry_at(span, k, slots);
-        if names_stanza(file, i, e) {
-            return true;
-        }
-        k += 1;
-    }
-    false
+    errors
+        .entries(span_of(Kind::Errors), slots)
+        .iter()
+        .any(|slot| names_stanza(file, i, Entry::from(*slot)))
 }
 
 // Whether a header stanza, the n-th of all, conforms or is unknown, or has had its error: the one of its file and its number there.
@@ -212,16 +171,13 @@ fn are_stanzas_reported(
         are_stanzas_reported [] (labels (table_in (span_of Kind.Headers) headers header_slots.now))
         (labels (table_in (span_of Kind.Errors) errors slots.now)) }
 {
-    let span = span_of(Kind::Headers);
-    let mut i = 0;
-    while i < count_entries(headers, span, header_slots) {
-        let e = entry_at(span, i, header_slots);
-        if !is_stanza_settled(headers, e, i, header_slots, errors, slots) {
-            return false;
-        }
-        i += 1;
-    }
-    true
+    headers
+        .entries(span_of(Kind::Headers), header_slots)
+        .iter()
+        .enumerate()
+        .all(|(n, slot)| {
+            is_stanza_settled(headers, Entry::from(*slot), n, header_slots, errors, slots)
+        })
 }
 
 // Whether all that is invalid or nonconforming has had its error.
@@ -233,19 +189,17 @@ pub(crate) fn all_reported(
     ensures { result ≡ all_reported (tables_in tables slots.now header_slots.now) }
 {
     let errors = tables.errors;
-    let recipients = span_of(Kind::Recipients);
-    if !are_reported(
+    are_reported(
         tables.recipients,
-        recipients,
+        span_of(Kind::Recipients),
         errors,
         Mark::RECIPIENT,
         slots,
-    ) {
-        return false;
-    }
-    let identities = span_of(Kind::Identities);
-    if !are_reported(tables.identities, identities, errors, Mark::IDENTITY, slots) {
-        return false;
-    }
-    are_stanzas_reported(tables.headers, header_slots, errors, slots)
+    ) && are_reported(
+        tables.identities,
+        span_of(Kind::Identities),
+        errors,
+        Mark::IDENTITY,
+        slots,
+    ) && are_stanzas_reported(tables.headers, header_slots, errors, slots)
 }

@@ -2,10 +2,8 @@
 // pipe might cut it. Standard output says what goes to the client, and what the client said.
 #![tactic(auto)]
 
-mod print;
-
+use host_printing::{print, print_number, print_verdict, print_written};
 use plugin::{Last, Response, Session, TextKind, WordTwo};
-use print::{print, print_number, print_verdict, print_written};
 
 // How long the buffers are that the host lends.
 const STORE: usize = 256;

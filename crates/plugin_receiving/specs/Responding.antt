@@ -10,7 +10,7 @@ use Rattle.chunks.specs.Chunks.{Outcome, untaken}
 use Rattle.conversation.specs.Responding.{Answering, took_response, declined_response, Responded}
 use Rattle.refusal.specs.declared.Refusal.{Refusal}
 use Rattle.plugin_receiving.specs.declared.responding.Answered.{Answered as CodeAnswered}
-use Rattle.plugin_receiving.specs.declared.responding.Responded.{Responded as CodeResponded}
+use Rattle.session.specs.declared.output.Outcome.{Outcome as CodeOutcome}
 
 -- the code's answer
 abbrev pub answering_said : Result CodeAnswered Refusal → Answering
@@ -18,7 +18,7 @@ answering_said (Ok a) = took_response a.response a.taken a.body
 answering_said (Err r) = declined_response (number_of r)
 
 -- the answer and the session, with the output buffer afterwards
-abbrev pub responded_said : CodeResponded → List (List ℕ) → List (List ℕ) → List ℕ → Responded
+abbrev pub responded_said : CodeOutcome CodeAnswered → List (List ℕ) → List (List ℕ) → List ℕ → Responded
 responded_said x xs hs out = record { answer = answering_said x.answer; session = session_of x.session xs hs; output = out }
 
 -- what a chunk comes to with a response, where so many bytes stand behind it: they are dropped; a refusal but for 15 drops what was kept

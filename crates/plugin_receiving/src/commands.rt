@@ -14,24 +14,18 @@ ghost use Rattle.intake.specs.Fronts.{front_of};
 ghost use Rattle.intake.specs.Settling.{Says};
 ghost use Rattle.plugin_receiving.specs.Commands.{next_in, answer_behind, comes_to, NoneDue};
 
-use crate::fronts::{begin, put_together};
 use crate::receiving::{Receipt, receive_stanza};
-use intake::{Last, Received};
+use intake::{Last, Received, begin, put_together, stop};
 use refusal::Refusal;
 use session::{Phase, Session, front};
-use stanza::{Place, Stanza};
+use stanza::Stanza;
 
 // The next command of a text: nothing is read behind a refusal, nor behind done.
 fn next_command(verdict: Result<(), Refusal>, phase: Phase, rest: &[u8]) -> Result<Stanza, Refusal>
     ensures { read_said result ≡ next_in (verdict_said verdict) phase (read_first rest.now) }
 {
-    if let Err(r) = verdict {
-        return Err(r);
-    }
-    let turn = phase_one::turn_one(phase);
-    if let Err(r) = turn {
-        return Err(r);
-    }
+    verdict?;
+    phase_one::turn_one(phase)?;
     stanza::read(rest)
 }
 
@@ -47,19 +41,10 @@ fn answer_behind(so_far: Received, receipt: Receipt) -> Received
             verdict: Ok(()),
             count: so_far.count + 1,
             last: Last::CommandOne(taken.word),
-            written: so_far.written,
-            session: session,
+            session,
+            ..so_far
         },
-        Err(r) => {
-            let last = so_far.last;
-            Received {
-                verdict: Err(r),
-                count: so_far.count,
-                last: last,
-                written: so_far.written,
-                session: session,
-            }
-        }
+        Err(r) => so_far.settled(Err(r), session),
     }
 }
 
@@ -80,16 +65,7 @@ fn settle_commands(so_far: Received, rest: &[u8], input: &mut [u8]) -> Received
             let turn = intake::turn_plugin(phase);
             intake::settle(so_far, turn, &[], rest, input)
         }
-        Err(_) => {
-            let last = so_far.last;
-            Received {
-                verdict: verdict,
-                count: so_far.count,
-                last: last,
-                written: so_far.written,
-                session: session.keeping(Place::Start, 0, 0),
-            }
-        }
+        Err(r) => stop(so_far, r, session),
     }
 }
 
@@ -116,16 +92,9 @@ fn receive_text(
 {
     let mut answer = so_far;
     let mut at: usize = 0;
-    loop {
-        let session = answer.session;
-        let phase = session.phase;
-        let verdict = answer.verdict;
-        let next = next_command(verdict, phase, &text[at..]);
-        let Ok(s) = next else {
-            return settle_commands(answer, &text[at..], input);
-        };
+    while let Ok(s) = next_command(answer.verdict, answer.session.phase, &text[at..]) {
         let receipt = receive_stanza(
-            session,
+            answer.session,
             &text[at..],
             s,
             slots,
@@ -138,6 +107,7 @@ fn receive_text(
         answer = answer_behind(answer, receipt);
         at += s.taken;
     }
+    settle_commands(answer, &text[at..], input)
 }
 
 // The stanza that began in an earlier chunk and ends behind the first k bytes of this one; there is none where k is 0.
@@ -163,27 +133,23 @@ fn receive_front(
     ensures rest { NoneDue result × (result.count ≤ 1) × (result.written ≡ 0) × (result.session.name ≡ session.name) }
 {
     if k == 0 {
-        return begin(session);
+        return begin(session, 0);
     }
     let kept = intake::kept_of(session.kept);
     let mut store = [0u8; stanza::LONGEST];
-    let n = put_together(input, kept, chunk, k, &mut store);
-    let first = stanza::read(front(&store, n));
+    put_together(input, kept, &chunk[..k], &mut store);
+    let whole = kept + k;
+    let first = stanza::read(front(&store, whole));
     match first {
         Err(r) => {
             let phase = session.phase;
-            Received {
-                verdict: Err(r),
-                count: 0,
-                last: Last::Nothing,
-                written: 0,
-                session: session.moved(session::phase_refused(phase, r), session.tables),
-            }
+            let after = session.moved(session::phase_refused(phase, r), session.tables);
+            begin(session, 0).settled(Err(r), after)
         }
         Ok(s) => {
             let receipt = receive_stanza(
                 session,
-                front(&store, n),
+                front(&store, whole),
                 s,
                 slots,
                 header_slots,
@@ -192,7 +158,7 @@ fn receive_front(
                 keys,
                 headers,
             );
-            answer_behind(begin(session), receipt)
+            answer_behind(begin(session, 0), receipt)
         }
     }
 }

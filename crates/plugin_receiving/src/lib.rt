@@ -2,7 +2,6 @@
 #![tactic(auto)]
 
 mod commands;
-mod fronts;
 mod phases;
 mod receiving;
 mod responding;

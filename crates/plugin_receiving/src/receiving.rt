@@ -10,34 +10,33 @@ ghost use Rattle.plugin_receiving.specs.Receiving.{taking_said, receipt_said};
 
 use phase_one::{CommandOne, WordOne, step_one};
 use refusal::Refusal;
-use session::{Session, front};
+use session::{Outcome, Session, front};
 use stanza::Stanza;
 use tables::Coding;
 
-// Which command was received and how many bytes of the text it took.
+// Which command was received and how many bytes of the text it took. Not client_room's Taken of another word: nothing is written for a command of phase one.
 #[derive(Clone, Copy)]
 pub(crate) struct Taken {
     pub word: WordOne,
     pub taken: usize,
 }
 
-#[derive(Clone, Copy)]
-pub(crate) struct Receipt {
-    pub answer: Result<Taken, Refusal>,
-    pub session: Session,
-}
+// What a command came to.
+pub(crate) type Receipt = Outcome<Taken>;
 
 // The answer to a command that was judged.
-fn answer_to(verdict: Result<(), Refusal>, command: CommandOne, taken: usize) -> Result<Taken, Refusal>
+fn answer_to(
+    verdict: Result<(), Refusal>,
+    command: Result<CommandOne, Refusal>,
+    taken: usize,
+) -> Result<Taken, Refusal>
     ensures { (plugin line : List ℕ) (n : ℕ) → taking_said result ≡ answer_of (verdict_said verdict) (command_said plugin line n command) taken }
 {
-    match verdict {
-        Ok(()) => Ok(Taken {
-            word: phase_one::word_of(command),
-            taken: taken,
-        }),
-        Err(r) => Err(r),
-    }
+    verdict?;
+    Ok(Taken {
+        word: phase_one::word_of(command),
+        taken: taken,
+    })
 }
 
 // A whole stanza at the front of a text.

@@ -17,11 +17,10 @@ ghost use Rattle.session.specs.Session.{session_of, carried_by};
 ghost use Rattle.conversation.specs.Responding.{responded_text, responded_as, refused_response};
 ghost use Rattle.plugin_receiving.specs.Responding.{responded_said, settled_response};
 
-use crate::fronts::{begin, put_together};
-use intake::{Last, Received, Turn};
+use intake::{Last, Received, Turn, begin, put_together};
 use refusal::Refusal;
 use responses::Response;
-use session::{Phase, Session, WordTwo, front};
+use session::{Outcome, Phase, Session, WordTwo, front};
 use stanza::{Place, Stanza};
 
 // Which response was received, how many bytes of the text it took and how many its body has.
@@ -32,11 +31,8 @@ pub(crate) struct Answered {
     pub body: usize,
 }
 
-#[derive(Clone, Copy)]
-pub(crate) struct Responded {
-    pub answer: Result<Answered, Refusal>,
-    pub session: Session,
-}
+// What a response came to.
+pub(crate) type Responded = Outcome<Answered>;
 
 // A session closed by a response that does not fit.
 fn unfit(session: Session) -> Responded
@@ -195,7 +191,7 @@ fn receive_begun(
 {
     let first = stanza::read(chunk);
     match first {
-        Err(_) => intake::settle(begin(session), Turn::Reads, &[], chunk, input),
+        Err(_) => intake::settle(begin(session, 0), Turn::Reads, &[], chunk, input),
         Ok(s) => {
             let responded = receive_stanza(session, word, chunk, s, out);
             let left = chunk.len() - s.taken;
@@ -225,8 +221,9 @@ fn receive_ended(
 {
     let kept = intake::kept_of(session.kept);
     let mut store = [0u8; stanza::LONGEST];
-    let n = put_together(input, kept, chunk, k, &mut store);
-    let responded = receive_awaited(session, word, front(&store, n), out);
+    put_together(input, kept, &chunk[..k], &mut store);
+    let whole = kept + k;
+    let responded = receive_awaited(session, word, front(&store, whole), out);
     let left = chunk.len() - k;
     settle_response(session, responded, left)
 }

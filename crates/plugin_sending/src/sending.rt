@@ -1,4 +1,4 @@
-// Phase two sent: a command is put together, judged as the text that it makes, kept, and written.
+// Phase two sent: a command is put together, judged as the text that it makes, kept, and written. Not one with client_sending's file, which says why.
 ghost use Rattle.std.specs.Prelude.{◌≡◌, ◌≤◌, min, length};
 ghost use Rattle.session.specs.Session.{session_of, carried_by};
 ghost use Rattle.conversation.specs.CommandsTwo.{line_sent};
@@ -9,19 +9,8 @@ ghost use Rattle.plugin_sending.specs.Sending.{sent_said};
 use phase_two::step_two;
 use phase_two_commands::put_line_two;
 use refusal::Refusal;
-use session::{Session, WordTwo, front};
+use session::{SHORT_ARGUMENTS, SHORT_LINE, Sent, Session, WordTwo, front};
 use tables::Coding;
-
-// A short store for a line, and the arguments that have room there behind a command word and its space.
-const SHORT: usize = 128;
-
-const SHORT_ARGUMENTS: usize = 112;
-
-#[derive(Clone, Copy)]
-pub struct Sent {
-    pub answer: Result<usize, Refusal>,
-    pub session: Session,
-}
 
 // A command put together in a store, which is long enough for every line that can be written.
 fn send_in(
@@ -107,36 +96,25 @@ fn send_due(
         out.old }
     ensures carried { carried_by result.session ≡ carried_by session }
 {
-    if arguments.len() < SHORT_ARGUMENTS {
-        let mut store = [0u8; SHORT];
-        return send_in(
+    let mut send_with = |store: &mut [u8]| {
+        send_in(
             session,
             word,
             arguments,
             body,
-            &mut store,
+            store,
             slots,
             header_slots,
             errors,
             stanzas,
             returned,
             out,
-        );
+        )
+    };
+    if arguments.len() < SHORT_ARGUMENTS {
+        return send_with(&mut [0u8; SHORT_LINE]);
     }
-    let mut store = [0u8; stanza::LONGEST];
-    send_in(
-        session,
-        word,
-        arguments,
-        body,
-        &mut store,
-        slots,
-        header_slots,
-        errors,
-        stanzas,
-        returned,
-        out,
-    )
+    send_with(&mut [0u8; stanza::LONGEST])
 }
 
 // A command of phase two, its arguments' text (empty for none; any other word stands first in it) and its body, written to the front of `out`: how many bytes,

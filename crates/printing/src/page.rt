@@ -1,4 +1,5 @@
 // Pieces: bytes as they are, numbers in decimal, and words with their escapes.
+// `out` and `at` stay two parameters and are no struct: `put` and the other public functions keep their signatures.
 ghost use Rattle.std.specs.Prelude.{◌≡◌};
 ghost use Rattle.script.specs.Escape.{escaped};
 ghost use Rattle.printing.specs.Page.{page, put, decimal, put_number, put_word};
@@ -12,11 +13,12 @@ pub fn put(bytes: &[u8], out: &mut [u8], at: usize) -> usize
         return at;
     }
     let left = out.len() - at;
-    stanza::copy(bytes, &mut out[at..]);
     if left < bytes.len() {
         return at;
     }
-    at + bytes.len()
+    let next = at + bytes.len();
+    out[at..next].copy_from_slice(bytes);
+    next
 }
 
 // A byte string with its escapes.

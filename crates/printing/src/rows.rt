@@ -24,7 +24,7 @@ pub fn print_number(head: &[u8], n: u64, out: &mut [u8], at: usize) -> usize
     put(b"\n", out, b)
 }
 
-// HEAD WORD
+// HEAD WORD. Apart from `print_number`: a line shared by a closure for its second piece would be as long as both.
 pub fn print_word(head: &[u8], word: &[u8], out: &mut [u8], at: usize) -> usize
     ensures { page result out.new ≡ word_line head.now word.now (page at out.old) }
 {

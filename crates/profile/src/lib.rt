@@ -23,22 +23,14 @@ const BODY: usize = 32;
 fn is_bytes(n: usize, text: &[u8]) -> bool
     ensures { result ≡ is_bytes n text.now }
 {
-    let size = strict_base64::measure(text);
-    match size {
-        Some(m) => m == n,
-        None => false,
-    }
+    strict_base64::measure(text) == Some(n)
 }
 
 // Whether a text is base64 of at least 1 byte.
 fn is_some(text: &[u8]) -> bool
     ensures { result ≡ is_some text.now }
 {
-    let size = strict_base64::measure(text);
-    match size {
-        Some(m) => 1 <= m,
-        None => false,
-    }
+    strict_base64::measure(text).is_some_and(|size| 1 <= size)
 }
 
 // Whether the first two arguments behind the tag are 32 and 12 bytes.

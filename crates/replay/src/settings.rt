@@ -37,7 +37,7 @@ pub fn open_session(
         Opened::Client(ScreenChoice::Missing) => {
             Session::open_with(machine, name, Screen::Absent)
         }
-        Opened::Client(_) => Session::open(machine, name),
+        Opened::Client(ScreenChoice::Default) => Session::open(machine, name),
         Opened::Plugin => Session::open_plugin(machine, name),
     };
     opening.verdict?;

@@ -8,12 +8,12 @@ use session::WordTwo;
 pub fn command_one(name: &[u8]) -> WordOne {
     let command = script::choose_command(name);
     match command {
-        CommandChoice::AddRecipient => WordOne::AddRecipient,
-        CommandChoice::AddIdentity => WordOne::AddIdentity,
-        CommandChoice::WrapFileKey => WordOne::WrapFileKey,
-        CommandChoice::RecipientStanza => WordOne::RecipientStanza,
-        CommandChoice::Done => WordOne::Done,
-        CommandChoice::Other => WordOne::Other,
+        Some(CommandChoice::AddRecipient) => WordOne::AddRecipient,
+        Some(CommandChoice::AddIdentity) => WordOne::AddIdentity,
+        Some(CommandChoice::WrapFileKey) => WordOne::WrapFileKey,
+        Some(CommandChoice::RecipientStanza) => WordOne::RecipientStanza,
+        Some(CommandChoice::Done) => WordOne::Done,
+        None => WordOne::Other,
     }
 }
 
@@ -21,15 +21,15 @@ pub fn command_one(name: &[u8]) -> WordOne {
 pub fn command_two(name: &[u8]) -> WordTwo {
     let command = script::choose_command_two(name);
     match command {
-        CommandTwoChoice::Msg => WordTwo::Msg,
-        CommandTwoChoice::Confirm => WordTwo::Confirm,
-        CommandTwoChoice::RequestPublic => WordTwo::RequestPublic,
-        CommandTwoChoice::RequestSecret => WordTwo::RequestSecret,
-        CommandTwoChoice::RecipientStanza => WordTwo::RecipientStanza,
-        CommandTwoChoice::FileKey => WordTwo::FileKey,
-        CommandTwoChoice::Error => WordTwo::Error,
-        CommandTwoChoice::Done => WordTwo::Done,
-        CommandTwoChoice::Other => WordTwo::Other,
+        Some(CommandTwoChoice::Msg) => WordTwo::Msg,
+        Some(CommandTwoChoice::Confirm) => WordTwo::Confirm,
+        Some(CommandTwoChoice::RequestPublic) => WordTwo::RequestPublic,
+        Some(CommandTwoChoice::RequestSecret) => WordTwo::RequestSecret,
+        Some(CommandTwoChoice::RecipientStanza) => WordTwo::RecipientStanza,
+        Some(CommandTwoChoice::FileKey) => WordTwo::FileKey,
+        Some(CommandTwoChoice::Error) => WordTwo::Error,
+        Some(CommandTwoChoice::Done) => WordTwo::Done,
+        None => WordTwo::Other,
     }
 }
 

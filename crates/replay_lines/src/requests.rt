@@ -4,7 +4,7 @@ use crate::lengths::{Lengths, read_lengths};
 use crate::words::Words;
 use bech32::TextKind;
 use responses::Response;
-use script::{Call, EndChoice, KindChoice, Number, ReplyChoice, ScreenChoice};
+use script::{Call, EndChoice, KindChoice, ReplyChoice, ScreenChoice};
 
 // A call that needs no session; one that opens a session, whose buffers have some lengths; or one of the session that is open.
 #[derive(Clone, Copy)]
@@ -42,7 +42,7 @@ pub enum Look {
 
 // What a line asks for.
 pub fn read_request(words: &Words) -> Result<Request, Failure> {
-    let call = script::choose_call(words.get(0));
+    let call = script::choose_call(words.get(0)).ok_or(Failure::BadLine)?;
     match call {
         Call::Open => read_open(words),
         Call::Buffers => read_buffers(words),
@@ -59,28 +59,19 @@ pub fn read_request(words: &Words) -> Result<Request, Failure> {
 
 // open client MACHINE NAME SCREEN R I K H E S F, open plugin MACHINE NAME R I K H E S F
 fn read_open(words: &Words) -> Result<Request, Failure> {
-    let end = script::choose_end(words.get(1));
+    let end = script::choose_end(words.get(1)).ok_or(Failure::BadLine)?;
     let opened = match end {
         EndChoice::Client => {
             words.check_count(12)?;
-            read_client(words)?
+            let screen = script::choose_screen(words.get(4));
+            Opened::Client(screen.ok_or(Failure::BadLine)?)
         }
         EndChoice::Plugin => {
             words.check_count(11)?;
             Opened::Plugin
         }
-        EndChoice::Other => return Err(Failure::BadLine),
     };
     Ok(Request::Open(opened, read_lengths(words)?))
-}
-
-// The client end is told of a screen, or left to its default.
-fn read_client(words: &Words) -> Result<Opened, Failure> {
-    let screen = script::choose_screen(words.get(4));
-    match screen {
-        ScreenChoice::Other => Err(Failure::BadLine),
-        _ => Ok(Opened::Client(screen)),
-    }
 }
 
 // buffers R I K H E S F
@@ -105,14 +96,13 @@ fn read_chunk(words: &Words) -> Result<Request, Failure> {
 fn read_reply(words: &Words) -> Result<Request, Failure> {
     words.check_count(4)?;
     let n = words.last_length()?;
-    let reply = script::choose_reply(words.get(1));
+    let reply = script::choose_reply(words.get(1)).ok_or(Failure::BadLine)?;
     let response = match reply {
         ReplyChoice::Ok => Response::Ok,
         ReplyChoice::Yes => Response::Yes,
         ReplyChoice::No => Response::No,
         ReplyChoice::Fail => Response::Fail,
         ReplyChoice::Unsupported => Response::Unsupported,
-        ReplyChoice::Other => return Err(Failure::BadLine),
     };
     Ok(Request::Session(SessionCall::Reply(response, n)))
 }
@@ -121,14 +111,11 @@ fn read_reply(words: &Words) -> Result<Request, Failure> {
 fn read_entry(words: &Words) -> Result<Request, Failure> {
     words.check_count(3)?;
     let number = script::read_number(words.get(2), u64::MAX);
-    let Number::Value(n) = number else {
-        return Err(Failure::BadLine);
-    };
-    let choice = script::choose_kind(words.get(1));
+    let n = number.ok_or(Failure::BadLine)?;
+    let choice = script::choose_kind(words.get(1)).ok_or(Failure::BadLine)?;
     let kind = match choice {
         KindChoice::Recipient => TextKind::Recipient,
         KindChoice::Identity => TextKind::Identity,
-        KindChoice::Other => return Err(Failure::BadLine),
     };
     Ok(Request::Session(SessionCall::Look(Look::Entry(kind, n as usize))))
 }

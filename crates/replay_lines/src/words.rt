@@ -1,7 +1,6 @@
 // The words of a line, read into one buffer with a space between two.
 use crate::failure::Failure;
 use crate::parts::part;
-use script::{Number, Unescaped};
 
 // The longest line that is a call, without its LF, and the length of the longest buffer that a line lends.
 const LONGEST: usize = 65536;
@@ -70,7 +69,7 @@ fn read_word(word: &[u8], text: &mut [u8], at: usize) -> Option<usize> {
     }
     let from = at.min(text.len());
     let u = script::unescape(word, &mut text[from..]);
-    let Unescaped::Word(written) = u else {
+    let Some(written) = u else {
         return None;
     };
     match written {
@@ -137,9 +136,6 @@ impl<'a> Words<'a> {
 }
 
 fn read_length(word: &[u8]) -> Result<usize, Failure> {
-    let number = script::read_number(word, LONGEST as u64);
-    match number {
-        Number::Value(n) => Ok(n as usize),
-        Number::Bad => Err(Failure::BadLine),
-    }
+    let n = script::read_number(word, LONGEST as u64).ok_or(Failure::BadLine)?;
+    Ok(n as usize)
 }

@@ -1,8 +1,8 @@
 -- Which call a line of a script makes, by its first word: the number of the word among the words of the calls.
-use Rattle.std.specs.Prelude.{ℕ, List, [], ◌∷◌}
+use Rattle.std.specs.Prelude.{ℕ, List, [], ◌∷◌, Option, Some, None}
 use Rattle.script.specs.Choice.{recipient_word, identity_word}
 use Rattle.script.specs.declared.calls.Call.{Call}
-use Rattle.script.specs.declared.calls.Call.TheVariants.{Stanza, Write, Index, Checksum, Recipient, Identity, WriteRecipient, WriteIdentity, Profile, Judge, Open, Buffers, Send, Chunk, Reply, Awaited, Finish, Entry, Show, IdentityFile, Other}
+use Rattle.script.specs.declared.calls.Call.TheVariants.{Stanza, Write, Index, Checksum, Recipient, Identity, WriteRecipient, WriteIdentity, Profile, Judge, Open, Buffers, Send, Chunk, Reply, Awaited, Finish, Entry, Show, IdentityFile}
 
 -- "stanza"
 abbrev pub stanza_word : List ℕ
@@ -81,25 +81,25 @@ abbrev pub call_words : List (List ℕ)
 call_words = stanza_word ∷ write_word ∷ index_word ∷ checksum_word ∷ recipient_word ∷ identity_word ∷ write_recipient_word ∷ write_identity_word ∷ profile_word ∷ judge_word ∷ open_word ∷ buffers_word ∷ send_word ∷ chunk_word ∷ reply_word ∷ awaited_word ∷ finish_word ∷ entry_word ∷ show_word ∷ identity_file_word ∷ []
 
 -- the number of the code's answer
-abbrev pub call_said : Call → ℕ
-call_said Stanza = 0
-call_said Write = 1
-call_said Index = 2
-call_said Checksum = 3
-call_said Recipient = 4
-call_said Identity = 5
-call_said WriteRecipient = 6
-call_said WriteIdentity = 7
-call_said Profile = 8
-call_said Judge = 9
-call_said Open = 10
-call_said Buffers = 11
-call_said Send = 12
-call_said Chunk = 13
-call_said Reply = 14
-call_said Awaited = 15
-call_said Finish = 16
-call_said Entry = 17
-call_said Show = 18
-call_said IdentityFile = 19
-call_said Other = 20
+abbrev pub call_said : Option Call → ℕ
+call_said (Some Stanza) = 0
+call_said (Some Write) = 1
+call_said (Some Index) = 2
+call_said (Some Checksum) = 3
+call_said (Some Recipient) = 4
+call_said (Some Identity) = 5
+call_said (Some WriteRecipient) = 6
+call_said (Some WriteIdentity) = 7
+call_said (Some Profile) = 8
+call_said (Some Judge) = 9
+call_said (Some Open) = 10
+call_said (Some Buffers) = 11
+call_said (Some Send) = 12
+call_said (Some Chunk) = 13
+call_said (Some Reply) = 14
+call_said (Some Awaited) = 15
+call_said (Some Finish) = 16
+call_said (Some Entry) = 17
+call_said (Some Show) = 18
+call_said (Some IdentityFile) = 19
+call_said None = 20

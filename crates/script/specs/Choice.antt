@@ -1,6 +1,7 @@
 -- The choices of words in a script: an end, a screen, a kind, a command of either phase, a reply. A choice is the number of its word in a list, byte for byte, counted from 0; the
 -- number of any other word is how many they are.
-use Rattle.std.specs.Prelude.{ℕ, suc, List, [], ◌∷◌}
+use Rattle.std.specs.Prelude.{ℕ, suc, List, [], ◌∷◌, Option, Some, None}
+use Rattle.std.specs.Borrow.{Bor}
 use Rattle.refusal.specs.Pick.{pick}
 use Rattle.refusal.specs.Same.{same}
 use Rattle.script.specs.declared.choices.CommandChoice.{CommandChoice}
@@ -21,6 +22,11 @@ unfoldable pub place : List ℕ → List (List ℕ) → ℕ
 place w [] = 0
 place w (v ∷ vs) = pick (same w v) 0 (suc (place w vs))
 
+-- what a word names in the code's table of words and choices
+unfoldable pub chosen : {A : Type 0} → List ℕ → List (Bor (List ℕ) × A) → Option A
+chosen w [] = None
+chosen w (c ∷ cs) = pick (same w c.0.now) (Some c.1) (chosen w cs)
+
 -- ---- an end
 
 -- "client"
@@ -36,10 +42,10 @@ abbrev pub end_words : List (List ℕ)
 end_words = client_word ∷ plugin_word ∷ []
 
 -- the number of the code's answer
-abbrev pub end_said : EndChoice → ℕ
-end_said end_is.Client = 0
-end_said end_is.Plugin = 1
-end_said end_is.Other = 2
+abbrev pub end_said : Option EndChoice → ℕ
+end_said (Some end_is.Client) = 0
+end_said (Some end_is.Plugin) = 1
+end_said None = 2
 
 -- ---- what an opening says of the screen
 
@@ -60,11 +66,11 @@ abbrev pub screen_words : List (List ℕ)
 screen_words = screen_word ∷ no_screen_word ∷ default_word ∷ []
 
 -- the number of the code's answer
-abbrev pub screen_said : ScreenChoice → ℕ
-screen_said screen_is.Shown = 0
-screen_said screen_is.Missing = 1
-screen_said screen_is.Default = 2
-screen_said screen_is.Other = 3
+abbrev pub screen_said : Option ScreenChoice → ℕ
+screen_said (Some screen_is.Shown) = 0
+screen_said (Some screen_is.Missing) = 1
+screen_said (Some screen_is.Default) = 2
+screen_said None = 3
 
 -- ---- a kind that is looked up
 
@@ -81,10 +87,10 @@ abbrev pub kind_words : List (List ℕ)
 kind_words = recipient_word ∷ identity_word ∷ []
 
 -- the number of the code's answer
-abbrev pub kind_said : KindChoice → ℕ
-kind_said kind_is.Recipient = 0
-kind_said kind_is.Identity = 1
-kind_said kind_is.Other = 2
+abbrev pub kind_said : Option KindChoice → ℕ
+kind_said (Some kind_is.Recipient) = 0
+kind_said (Some kind_is.Identity) = 1
+kind_said None = 2
 
 -- ---- a command of phase one that is sent
 
@@ -113,13 +119,13 @@ abbrev pub command_words : List (List ℕ)
 command_words = add_recipient_word ∷ add_identity_word ∷ wrap_file_key_word ∷ recipient_stanza_word ∷ done_word ∷ []
 
 -- the number of the code's answer
-abbrev pub command_said : CommandChoice → ℕ
-command_said command_is.AddRecipient = 0
-command_said command_is.AddIdentity = 1
-command_said command_is.WrapFileKey = 2
-command_said command_is.RecipientStanza = 3
-command_said command_is.Done = 4
-command_said command_is.Other = 5
+abbrev pub command_said : Option CommandChoice → ℕ
+command_said (Some command_is.AddRecipient) = 0
+command_said (Some command_is.AddIdentity) = 1
+command_said (Some command_is.WrapFileKey) = 2
+command_said (Some command_is.RecipientStanza) = 3
+command_said (Some command_is.Done) = 4
+command_said None = 5
 
 -- ---- a command of phase two that is sent
 
@@ -152,16 +158,16 @@ abbrev pub command_two_words : List (List ℕ)
 command_two_words = msg_word ∷ confirm_word ∷ request_public_word ∷ request_secret_word ∷ recipient_stanza_word ∷ file_key_word ∷ error_word ∷ done_word ∷ []
 
 -- the number of the code's answer
-abbrev pub command_two_said : CommandTwoChoice → ℕ
-command_two_said two_is.Msg = 0
-command_two_said two_is.Confirm = 1
-command_two_said two_is.RequestPublic = 2
-command_two_said two_is.RequestSecret = 3
-command_two_said two_is.RecipientStanza = 4
-command_two_said two_is.FileKey = 5
-command_two_said two_is.Error = 6
-command_two_said two_is.Done = 7
-command_two_said two_is.Other = 8
+abbrev pub command_two_said : Option CommandTwoChoice → ℕ
+command_two_said (Some two_is.Msg) = 0
+command_two_said (Some two_is.Confirm) = 1
+command_two_said (Some two_is.RequestPublic) = 2
+command_two_said (Some two_is.RequestSecret) = 3
+command_two_said (Some two_is.RecipientStanza) = 4
+command_two_said (Some two_is.FileKey) = 5
+command_two_said (Some two_is.Error) = 6
+command_two_said (Some two_is.Done) = 7
+command_two_said None = 8
 
 -- ---- a reply
 
@@ -190,10 +196,10 @@ abbrev pub reply_words : List (List ℕ)
 reply_words = ok_word ∷ yes_word ∷ no_word ∷ fail_word ∷ unsupported_word ∷ []
 
 -- the number of the code's answer
-abbrev pub reply_said : ReplyChoice → ℕ
-reply_said reply_is.Ok = 0
-reply_said reply_is.Yes = 1
-reply_said reply_is.No = 2
-reply_said reply_is.Fail = 3
-reply_said reply_is.Unsupported = 4
-reply_said reply_is.Other = 5
+abbrev pub reply_said : Option ReplyChoice → ℕ
+reply_said (Some reply_is.Ok) = 0
+reply_said (Some reply_is.Yes) = 1
+reply_said (Some reply_is.No) = 2
+reply_said (Some reply_is.Fail) = 3
+reply_said (Some reply_is.Unsupported) = 4
+reply_said None = 5

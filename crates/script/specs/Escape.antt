@@ -1,15 +1,14 @@
 -- Words of a script. In a word the bytes 33 to 126 stand for themselves, but for the backslash: `\s` is a space, `\n` LF, `\\` a backslash,
 -- `\xHH` any byte, by two hex digits of either case, and `\e` nothing, so that the empty byte string can be written.
-use Rattle.std.specs.Prelude.{ℕ, ◌+◌, ◌-◌, ◌*◌, ◌/◌, ◌%◌, Bool, false, ◌&&◌, List, [], ◌∷◌, ◌++◌, leb, ltb, eqb, length}
+use Rattle.std.specs.Prelude.{ℕ, ◌+◌, ◌-◌, ◌*◌, ◌/◌, ◌%◌, Bool, false, ◌&&◌, List, [], ◌∷◌, ◌++◌, Option, Some, None, Result, leb, ltb, eqb, length}
 use Rattle.refusal.specs.Run.{is_graphic}
 use Rattle.refusal.specs.Output.{Answer, bytes, refused, said, answered, filled}
 use Rattle.refusal.specs.Pick.{pick}
-use Rattle.script.specs.declared.unescaping.Size.{Size}
-use Rattle.script.specs.declared.unescaping.Size.TheVariants as size_is
+use Rattle.script.specs.declared.unescaping.State.{State}
+use Rattle.script.specs.declared.unescaping.State.TheVariants as state_is
 use Rattle.script.specs.declared.unescaping.Step.{Step}
 use Rattle.script.specs.declared.unescaping.Step.TheVariants as step_is
-use Rattle.script.specs.declared.unescaping.Unescaped.{Unescaped}
-use Rattle.script.specs.declared.unescaping.Unescaped.TheVariants as unescaped_is
+use Rattle.refusal.specs.declared.Refusal.{Refusal}
 
 -- ---- reading a word
 
@@ -83,21 +82,32 @@ abbrev pub filled_by : Meaning (List ℕ) → List ℕ → List ℕ
 filled_by (word t) buffer = filled t buffer
 filled_by bad buffer = buffer
 
--- what the code's answers stand for: of a step
-abbrev pub step_said : Step → Effect
-step_said (step_is.Moves s) = moves s
-step_said (step_is.Gives b) = gives b
-step_said step_is.Stops = stops
+-- the code's answer of a hex digit
+abbrev pub some_digit : ℕ → Option ℕ
+some_digit v = pick (ltb v 16) (Some v) None
+
+-- what the code's answers stand for: the number of a state
+abbrev pub state_said : State → ℕ
+state_said state_is.Plain = 0
+state_said state_is.Escape = 1
+state_said state_is.Hex = 2
+state_said (state_is.Digit v) = 16 + v
+
+-- .. of a step
+abbrev pub step_said : Option Step → Effect
+step_said (Some (step_is.Moves s)) = moves (state_said s)
+step_said (Some (step_is.Gives b)) = gives b
+step_said None = stops
 
 -- .. of a measured word
-abbrev pub size_said : Size → Meaning ℕ
-size_said (size_is.Bytes n) = word n
-size_said size_is.Bad = bad
+abbrev pub size_said : Option ℕ → Meaning ℕ
+size_said (Some n) = word n
+size_said None = bad
 
 -- .. of a word written to a buffer
-abbrev pub unescaped_said : Unescaped → Meaning Answer
-unescaped_said (unescaped_is.Word w) = word (said w)
-unescaped_said unescaped_is.Bad = bad
+abbrev pub unescaped_said : Option (Result ℕ Refusal) → Meaning Answer
+unescaped_said (Some w) = word (said w)
+unescaped_said None = bad
 
 -- ---- printing a byte string
 
@@ -108,6 +118,10 @@ hex_digit v = pick (ltb v 10) (48 + v) (87 + v)
 -- the letter of a byte that has one, 0 for another
 unfoldable pub letter_of : ℕ → ℕ
 letter_of b = pick (eqb b 32) 115 (pick (eqb b 10) 110 (pick (eqb b 92) 92 0))
+
+-- the code's answer of a byte's letter
+abbrev pub some_letter : ℕ → Option ℕ
+some_letter l = pick (ltb 0 l) (Some l) None
 
 -- a byte: by its letter, by itself, or by its hex digits
 unfoldable pub printed : ℕ → List ℕ

@@ -1,10 +1,8 @@
 -- Numbers of a script: one or more decimal digits, leading zeros and all, at most a limit.
-use Rattle.std.specs.Prelude.{ℕ, Bool, false, ◌&&◌, List, [], ◌∷◌, leb}
+use Rattle.std.specs.Prelude.{ℕ, Bool, false, ◌&&◌, List, [], ◌∷◌, Option, Some, None, leb}
 use Rattle.refusal.specs.Pick.{pick}
 use Rattle.refusal.specs.Run.{all}
 use Rattle.stanza.specs.Index.{is_digit, value_from}
-use Rattle.script.specs.declared.numbers.Number.{Number}
-use Rattle.script.specs.declared.numbers.Number.TheVariants.{Value, Bad}
 
 -- what reading a number gives
 pub data ReadNumber : Type 0 where
@@ -12,9 +10,9 @@ pub data ReadNumber : Type 0 where
   bad : ReadNumber
 
 -- what the code's answer stands for
-abbrev pub number_said : Number → ReadNumber
-number_said (Value n) = value n
-number_said Bad = bad
+abbrev pub number_said : Option ℕ → ReadNumber
+number_said (Some n) = value n
+number_said None = bad
 
 -- at least one digit, and nothing else
 unfoldable pub is_number : List ℕ → Bool

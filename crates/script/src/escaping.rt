@@ -2,14 +2,13 @@
 ghost use Rattle.std.specs.Prelude.{◌≡◌, ◌++◌, ◌+◌, ◌≤◌, ◌<◌, length, drop};
 ghost use Rattle.std.proofs.lemmas.List.Edits.{sets};
 ghost use Rattle.refusal.specs.Output.{said, answered, filled};
-ghost use Rattle.script.specs.Escape.{hex_digit, letter_of, printed, spelled, escaped, sized};
+ghost use Rattle.script.specs.Escape.{hex_digit, letter_of, some_letter, printed, spelled, escaped, sized};
 
 use refusal::Refusal;
-
-// How far a hex digit that is a letter stands over its value, from 10 on.
-pub(crate) const LETTER_OVER: u8 = b'a' - 10;
+use stanza::is_graphic;
 
 // A hex digit of a value below 16.
+#[tactic(auto, unfolding(crate::specs::Escape::hex_digit))]
 fn hex_digit(v: u8) -> u8
     requires { v < 16 }
     ensures { result ≡ hex_digit v }
@@ -17,36 +16,31 @@ fn hex_digit(v: u8) -> u8
     if v < 10 {
         return b'0' + v;
     }
-    LETTER_OVER + v
+    b'a' - 10 + v
 }
 
-// The letter of a byte that has one, 0 for another.
-fn letter_of(b: u8) -> u8
-    ensures { result ≡ letter_of b }
+// The letter of a byte that has one.
+#[tactic(auto, unfolding(crate::specs::Escape::letter_of))]
+fn letter_of(b: u8) -> Option<u8>
+    ensures { result ≡ some_letter (letter_of b) }
 {
-    if b == b' ' {
-        return b's';
+    match b {
+        b' ' => Some(b's'),
+        b'\n' => Some(b'n'),
+        b'\\' => Some(b'\\'),
+        _ => None,
     }
-    if b == b'\n' {
-        return b'n';
-    }
-    if b == b'\\' {
-        return b'\\';
-    }
-    0
 }
 
-// How many bytes print a byte.
+// How many bytes print a byte. It stays apart from `put`: one function for both would give the bytes in an array with their length beside it.
 fn width(b: u8) -> usize
     ensures { result ≡ length (printed b) }
 {
-    if 0 < letter_of(b) {
-        return 2;
+    match letter_of(b) {
+        Some(_) => 2,
+        None if is_graphic(b) => 1,
+        None => 4,
     }
-    if (b'!' <= b) & (b <= b'~') {
-        return 1;
-    }
-    4
 }
 
 // A byte printed at `at`, where it has space; where the next one goes.
@@ -55,36 +49,31 @@ fn put(b: u8, out: &mut [u8], at: usize) -> usize
     ensures next { result ≡ at + length (printed b) }
     ensures buffer { out.new ≡ sets out.old at (printed b) }
 {
-    let l = letter_of(b);
-    if 0 < l {
-        out[at] = b'\\';
-        out[at + 1] = l;
+    if let Some(letter) = letter_of(b) {
+        out[at..at + 2].copy_from_slice(&[b'\\', letter]);
         return at + 2;
     }
-    if (b'!' <= b) & (b <= b'~') {
+    if is_graphic(b) {
         out[at] = b;
         return at + 1;
     }
-    out[at] = b'\\';
-    out[at + 1] = b'x';
-    out[at + 2] = hex_digit(b / 16);
-    out[at + 3] = hex_digit(b % 16);
+    let digits = [b'\\', b'x', hex_digit(b / 16), hex_digit(b % 16)];
+    out[at..at + 4].copy_from_slice(&digits);
     at + 4
 }
 
-// How many bytes print some bytes, or 15 where that is more than `limit`.
+// How many bytes print some bytes, or 15 where that is more than `limit`. It stays apart from `spell`: a pass over no buffer, as unescaping has it,
+// would count past the limit, and the sum could wrap.
 fn spelled_length(bytes: &[u8], limit: usize) -> Result<usize, Refusal>
     ensures { said result ≡ sized (length (spelled bytes.now)) limit }
 {
     let mut n: usize = 0;
-    let mut i: usize = 0;
-    while i < bytes.len() {
-        let w = width(bytes[i]);
+    for &b in bytes {
+        let w = width(b);
         if limit - n < w {
             return Err(Refusal::ShortOutput);
         }
         n += w;
-        i += 1;
     }
     Ok(n)
 }
@@ -95,10 +84,8 @@ fn spell(bytes: &[u8], out: &mut [u8])
     ensures { out.new ≡ spelled bytes.now ++ drop (length (spelled bytes.now)) out.old }
 {
     let mut n: usize = 0;
-    let mut i: usize = 0;
-    while i < bytes.len() {
-        n = put(bytes[i], out, n);
-        i += 1;
+    for &b in bytes {
+        n = put(b, out, n);
     }
 }
 
@@ -107,12 +94,11 @@ pub fn escape(bytes: &[u8], out: &mut [u8]) -> Result<usize, Refusal>
     ensures answer { said result ≡ answered (escaped bytes.now) out.old }
     ensures buffer { out.new ≡ filled (escaped bytes.now) out.old }
 {
-    if bytes.len() == 0 {
+    if bytes.is_empty() {
         if out.len() < 2 {
             return Err(Refusal::ShortOutput);
         }
-        out[0] = b'\\';
-        out[1] = b'e';
+        out[..2].copy_from_slice(b"\\e");
         return Ok(2);
     }
     let w = spelled_length(bytes, out.len());

@@ -16,5 +16,5 @@ pub use choices::{
 };
 pub use escaping::escape;
 pub use lines::find_lf;
-pub use numbers::{Number, read_number};
-pub use unescaping::{Unescaped, unescape};
+pub use numbers::read_number;
+pub use unescaping::unescape;

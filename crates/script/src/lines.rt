@@ -7,12 +7,10 @@ ghost use Rattle.script.specs.Line.{is_line_byte};
 pub fn find_lf(text: &[u8], from: usize) -> usize
     ensures { result ≡ from + run is_line_byte (drop from text.now) }
 {
-    let mut i = from;
-    while i < text.len() {
+    for i in from..text.len() {
         if text[i] == b'\n' {
             return i;
         }
-        i += 1;
     }
-    i
+    from.max(text.len())
 }

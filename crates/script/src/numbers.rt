@@ -2,45 +2,23 @@
 ghost use Rattle.std.specs.Prelude.{◌≡◌};
 ghost use Rattle.script.specs.Number.{number_said, read_number};
 
-// What reading a number gives.
-#[derive(Clone, Copy)]
-pub enum Number {
-    Value(u64),
-    Bad,
-}
-
-fn wide(b: u8) -> u64
-    ensures { result ≡ b }
-{
-    b as u64
-}
-
-// The number that a text is, if it is one and at most `limit`. No sum is made that could pass the limit, so none wraps.
-pub fn read_number(text: &[u8], limit: u64) -> Number
+// The number that a text is, if it is one and at most `limit`.
+pub fn read_number(text: &[u8], limit: u64) -> Option<u64>
     ensures { number_said result ≡ read_number text.now limit }
 {
-    if text.len() == 0 {
-        return Number::Bad;
+    if text.is_empty() {
+        return None;
     }
     let mut v: u64 = 0;
-    let mut i: usize = 0;
-    while i < text.len() {
-        let b = text[i];
-        if b < b'0' {
-            return Number::Bad;
+    for &b in text {
+        if !b.is_ascii_digit() {
+            return None;
         }
-        if b'9' < b {
-            return Number::Bad;
+        let tens = v.checked_mul(10)?;
+        v = tens.checked_add(u64::from(b - b'0'))?;
+        if limit < v {
+            return None;
         }
-        let d = wide(b - b'0');
-        if limit / 10 < v {
-            return Number::Bad;
-        }
-        if limit - v * 10 < d {
-            return Number::Bad;
-        }
-        v = v * 10 + d;
-        i += 1;
     }
-    Number::Value(v)
+    Some(v)
 }

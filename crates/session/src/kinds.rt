@@ -42,36 +42,16 @@ const RETURNED_FROM: usize = STANZAS_FROM + Session::RETURNED_STANZAS;
 pub fn span_of(kind: Kind) -> Span
     ensures { result ≡ span_of kind }
 {
-    match kind {
-        Kind::Recipients => Span {
-            first: 0,
-            width: Session::RECIPIENTS,
-        },
-        Kind::Identities => Span {
-            first: Session::RECIPIENTS,
-            width: Session::IDENTITIES,
-        },
-        Kind::Keys => Span {
-            first: KEYS_FROM,
-            width: Session::FILE_KEYS,
-        },
-        Kind::Headers => Span {
-            first: 0,
-            width: Session::HEADER_STANZAS,
-        },
-        Kind::Errors => Span {
-            first: ERRORS_FROM,
-            width: Session::ERRORS,
-        },
-        Kind::Stanzas => Span {
-            first: STANZAS_FROM,
-            width: Session::RETURNED_STANZAS,
-        },
-        Kind::Returned => Span {
-            first: RETURNED_FROM,
-            width: Session::RETURNED_KEYS,
-        },
-    }
+    let (first, width) = match kind {
+        Kind::Recipients => (0, Session::RECIPIENTS),
+        Kind::Identities => (Session::RECIPIENTS, Session::IDENTITIES),
+        Kind::Keys => (KEYS_FROM, Session::FILE_KEYS),
+        Kind::Headers => (0, Session::HEADER_STANZAS),
+        Kind::Errors => (ERRORS_FROM, Session::ERRORS),
+        Kind::Stanzas => (STANZAS_FROM, Session::RETURNED_STANZAS),
+        Kind::Returned => (RETURNED_FROM, Session::RETURNED_KEYS),
+    };
+    Span { first, width }
 }
 
 // No entry of any kind.
@@ -94,36 +74,14 @@ impl Tables {
     pub fn with(self, kind: Kind, table: Table) -> Tables
         ensures { result ≡ with_table self kind table }
     {
-        let mut all = self;
         match kind {
-            Kind::Recipients => {
-                all.recipients = table;
-                all
-            }
-            Kind::Identities => {
-                all.identities = table;
-                all
-            }
-            Kind::Keys => {
-                all.keys = table;
-                all
-            }
-            Kind::Headers => {
-                all.headers = table;
-                all
-            }
-            Kind::Errors => {
-                all.errors = table;
-                all
-            }
-            Kind::Stanzas => {
-                all.stanzas = table;
-                all
-            }
-            Kind::Returned => {
-                all.returned = table;
-                all
-            }
+            Kind::Recipients => Tables { recipients: table, ..self },
+            Kind::Identities => Tables { identities: table, ..self },
+            Kind::Keys => Tables { keys: table, ..self },
+            Kind::Headers => Tables { headers: table, ..self },
+            Kind::Errors => Tables { errors: table, ..self },
+            Kind::Stanzas => Tables { stanzas: table, ..self },
+            Kind::Returned => Tables { returned: table, ..self },
         }
     }
 }

@@ -5,9 +5,9 @@ ghost use Rattle.session.specs.Opening.{is_shown, machine_named, named_said, hel
 use bech32::Name;
 use refusal::Refusal;
 
-const RECIPIENT_V1: [u8; 12] = *b"recipient-v1";
+const RECIPIENT_V1: &[u8] = b"recipient-v1";
 
-const IDENTITY_V1: [u8; 11] = *b"identity-v1";
+const IDENTITY_V1: &[u8] = b"identity-v1";
 
 #[derive(Clone, Copy)]
 pub enum Machine {
@@ -25,19 +25,17 @@ pub enum Screen {
 pub(crate) fn is_shown(screen: Screen) -> bool
     ensures { result ≡ is_shown screen }
 {
-    match screen {
-        Screen::Shown => true,
-        Screen::Absent => false,
-    }
+    matches!(screen, Screen::Shown)
 }
 
+#[tactic(auto, using(refusal::proofs::Laws::Same::pointwise_same))]
 fn machine_named(name: &[u8]) -> Option<Machine>
     ensures { named_said result ≡ machine_named name.now }
 {
-    if stanza::is_same(name, &RECIPIENT_V1) {
+    if name == RECIPIENT_V1 {
         return Some(Machine::RecipientV1);
     }
-    if stanza::is_same(name, &IDENTITY_V1) {
+    if name == IDENTITY_V1 {
         return Some(Machine::IdentityV1);
     }
     None

@@ -6,7 +6,23 @@ ghost use Rattle.stanza.specs.Writing.{written, buffer_after};
 ghost use Rattle.session.specs.Composing.{composed_said, composed_by};
 ghost use Rattle.refusal.specs.Verdict.{verdict_said};
 
+use crate::sessions::Session;
 use refusal::Refusal;
+
+// What a call came to: what it took or wrote, or the refusal; and the session.
+#[derive(Clone, Copy)]
+pub struct Outcome<T> {
+    pub answer: Result<T, Refusal>,
+    pub session: Session,
+}
+
+// A command that was sent: how many bytes were written.
+pub type Sent = Outcome<usize>;
+
+// A short store for a line, and the arguments that have room there behind a command word and its space.
+pub const SHORT_LINE: usize = 128;
+
+pub const SHORT_ARGUMENTS: usize = 112;
 
 // 15 where n bytes are more than the output takes.
 pub fn check_output(n: usize, capacity: usize) -> Result<(), Refusal>
@@ -19,16 +35,19 @@ pub fn check_output(n: usize, capacity: usize) -> Result<(), Refusal>
 }
 
 // Writes a stanza that was accepted.
-pub fn write_judged(verdict: Result<(), Refusal>, line: &[u8], body: &[u8], out: &mut [u8]) -> Result<usize, Refusal>
+pub fn write_judged(
+    verdict: Result<(), Refusal>,
+    line: &[u8],
+    body: &[u8],
+    out: &mut [u8],
+) -> Result<usize, Refusal>
     ensures answer { said result ≡
         pick (eqb (verdict_said verdict) 0) (written line.now body.now out.old) (refused (verdict_said verdict)) }
     ensures output { out.new ≡
         pick (eqb (verdict_said verdict) 0) (buffer_after line.now body.now out.old) out.old }
 {
-    match verdict {
-        Ok(()) => stanza::write(line, body, out),
-        Err(r) => Err(r),
-    }
+    verdict?;
+    stanza::write(line, body, out)
 }
 
 // The front of some bytes.
@@ -52,14 +71,9 @@ pub struct Composed {
 pub fn compose(put: Result<usize, Refusal>, store: &[u8], body: &[u8]) -> Result<Composed, Refusal>
     ensures { composed_said result ≡ composed_by (said put) store.now body.now }
 {
-    match put {
-        Err(_) => Err(Refusal::Unwritable),
-        Ok(n) => {
-            let size = stanza::size(front(store, n), body);
-            match size {
-                Ok(k) => Ok(Composed { line: n, stanza: k }),
-                Err(r) => Err(r),
-            }
-        }
-    }
+    let Ok(line) = put else {
+        return Err(Refusal::Unwritable);
+    };
+    let stanza = stanza::size(front(store, line), body)?;
+    Ok(Composed { line, stanza })
 }

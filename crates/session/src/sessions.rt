@@ -119,19 +119,7 @@ impl Session {
           awaited = self.awaited;
         } }
     {
-        let machine = self.machine;
-        let name = self.name;
-        let reading = self.reading;
-        Session {
-            machine: machine,
-            phase: phase,
-            screen: self.screen,
-            name: name,
-            tables: tables,
-            reading: reading,
-            kept: self.kept,
-            awaited: self.awaited,
-        }
+        Session { phase, tables, ..self }
     }
 
     // The same session with other bytes kept and another stanza that waits.
@@ -147,19 +135,6 @@ impl Session {
           awaited = awaited;
         } }
     {
-        let machine = self.machine;
-        let phase = self.phase;
-        let name = self.name;
-        let tables = self.tables;
-        Session {
-            machine: machine,
-            phase: phase,
-            screen: self.screen,
-            name: name,
-            tables: tables,
-            reading: reading,
-            kept: kept,
-            awaited: awaited,
-        }
+        Session { reading, kept, awaited, ..self }
     }
 }

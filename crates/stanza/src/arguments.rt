@@ -1,53 +1,24 @@
 // The arguments' text of a stanza: whether it is one, how many words it has, which the k-th is, and whether two words are the same.
 // A word is what stands between two spaces, so every text has words; only a text of arguments has words that are all arguments.
-ghost use Rattle.std.specs.Prelude.{◌≡◌, ◌+◌, ◌≤◌, length, drop, take};
-ghost use Rattle.refusal.specs.Run.{all, run, is_graphic};
+ghost use Rattle.std.specs.Prelude.{◌≡◌, ◌+◌, drop};
+ghost use Rattle.refusal.specs.Run.{run, is_graphic};
 ghost use Rattle.refusal.specs.Same.{same};
 ghost use Rattle.stanza.specs.Arguments.{is_word_byte, is_line, count_of, argument_of};
 
-use crate::parts::least;
+use strict_base64::run_end;
 
 // A byte from 33, "!", to 126, "~".
 pub fn is_graphic(b: u8) -> bool
     ensures { result ≡ is_graphic b }
 {
-    (b'!' <= b) & (b <= b'~')
-}
-
-// Whether the 8 bytes from `at` on are all from 33 to 126. No early exit, so that the loop is vectorised.
-fn eight_graphic(text: &[u8], at: usize) -> bool
-    requires { at + 8 ≤ length text.now }
-    ensures { result ≡ all is_graphic (take 8 (drop at text.now)) }
-{
-    let mut good = true;
-    let mut j: usize = 0;
-    while j < 8 {
-        good = good & is_graphic(text[at + j]);
-        j += 1;
-    }
-    good
+    b.is_ascii_graphic()
 }
 
 // The end of the run of bytes from 33 to 126 that begins at `from`; `from` itself where that is no place of the text.
 pub(crate) fn graphic_end(text: &[u8], from: usize) -> usize
     ensures { result ≡ from + run is_graphic (drop from text.now) }
 {
-    let n = text.len();
-    let stop = n - least(n, 7);
-    let mut i = from;
-    while i < stop {
-        if !eight_graphic(text, i) {
-            break;
-        }
-        i += 8;
-    }
-    while i < n {
-        if !is_graphic(text[i]) {
-            return i;
-        }
-        i += 1;
-    }
-    i
+    run_end(text, from, is_graphic)
 }
 
 // A byte that is no space.
@@ -57,46 +28,18 @@ fn is_word_byte(b: u8) -> bool
     b != b' '
 }
 
-// Whether none of the 8 bytes from `at` on is a space. No early exit, so that the loop is vectorised.
-fn eight_of_word(text: &[u8], at: usize) -> bool
-    requires { at + 8 ≤ length text.now }
-    ensures { result ≡ all is_word_byte (take 8 (drop at text.now)) }
-{
-    let mut good = true;
-    let mut j: usize = 0;
-    while j < 8 {
-        good = good & is_word_byte(text[at + j]);
-        j += 1;
-    }
-    good
-}
-
 // The end of the word that begins at `from`: the next space or the text's end; `from` itself where that is no place of the text.
 fn word_end(text: &[u8], from: usize) -> usize
     ensures { result ≡ from + run is_word_byte (drop from text.now) }
 {
-    let n = text.len();
-    let stop = n - least(n, 7);
-    let mut i = from;
-    while i < stop {
-        if !eight_of_word(text, i) {
-            break;
-        }
-        i += 8;
-    }
-    while i < n {
-        if !is_word_byte(text[i]) {
-            return i;
-        }
-        i += 1;
-    }
-    i
+    run_end(text, from, is_word_byte)
 }
 
 // Whether a text is one or more arguments separated by single spaces.
 pub(crate) fn is_line(line: &[u8]) -> bool
     ensures { result ≡ is_line line.now }
 {
+    // To split at the spaces and test each word takes three times as long.
     let mut at: usize = 0;
     loop {
         let end = graphic_end(line, at);
@@ -117,6 +60,7 @@ pub(crate) fn is_line(line: &[u8]) -> bool
 pub fn count(line: &[u8]) -> usize
     ensures { result ≡ count_of line.now }
 {
+    // A chain that counts the spaces takes twice as long.
     let mut n: usize = 1;
     let mut at: usize = 0;
     loop {
@@ -133,15 +77,14 @@ pub fn count(line: &[u8]) -> usize
 pub fn argument<'a>(line: &'a [u8], k: usize) -> &'a [u8]
     ensures { result.now ≡ argument_of line.now k }
 {
+    // `split` and `nth` take nearly twice as long.
     let mut at: usize = 0;
-    let mut left = k;
-    while 0 < left {
+    for _ in 0..k {
         let end = word_end(line, at);
         if line.len() <= end {
             return &line[..0];
         }
         at = end + 1;
-        left -= 1;
     }
     let end = word_end(line, at);
     &line[at..end]
@@ -151,15 +94,5 @@ pub fn argument<'a>(line: &'a [u8], k: usize) -> &'a [u8]
 pub fn is_same(a: &[u8], b: &[u8]) -> bool
     ensures { result ≡ same a.now b.now }
 {
-    if a.len() != b.len() {
-        return false;
-    }
-    let mut i: usize = 0;
-    while i < a.len() {
-        if a[i] != b[i] {
-            return false;
-        }
-        i += 1;
-    }
-    true
+    a == b
 }

@@ -12,20 +12,14 @@ fn read_digits(text: &[u8]) -> Result<u32, Refusal>
     ensures { index_said result ≡ digits 0 text.now }
 {
     let mut v: u64 = 0;
-    let mut i: usize = 0;
-    while i < text.len() {
-        let b = text[i];
-        if b < b'0' {
+    for &b in text {
+        if !b.is_ascii_digit() {
             return Err(Refusal::BadIndex);
         }
-        if b'9' < b {
-            return Err(Refusal::BadIndex);
-        }
-        v = v * 10 + wide(b - b'0');
+        v = v * 10 + u64::from(b - b'0');
         if LARGEST < v {
             return Err(Refusal::BadIndex);
         }
-        i += 1;
     }
     Ok(v as u32)
 }
@@ -44,10 +38,4 @@ pub fn read_index(text: &[u8]) -> Result<u32, Refusal>
         return Err(Refusal::BadIndex);
     }
     read_digits(text)
-}
-
-fn wide(b: u8) -> u64
-    ensures { result ≡ b }
-{
-    b as u64
 }

@@ -1,6 +1,6 @@
 // The parts of a stanza that was read: the arguments' text, with no copy, and the body, decoded. Of a text and a `Stanza` that do not belong
 // together they make what the definitions say.
-ghost use Rattle.std.specs.Prelude.{◌≡◌, ◌+◌, min, take, drop};
+ghost use Rattle.std.specs.Prelude.{◌≡◌, ◌+◌, take, drop};
 ghost use Rattle.refusal.specs.Output.{said, answered, filled};
 ghost use Rattle.stanza.specs.Parts.{arguments_in, lines_in, body_in};
 
@@ -12,9 +12,8 @@ use refusal::Refusal;
 pub fn arguments_of<'a>(text: &'a [u8], s: Stanza) -> &'a [u8]
     ensures { result.now ≡ arguments_in text.now s }
 {
-    let line = s.line;
-    let end = least(line, text.len());
-    let from = least(FRONT, end);
+    let end = s.line.min(text.len());
+    let from = end.min(FRONT);
     &text[from..end]
 }
 
@@ -23,30 +22,17 @@ pub fn body_of(text: &[u8], s: Stanza, out: &mut [u8]) -> Result<usize, Refusal>
     ensures answer { said result ≡ answered (body_in text.now s) out.old }
     ensures buffer { out.new ≡ filled (body_in text.now s) out.old }
 {
-    strict_base64::decode_lines(lines(text, s.line, s.taken), out)
+    strict_base64::decode_lines(lines_of(text, s), out)
 }
 
 // The lines of base64 that the body is, a part of the stanza's text.
 pub fn lines_of<'a>(text: &'a [u8], s: Stanza) -> &'a [u8]
     ensures { result.now ≡ lines_in text.now s }
 {
-    lines(text, s.line, s.taken)
-}
-
-// The lines behind the first line, up to `taken`.
-fn lines<'a>(text: &'a [u8], line: usize, taken: usize) -> &'a [u8]
-    ensures { result.now ≡ drop (line + 1) (take taken text.now) }
-{
-    let end = least(taken, text.len());
-    if line < end {
-        let from = line + 1;
+    let end = s.taken.min(text.len());
+    if s.line < end {
+        let from = s.line + 1;
         return &text[from..end];
     }
     &text[end..end]
-}
-
-pub(crate) fn least(a: usize, b: usize) -> usize
-    ensures { result ≡ min a b }
-{
-    if a < b { a } else { b }
 }

@@ -7,7 +7,6 @@ ghost use Rattle.stanza.specs.Resuming.{place_said, continued_said, continued};
 
 use crate::LONGEST;
 use crate::arguments::is_graphic;
-use crate::parts::least;
 use refusal::Refusal;
 
 // Where the reading of a stanza stands.
@@ -40,16 +39,14 @@ pub enum Continued {
 pub fn read_on(place: Place, kept: usize, bytes: &[u8]) -> Continued
     ensures { continued_said result ≡ continued (place_said place) kept bytes.now }
 {
-    let left = LONGEST - least(LONGEST, kept);
-    let n = least(left, bytes.len());
+    let left = LONGEST.saturating_sub(kept);
+    let n = left.min(bytes.len());
     let mut at = place;
-    let mut i: usize = 0;
-    while i < n {
-        at = next_place(at, bytes[i]);
-        i += 1;
+    for (i, &b) in bytes[..n].iter().enumerate() {
+        at = next_place(at, b);
         match at {
             Place::Dead => return Continued::Refused(Refusal::NotStanza),
-            Place::Ended => return Continued::Whole(i),
+            Place::Ended => return Continued::Whole(i + 1),
             _ => {}
         }
     }

@@ -1,5 +1,5 @@
 // Reading the first stanza of a text: one pass over at most 8,192 bytes, by runs of bytes of one class. Nothing is copied.
-ghost use Rattle.std.specs.Prelude.{◌≡◌, ℕ, List, false, ◌+◌, ◌<◌, ◌≤◌, min, ltb, length, drop};
+ghost use Rattle.std.specs.Prelude.{◌≡◌, ℕ, List, false, ◌+◌, ◌<◌, ◌≤◌, ltb, length, drop};
 ghost use Rattle.refusal.specs.Number.{number_of};
 ghost use Rattle.refusal.specs.Pick.{pick};
 ghost use Rattle.strict_base64.specs.Lines.{is_full};
@@ -31,7 +31,7 @@ enum Fault {
 pub fn read(text: &[u8]) -> Result<Stanza, Refusal>
     ensures { read_said result ≡ read_first text.now }
 {
-    let n = window(text.len());
+    let n = text.len().min(LONGEST);
     let w = &text[..n];
     let l = first_line(w);
     match l {
@@ -60,13 +60,6 @@ fn read_body(w: &[u8], e: usize) -> Result<Stanza, Refusal>
     }
 }
 
-// How much of a text of n bytes is looked at.
-fn window(n: usize) -> usize
-    ensures { result ≡ min 8192 n }
-{
-    if LONGEST < n { LONGEST } else { n }
-}
-
 // What a part without an end makes of a window of n bytes.
 fn refusal_of(fault: Fault, n: usize) -> Refusal
     ensures { (w : List ℕ) → refused (number_of result) ≡ found n w (fault_said fault) }
@@ -92,25 +85,13 @@ fn first_line(text: &[u8]) -> Result<usize, Fault>
     ensures text_value { scan start 0 text.now ≡ goes_on result text.now }
     ensures ends_at { EndsAt result (line_end text.now) (length text.now) }
 {
-    if text.len() == 0 {
+    if text.starts_with(b"-> ") {
+        return words(text, FRONT);
+    }
+    if b"-> ".starts_with(text) {
         return Err(Fault::Short);
     }
-    if text[0] != b'-' {
-        return Err(Fault::Bad);
-    }
-    if text.len() == 1 {
-        return Err(Fault::Short);
-    }
-    if text[1] != b'>' {
-        return Err(Fault::Bad);
-    }
-    if text.len() == 2 {
-        return Err(Fault::Short);
-    }
-    if text[2] != b' ' {
-        return Err(Fault::Bad);
-    }
-    words(text, FRONT)
+    Err(Fault::Bad)
 }
 
 // The arguments from `from` on, up to their LF.
@@ -119,6 +100,7 @@ fn words(text: &[u8], from: usize) -> Result<usize, Fault>
     ensures text_value { scan gap from (drop from text.now) ≡ goes_on result text.now }
     ensures ends_at { EndsAt result (from + line_end (drop from text.now)) (length text.now) }
 {
+    // A turn passes over a word and the byte behind it, so that no `for` serves.
     let mut i = from;
     while i < text.len() {
         let e = graphic_end(text, i);
@@ -145,6 +127,7 @@ fn body_end(text: &[u8], from: usize) -> Result<usize, Fault>
     requires { from ≤ length text.now }
     ensures { scan (line 0 0) from (drop from text.now) ≡ body_said result }
 {
+    // By index: `full_line` takes the text and a place, and a chain over chunks is no plainer.
     let mut i = from;
     while strict_base64::full_line(text, i) {
         i += strict_base64::LINE_LENGTH;

@@ -64,9 +64,7 @@ fn write_line(line: &[u8], out: &mut [u8])
     requires { length line.now + 4 ≤ length out.old }
     ensures { out.new ≡ first_line line.now ++ drop (length line.now + 4) out.old }
 {
-    out[0] = b'-';
-    out[1] = b'>';
-    out[2] = b' ';
+    copy(b"-> ", out);
     copy(line, &mut out[FRONT..]);
     let at = line.len() + FRONT;
     out[at] = b'\n';
@@ -115,9 +113,5 @@ pub fn copy(part: &[u8], out: &mut [u8])
     if out.len() < part.len() {
         return;
     }
-    let mut i: usize = 0;
-    while i < part.len() {
-        out[i] = part[i];
-        i += 1;
-    }
+    out[..part.len()].copy_from_slice(part);
 }

@@ -7,9 +7,11 @@ mod alphabet;
 mod decoding;
 mod encoding;
 mod lines;
+mod runs;
 
 pub use alphabet::{characters, ends_well, is_character};
 pub use decoding::{decode, measure};
 pub use lines::{
     LINE_CHARACTERS, LINE_LENGTH, body_length, decode_lines, encode_lines, full_line, lines_length,
 };
+pub use runs::run_end;

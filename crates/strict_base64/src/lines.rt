@@ -1,14 +1,13 @@
 // Base64 in lines of 64 characters: a stanza's body. Reading it is total: of bytes that are no such lines it makes what the definition says.
 ghost use Rattle.std.specs.Prelude.{◌≡◌, ◌<◌, ◌≤◌, ◌+◌, ◌/◌, length, take, drop, ◌++◌};
 ghost use Rattle.strict_base64.specs.Lines.{lines_of, body_of, is_full};
-ghost use Rattle.strict_base64.specs.Alphabet.{is_character};
-ghost use Rattle.refusal.specs.Run.{all};
-ghost use Rattle.strict_base64.specs.Tables.{Values, Characters, body_size, encoded_size};
+ghost use Rattle.strict_base64.specs.Tables.{body_size, encoded_size};
 ghost use Rattle.refusal.specs.Output.{said, answered, filled};
 
-use crate::alphabet::{alphabet_characters, is_character, values};
-use crate::decoding::decode_into;
+use crate::alphabet::is_character;
+use crate::decoding::{decode_into, decoded_length};
 use crate::encoding::{encode_into, encoded_length};
+use crate::runs::are_all;
 use refusal::Refusal;
 
 // A full line: its characters, its bytes with the LF, and how many bytes of the body it has.
@@ -17,20 +16,6 @@ pub const LINE_CHARACTERS: usize = 64;
 pub const LINE_LENGTH: usize = LINE_CHARACTERS + 1;
 
 const LINE_BYTES: usize = 48;
-
-// Whether the 64 bytes from `at` on are all characters. No early exit, so that the loop is vectorised.
-fn sixty_four(text: &[u8], at: usize) -> bool
-    requires { at + 64 ≤ length text.now }
-    ensures { result ≡ all is_character (take 64 (drop at text.now)) }
-{
-    let mut good = true;
-    let mut j: usize = 0;
-    while j < LINE_CHARACTERS {
-        good = good & is_character(text[at + j]);
-        j += 1;
-    }
-    good
-}
 
 // Whether a full line stands at `at`: 64 characters and an LF.
 pub fn full_line(text: &[u8], at: usize) -> bool
@@ -43,11 +28,10 @@ pub fn full_line(text: &[u8], at: usize) -> bool
     if n - at < LINE_LENGTH {
         return false;
     }
-    if !sixty_four(text, at) {
+    if !are_all(&text[at..at + LINE_CHARACTERS], &is_character) {
         return false;
     }
-    let b = text[at + LINE_CHARACTERS];
-    b == b'\n'
+    text[at + LINE_CHARACTERS] == b'\n'
 }
 
 // How many bytes the body of n bytes of lines has.
@@ -58,8 +42,7 @@ pub fn body_length(n: usize) -> usize
         return 0;
     }
     let m = n - 1;
-    let c = m - m / LINE_LENGTH;
-    c / 4 * 3 + c % 4 * 3 / 4
+    decoded_length(m - m / LINE_LENGTH)
 }
 
 // The body of some lines at the front of `out`: how many bytes, or 15 and nothing written.
@@ -71,15 +54,13 @@ pub fn decode_lines(lines: &[u8], out: &mut [u8]) -> Result<usize, Refusal>
     if out.len() < n {
         return Err(Refusal::ShortOutput);
     }
-    let table = values();
-    body_into(&table, lines, out);
+    body_into(lines, out);
     Ok(n)
 }
 
 // The same where the buffer is long enough: line by line, the last without its LF.
-fn body_into(table: &[u8; 256], lines: &[u8], out: &mut [u8])
-    requires values { Values table.now }
-    requires lines_in_bounds { body_size (length lines.now) ≤ length out.old }
+fn body_into(lines: &[u8], out: &mut [u8])
+    requires { body_size (length lines.now) ≤ length out.old }
     ensures { out.new ≡ body_of lines.now ++ drop (length (body_of lines.now)) out.old }
 {
     let n = lines.len();
@@ -87,18 +68,16 @@ fn body_into(table: &[u8; 256], lines: &[u8], out: &mut [u8])
         return;
     }
     let full = (n - 1) / LINE_LENGTH;
-    let mut i: usize = 0;
-    while i < full {
+    for i in 0..full {
         let a = LINE_LENGTH * i;
         let e = a + LINE_CHARACTERS;
         let b = LINE_BYTES * i;
-        decode_into(table, &lines[a..e], &mut out[b..]);
-        i += 1;
+        decode_into(&lines[a..e], &mut out[b..]);
     }
     let a = LINE_LENGTH * full;
     let e = n - 1;
     let b = LINE_BYTES * full;
-    decode_into(table, &lines[a..e], &mut out[b..]);
+    decode_into(&lines[a..e], &mut out[b..]);
 }
 
 // How many bytes the lines of a body have.
@@ -118,41 +97,36 @@ pub fn encode_lines(body: &[u8], out: &mut [u8]) -> Result<usize, Refusal>
     if out.len() < n {
         return Err(Refusal::ShortOutput);
     }
-    let table = alphabet_characters();
-    lines_into(&table, body, out);
+    lines_into(body, out);
     Ok(n)
 }
 
 // The same where the buffer is long enough: 48 bytes to a full line, and the rest to the last.
-fn lines_into(table: &[u8; 64], body: &[u8], out: &mut [u8])
-    requires characters { Characters table.now }
-    requires body_in_bounds { encoded_size (length body.now) + encoded_size (length body.now) / 64 + 1 ≤ length out.old }
+fn lines_into(body: &[u8], out: &mut [u8])
+    requires { encoded_size (length body.now) + encoded_size (length body.now) / 64 + 1 ≤ length out.old }
     ensures { out.new ≡ lines_of body.now ++ drop (length (lines_of body.now)) out.old }
 {
     let full = body.len() / LINE_BYTES;
-    let mut i: usize = 0;
-    while i < full {
+    for i in 0..full {
         let a = LINE_BYTES * i;
         let e = a + LINE_BYTES;
         let b = LINE_LENGTH * i;
-        encode_into(table, &body[a..e], &mut out[b..]);
+        encode_into(&body[a..e], &mut out[b..]);
         let end = b + LINE_CHARACTERS;
         out[end] = b'\n';
-        i += 1;
     }
     let a = LINE_BYTES * full;
     let b = LINE_LENGTH * full;
-    last_line(table, &body[a..], &mut out[b..]);
+    last_line(&body[a..], &mut out[b..]);
 }
 
 // The last line, of fewer than 48 bytes.
-fn last_line(table: &[u8; 64], body: &[u8], out: &mut [u8])
-    requires characters { Characters table.now }
+fn last_line(body: &[u8], out: &mut [u8])
     requires body_len_bound { length body.now < 48 }
     requires body_in_bounds { encoded_size (length body.now) + 1 ≤ length out.old }
     ensures { out.new ≡ lines_of body.now ++ drop (length (lines_of body.now)) out.old }
 {
     let n = encoded_length(body);
-    encode_into(table, body, out);
+    encode_into(body, out);
     out[n] = b'\n';
 }

@@ -3,13 +3,13 @@ ghost use Rattle.std.specs.Prelude.{◌≡◌, map, ltb};
 ghost use Rattle.refusal.specs.Run.{run};
 ghost use Rattle.symbols.specs.Charset.{is_upper, is_lower, lower};
 ghost use Rattle.symbols.specs.Checksum.{are_symbols};
-ghost use Rattle.symbols.specs.Steps.{Values, Folds, value_in};
+ghost use Rattle.symbols.specs.Steps.{Values, value_in};
 
 // What the five top bits of the checksum's state fold in, the lowest bit first.
 const CONSTANTS: [u32; 5] = [0x3b6a57b2, 0x26508e6d, 0x1ea119fa, 0x3d4233dd, 0x2a1462b3];
 
 // What each number of five bits folds in: the exclusive or of the constants that its bits choose.
-const FOLDS: [u32; 32] = [
+pub(crate) static FOLDS: [u32; 32] = [
     0,
     CONSTANTS[0],
     CONSTANTS[1],
@@ -52,9 +52,6 @@ pub const CAPITALS: [u8; 32] = *b"QPZRY9X8GF2TVDW0S3JN54KHCE6MUA7L";
 // How many symbols there are: a value of so much is none.
 pub(crate) const SYMBOLS: u8 = 32;
 
-// How far a letter in lower case stands over its capital.
-pub const CASE: u8 = b'a' - b'A';
-
 // The value of each byte, a letter's in either case; 32 for one outside the alphabet.
 const VALUES: [u8; 256] = [
     32, 32, 32, 32, 32, 32, 32, 32, 32, 32, 32, 32, 32, 32, 32, 32, 32, 32, 32, 32, 32, 32, 32, 32,
@@ -70,31 +67,18 @@ const VALUES: [u8; 256] = [
     32, 32, 32, 32, 32, 32, 32, 32, 32, 32, 32, 32,
 ];
 
-// The table by value: a caller copies it once and lends it to each pass over a text.
+// The table by value: a caller copies it once and lends it to each pass over a text. No static as FOLDS: the public functions are lent it.
 pub fn values() -> [u8; 256]
     ensures { Values result }
 {
     VALUES
 }
 
-// The table of folds by value: a pass over symbols copies it once and lends it to each step.
-pub(crate) fn folds() -> [u32; 32]
-    ensures { Folds result }
-{
-    FOLDS
-}
-
-fn wide(b: u8) -> usize
-    ensures { result ≡ b }
-{
-    b as usize
-}
-
 // The value of a byte, by the table.
 pub(crate) fn look_up(table: &[u8; 256], b: u8) -> u8
     ensures { result ≡ value_in table.now b }
 {
-    table[wide(b)]
+    table[usize::from(b)]
 }
 
 // Whether all bytes are characters, by the table.
@@ -108,34 +92,26 @@ pub fn are_characters(table: &[u8; 256], text: &[u8]) -> bool
 pub fn character_run(table: &[u8; 256], text: &[u8]) -> usize
     ensures { result ≡ run (λ v. ltb v 32) (map (value_in table.now) text.now) }
 {
-    let mut i: usize = 0;
-    while i < text.len() {
-        if SYMBOLS <= look_up(table, text[i]) {
-            return i;
-        }
-        i += 1;
-    }
-    i
+    text.iter()
+        .take_while(|b| look_up(table, **b) < SYMBOLS)
+        .count()
 }
 
 pub fn is_upper(b: u8) -> bool
     ensures { result ≡ is_upper b }
 {
-    (b'A' <= b) & (b <= b'Z')
+    b.is_ascii_uppercase()
 }
 
 pub fn is_lower(b: u8) -> bool
     ensures { result ≡ is_lower b }
 {
-    (b'a' <= b) & (b <= b'z')
+    b.is_ascii_lowercase()
 }
 
 // A byte in lower case.
 pub fn lowered(b: u8) -> u8
     ensures { result ≡ lower b }
 {
-    if is_upper(b) {
-        return b + CASE;
-    }
-    b
+    b.to_ascii_lowercase()
 }

@@ -18,33 +18,17 @@ pub fn bytes_length(n: usize) -> usize
 fn is_clear(left: usize, last: u8) -> bool
     ensures { result ≡ is_clear left last }
 {
-    if left == 0 {
-        return true;
-    }
-    if left == 1 {
-        return last % 2 == 0;
-    }
-    if left == 2 {
-        return last % 4 == 0;
-    }
-    if left == 3 {
-        return last % 8 == 0;
-    }
-    if left == 4 {
-        return last % 16 == 0;
-    }
-    false
+    left < 5 && last % (1 << left) == 0
 }
 
 // Whether the symbols of some characters, by the table, are whole bytes.
 pub fn is_whole(table: &[u8; 256], text: &[u8]) -> bool
     ensures { result ≡ is_whole (map (value_in table.now) text.now) }
 {
-    let n = text.len();
-    if n == 0 {
+    let Some(b) = text.last() else {
         return true;
-    }
-    is_clear(n % 8 * 5 % 8, look_up(table, text[n - 1]))
+    };
+    is_clear(text.len() % 8 * 5 % 8, look_up(table, *b))
 }
 
 // The symbol of the character at i.
@@ -54,45 +38,6 @@ fn symbol(table: &[u8; 256], text: &[u8], i: usize) -> u8
     ensures small { result < 32 }
 {
     look_up(table, text[i]) % 32
-}
-
-// The five bytes of eight symbols, by the symbols whose bits they have.
-fn first(p: u8, q: u8) -> u8
-    requires p_bound { p < 32 }
-    requires q_bound { q < 32 }
-    ensures { result ≡ p * 8 + q / 4 }
-{
-    p * 8 + q / 4
-}
-
-fn second(q: u8, r: u8, s: u8) -> u8
-    requires r_bound { r < 32 }
-    requires s_bound { s < 32 }
-    ensures { result ≡ q % 4 * 64 + r * 2 + s / 16 }
-{
-    q % 4 * 64 + r * 2 + s / 16
-}
-
-fn third(s: u8, t: u8) -> u8
-    requires { t < 32 }
-    ensures { result ≡ s % 16 * 16 + t / 2 }
-{
-    s % 16 * 16 + t / 2
-}
-
-fn fourth(t: u8, u: u8, v: u8) -> u8
-    requires u_bound { u < 32 }
-    requires v_bound { v < 32 }
-    ensures { result ≡ t % 2 * 128 + u * 4 + v / 8 }
-{
-    t % 2 * 128 + u * 4 + v / 8
-}
-
-fn fifth(v: u8, w: u8) -> u8
-    requires { w < 32 }
-    ensures { result ≡ v % 8 * 32 + w }
-{
-    v % 8 * 32 + w
 }
 
 // The bytes of some characters, by the table, at the front of `out`; nothing where it is too short.
@@ -112,24 +57,16 @@ fn decode_into(table: &[u8; 256], text: &[u8], out: &mut [u8])
         bytes (map (symbol_in table.now) text.now) ++ drop (length (bytes (map (symbol_in table.now) text.now)))
         out.old }
 {
-    let n = text.len() / 8;
-    let mut i: usize = 0;
-    while i < n {
-        let a = 8 * i;
-        let e = a + 8;
-        let b = 5 * i;
-        decode_group(table, &text[a..e], &mut out[b..]);
-        i += 1;
+    let (groups, rest) = text.as_chunks::<8>();
+    for (i, group) in groups.iter().enumerate() {
+        decode_group(table, group, &mut out[5 * i..]);
     }
-    let a = 8 * n;
-    let b = 5 * n;
-    decode_rest(table, &text[a..], &mut out[b..]);
+    decode_rest(table, rest, &mut out[5 * groups.len()..]);
 }
 
 // The same for eight characters.
-fn decode_group(table: &[u8; 256], text: &[u8], out: &mut [u8])
-    requires text_len { length text.now ≡ 8 }
-    requires in_bounds { 5 ≤ length out.old }
+fn decode_group(table: &[u8; 256], text: &[u8; 8], out: &mut [u8])
+    requires { 5 ≤ length out.old }
     ensures { out.new ≡ bytes (map (symbol_in table.now) text.now) ++ drop 5 out.old }
 {
     let p = symbol(table, text, 0);
@@ -140,14 +77,14 @@ fn decode_group(table: &[u8; 256], text: &[u8], out: &mut [u8])
     let u = symbol(table, text, 5);
     let v = symbol(table, text, 6);
     let w = symbol(table, text, 7);
-    out[0] = first(p, q);
-    out[1] = second(q, r, s);
-    out[2] = third(s, t);
-    out[3] = fourth(t, u, v);
-    out[4] = fifth(v, w);
+    out[0] = p * 8 + q / 4;
+    out[1] = q % 4 * 64 + r * 2 + s / 16;
+    out[2] = s % 16 * 16 + t / 2;
+    out[3] = t % 2 * 128 + u * 4 + v / 8;
+    out[4] = v % 8 * 32 + w;
 }
 
-// The same for fewer than eight.
+// The same for fewer than eight: the first bytes of a group that they begin.
 fn decode_rest(table: &[u8; 256], text: &[u8], out: &mut [u8])
     requires text_len_bound { length text.now < 8 }
     requires text_in_bounds { bytes_size (length text.now) ≤ length out.old }
@@ -155,30 +92,12 @@ fn decode_rest(table: &[u8; 256], text: &[u8], out: &mut [u8])
         bytes (map (symbol_in table.now) text.now) ++ drop (length (bytes (map (symbol_in table.now) text.now)))
         out.old }
 {
-    let n = text.len();
-    if n < 2 {
-        return;
-    }
-    let p = symbol(table, text, 0);
-    let q = symbol(table, text, 1);
-    out[0] = first(p, q);
-    if n < 4 {
-        return;
-    }
-    let r = symbol(table, text, 2);
-    let s = symbol(table, text, 3);
-    out[1] = second(q, r, s);
-    if n < 5 {
-        return;
-    }
-    let t = symbol(table, text, 4);
-    out[2] = third(s, t);
-    if n < 7 {
-        return;
-    }
-    let u = symbol(table, text, 5);
-    let v = symbol(table, text, 6);
-    out[3] = fourth(t, u, v);
+    let mut group = [0; 8];
+    group[..text.len()].copy_from_slice(text);
+    let mut whole = [0; 5];
+    decode_group(table, &group, &mut whole);
+    let n = bytes_length(text.len());
+    out[..n].copy_from_slice(&whole[..n]);
 }
 
 // The symbols of some bytes at the front of `out`; nothing where it is too short.
@@ -196,31 +115,19 @@ fn symbols_into(payload: &[u8], out: &mut [u8])
     requires { symbols_size (length payload.now) ≤ length out.old }
     ensures { out.new ≡ symbols payload.now ++ drop (length (symbols payload.now)) out.old }
 {
-    let n = payload.len() / 5;
-    let mut i: usize = 0;
-    while i < n {
-        let a = 5 * i;
-        let e = a + 5;
-        let b = 8 * i;
-        symbols_group(&payload[a..e], &mut out[b..]);
-        i += 1;
+    let (groups, rest) = payload.as_chunks::<5>();
+    for (i, group) in groups.iter().enumerate() {
+        symbols_group(group, &mut out[8 * i..]);
     }
-    let a = 5 * n;
-    let b = 8 * n;
-    symbols_rest(&payload[a..], &mut out[b..]);
+    symbols_rest(rest, &mut out[8 * groups.len()..]);
 }
 
 // The same for five bytes.
-fn symbols_group(payload: &[u8], out: &mut [u8])
-    requires payload_len { length payload.now ≡ 5 }
-    requires in_bounds { 8 ≤ length out.old }
+fn symbols_group(payload: &[u8; 5], out: &mut [u8])
+    requires { 8 ≤ length out.old }
     ensures { out.new ≡ symbols payload.now ++ drop 8 out.old }
 {
-    let a = payload[0];
-    let b = payload[1];
-    let c = payload[2];
-    let d = payload[3];
-    let e = payload[4];
+    let [a, b, c, d, e] = *payload;
     out[0] = a / 8;
     out[1] = a % 8 * 4 + b / 64;
     out[2] = b / 2 % 32;
@@ -231,37 +138,16 @@ fn symbols_group(payload: &[u8], out: &mut [u8])
     out[7] = e % 32;
 }
 
-// The same for fewer than five.
+// The same for fewer than five: the first symbols of a group that they begin, zeros behind them.
 fn symbols_rest(payload: &[u8], out: &mut [u8])
     requires payload_len_bound { length payload.now < 5 }
     requires payload_in_bounds { symbols_size (length payload.now) ≤ length out.old }
     ensures { out.new ≡ symbols payload.now ++ drop (length (symbols payload.now)) out.old }
 {
-    let n = payload.len();
-    if n == 0 {
-        return;
-    }
-    let a = payload[0];
-    out[0] = a / 8;
-    if n == 1 {
-        out[1] = a % 8 * 4;
-        return;
-    }
-    let b = payload[1];
-    out[1] = a % 8 * 4 + b / 64;
-    out[2] = b / 2 % 32;
-    if n == 2 {
-        out[3] = b % 2 * 16;
-        return;
-    }
-    let c = payload[2];
-    out[3] = b % 2 * 16 + c / 16;
-    if n == 3 {
-        out[4] = c % 16 * 2;
-        return;
-    }
-    let d = payload[3];
-    out[4] = c % 16 * 2 + d / 128;
-    out[5] = d / 4 % 32;
-    out[6] = d % 4 * 8;
+    let mut group = [0; 5];
+    group[..payload.len()].copy_from_slice(payload);
+    let mut whole = [0; 8];
+    symbols_group(&group, &mut whole);
+    let n = (payload.len() * 8 + 4) / 5;
+    out[..n].copy_from_slice(&whole[..n]);
 }

@@ -91,6 +91,10 @@ found t n = pick (ltb n t.count && ltb n t.width) (entry (get_or t.slots n empty
 abbrev pub part_of : ℕ → ℕ → List ℕ → List ℕ
 part_of start n buffer = pick (leb (start + n) (length buffer)) (take n (drop start buffer)) []
 
+-- the same, or nothing
+abbrev pub part_in : ℕ → ℕ → List ℕ → Option (List ℕ)
+part_in start n buffer = pick (leb (start + n) (length buffer)) (Some (take n (drop start buffer))) None
+
 -- the entry's payload as a part of the buffer
 abbrev pub shown : Found → List ℕ → List ℕ
 shown nothing buffer = []

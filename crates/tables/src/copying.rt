@@ -1,6 +1,6 @@
 // Payloads copied into the buffers. A body is given as its bytes, or as the lines of base64 that a stanza has of it: those are decoded where they are kept.
-ghost use Rattle.std.specs.Prelude.{◌≡◌, ◌∷◌, ◌++◌, ◌+◌, ◌≤◌, length, drop};
-ghost use Rattle.tables.specs.Bodies.{body_from};
+ghost use Rattle.std.specs.Prelude.{◌≡◌, ◌∷◌, ◌++◌, ◌+◌, ◌≤◌, length, drop, option_copied};
+ghost use Rattle.tables.specs.Bodies.{body_from, payload_from};
 
 // How a body is given.
 #[derive(Clone, Copy)]
@@ -20,7 +20,7 @@ pub fn body_size(coding: Coding, source: &[u8]) -> usize
 }
 
 // A body at the front of `out`, which is long enough.
-pub(crate) fn put_body(coding: Coding, source: &[u8], out: &mut [u8])
+fn put_body(coding: Coding, source: &[u8], out: &mut [u8])
     requires { length (body_from coding source.now) ≤ length out.old }
     ensures { out.new ≡ body_from coding source.now ++ drop (length (body_from coding source.now)) out.old }
 {
@@ -32,8 +32,30 @@ pub(crate) fn put_body(coding: Coding, source: &[u8], out: &mut [u8])
     }
 }
 
+// How many bytes a payload has: a body's, behind a line and an LF where there is a line.
+pub(crate) fn payload_size(line: Option<&[u8]>, coding: Coding, source: &[u8]) -> usize
+    ensures { result ≡ length (payload_from (option_copied line.entry) coding source.now) }
+{
+    match line {
+        Some(line) => line.len() + 1 + body_size(coding, source),
+        None => body_size(coding, source),
+    }
+}
+
+// A payload at the front of `out`, which is long enough.
+pub(crate) fn put_payload(line: Option<&[u8]>, coding: Coding, source: &[u8], out: &mut [u8])
+    requires { length (payload_from (option_copied line) coding source.now) ≤ length out.old }
+    ensures { out.new ≡
+        payload_from (option_copied line.entry) coding source.now ++ drop (length (payload_from (option_copied line.entry) coding source.now)) out.old }
+{
+    match line {
+        Some(line) => put_lines(line, coding, source, out),
+        None => put_body(coding, source, out),
+    }
+}
+
 // A line, an LF and a body at the front of `out`, which is long enough.
-pub(crate) fn put_lines(line: &[u8], coding: Coding, source: &[u8], out: &mut [u8])
+fn put_lines(line: &[u8], coding: Coding, source: &[u8], out: &mut [u8])
     requires { length line.now + 1 + length (body_from coding source.now) ≤ length out.old }
     ensures { out.new ≡
         (line.now ++ 10 ∷ body_from coding source.now) ++ drop

@@ -1,15 +1,15 @@
 // Tables of entries. A payload lies in a buffer that is lent to each call, its entry in slots that are lent too; the table has how many there are. One table
 // for every kind and width: a span says where its slots are.
-ghost use Rattle.std.specs.Prelude.{◌≡◌, true, ◌&&◌, ◌∷◌, ◌++◌, ◌+◌, ltb, leb, eqb, length};
+ghost use Rattle.std.specs.Prelude.{◌≡◌, true, ◌&&◌, ◌∷◌, ◌++◌, ◌+◌, ltb, leb, eqb, length, map, take, option_copied};
 ghost use Rattle.refusal.specs.Pick.{pick};
 ghost use Rattle.refusal.specs.Verdict.{verdict_said};
-ghost use Rattle.tables.specs.Bodies.{body_from};
-ghost use Rattle.tables.specs.Slots.{are_apart, slots_of};
+ghost use Rattle.tables.specs.Bodies.{body_from, payload_from};
+ghost use Rattle.tables.specs.Slots.{are_apart, entry_of, slots_of};
 ghost use Rattle.tables.specs.declared.slots.Span.{Span as AnySpan};
-ghost use Rattle.tables.specs.Repeats.{repeats};
-ghost use Rattle.tables.specs.Tables.{table_in, storing, entered, kept, found_said, found, shown, part_of};
+ghost use Rattle.tables.specs.Repeats.{shows, repeats};
+ghost use Rattle.tables.specs.Tables.{table_in, storing, entered, kept, found_said, found, shown, part_in};
 
-use crate::copying::{Coding, body_size, put_body, put_lines};
+use crate::copying::{Coding, payload_size, put_payload};
 use crate::slots::{Entry, Span, entry_at, put_entry, slots_in};
 use refusal::Refusal;
 
@@ -31,13 +31,7 @@ pub struct Stored {
 fn has_space(count: usize, width: usize, used: usize, n: usize, capacity: usize) -> bool
     ensures { result ≡ (ltb count width && leb (used + n) capacity) }
 {
-    if width <= count {
-        return false;
-    }
-    if capacity < used {
-        return false;
-    }
-    n <= capacity - used
+    count < width && used <= capacity && n <= capacity - used
 }
 
 impl Table {
@@ -61,46 +55,21 @@ impl Table {
         Some(entry_at(span, n, slots))
     }
 
-    // Whether an entry already shows a text. One that the buffer is too short for shows none. Bytes are compared from the last: recipients have their front
-    // in common, and differ in the checksum.
+    // The slots of its entries.
+    pub fn entries<'a>(self, span: Span, slots: &'a [[usize; 4]]) -> &'a [[usize; 4]]
+        ensures { map entry_of result.now ≡ take self.count (slots_of span slots.now) }
+    {
+        let all = span.slots(slots);
+        all.get(..self.count).unwrap_or(all)
+    }
+
+    // Whether an entry already shows a text. One that the buffer is too short for shows none.
     pub fn is_repeated(self, span: Span, text: &[u8], slots: &[[usize; 4]], buffer: &[u8]) -> bool
         ensures { result ≡ repeats (table_in span self slots.now) buffer.now text.now }
     {
-        let count = self.count;
-        let first = span.first;
-        let there = slots_in(span, slots);
-        let mut i: usize = 0;
-        let found = 'entries: loop {
-            if count <= i {
-                break 'entries false;
-            }
-            if there <= i {
-                break 'entries false;
-            }
-            let at = first + i;
-            let slot = slots[at];
-            i += 1;
-            let start = slot[0];
-            let length = slot[1];
-            if length != text.len() {
-                continue 'entries;
-            }
-            if buffer.len() < length {
-                continue 'entries;
-            }
-            if buffer.len() - length < start {
-                continue 'entries;
-            }
-            let mut k = length;
-            while 0 < k {
-                k -= 1;
-                if buffer[start + k] != text[k] {
-                    continue 'entries;
-                }
-            }
-            break 'entries true;
-        };
-        found
+        self.entries(span, slots)
+            .iter()
+            .any(|slot| is_showing(Entry::from(*slot), text, buffer))
     }
 
     // One entry more, of n bytes of a buffer of `capacity` bytes. 8 where it does not fit, then the late fault: table and slots stay as they were.
@@ -153,6 +122,47 @@ impl Table {
     }
 
     // One entry more with its payload behind the others in the buffer. 8 where it does not fit, then the late fault: nothing changes then.
+    fn keep(
+        self,
+        span: Span,
+        late: Result<(), Refusal>,
+        line: Option<&[u8]>,
+        coding: Coding,
+        source: &[u8],
+        index: usize,
+        mark: usize,
+        slots: &mut [[usize; 4]],
+        buffer: &mut [u8],
+    ) -> Stored
+        ensures number { verdict_said result.verdict ≡
+            storing (table_in span self slots.old) (length (payload_from (option_copied line.entry) coding source.now))
+            (length buffer.old) (verdict_said late) }
+        ensures table { table_in span result.table slots.new ≡
+            pick (eqb (storing (table_in span self slots.old) (length (payload_from (option_copied line.entry) coding source.now))
+            (length buffer.old) (verdict_said late)) 0)
+            (entered (table_in span self slots.old) (length (payload_from (option_copied line.entry) coding source.now)) index mark
+            (length buffer.old)) (table_in span self slots.old) }
+        ensures others { (k : AnySpan) → are_apart span k ≡ true → slots_of k slots.new ≡ slots_of k slots.old }
+        ensures buffer { buffer.new ≡
+            pick (eqb (storing (table_in span self slots.old) (length (payload_from (option_copied line.entry) coding source.now))
+            (length buffer.old) (verdict_said late)) 0)
+            (kept (table_in span self slots.old) (payload_from (option_copied line.entry) coding source.now) buffer.old)
+            buffer.old }
+    {
+        let used = self.used;
+        let n = payload_size(line, coding, source);
+        let stored = self.enter(span, late, n, index, mark, buffer.len(), slots);
+        let verdict = stored.verdict;
+        match verdict {
+            Err(_) => stored,
+            Ok(()) => {
+                put_payload(line, coding, source, &mut buffer[used..]);
+                stored
+            }
+        }
+    }
+
+    // One entry more, its payload a body.
     pub fn store(
         self,
         span: Span,
@@ -176,20 +186,10 @@ impl Table {
             (verdict_said late)) 0) (kept (table_in span self slots.old) (body_from coding source.now) buffer.old)
             buffer.old }
     {
-        let used = self.used;
-        let n = body_size(coding, source);
-        let stored = self.enter(span, late, n, index, mark, buffer.len(), slots);
-        let verdict = stored.verdict;
-        match verdict {
-            Err(_) => stored,
-            Ok(()) => {
-                put_body(coding, source, &mut buffer[used..]);
-                stored
-            }
-        }
+        self.keep(span, late, None, coding, source, index, mark, slots, buffer)
     }
 
-    // The same for a payload of a line, an LF and a body.
+    // One entry more, its payload a line, an LF and a body.
     pub fn store_lines(
         self,
         span: Span,
@@ -217,42 +217,49 @@ impl Table {
             (kept (table_in span self slots.old) (line.now ++ 10 ∷ body_from coding source.now) buffer.old)
             buffer.old }
     {
-        let used = self.used;
-        let n = line.len() + 1 + body_size(coding, source);
-        let stored = self.enter(span, late, n, index, mark, buffer.len(), slots);
-        let verdict = stored.verdict;
-        match verdict {
-            Err(_) => stored,
-            Ok(()) => {
-                put_lines(line, coding, source, &mut buffer[used..]);
-                stored
-            }
-        }
+        self.keep(
+            span,
+            late,
+            Some(line),
+            coding,
+            source,
+            index,
+            mark,
+            slots,
+            buffer,
+        )
     }
+}
+
+// Whether an entry shows a text. The last byte is compared first, since recipients have their front in common and differ in the checksum: `==` alone took more
+// than twice the instructions.
+#[tactic(auto, using(crate::proofs::Laws::Repeats::shows_other, crate::proofs::Laws::Repeats::shows_part, crate::proofs::Laws::Repeats::pointwise_same))]
+fn is_showing(e: Entry, text: &[u8], buffer: &[u8]) -> bool
+    ensures { result ≡ shows e buffer.now text.now }
+{
+    if e.length != text.len() {
+        return false;
+    }
+    let Some(shown) = part(e.start, e.length, buffer) else {
+        return false;
+    };
+    shown.last() == text.last() && shown == text
 }
 
 // The payload of what was found, a part of its kind's buffer; empty where there is no entry, or the buffer is too short for it.
 pub fn payload<'a>(found: Option<Entry>, buffer: &'a [u8]) -> &'a [u8]
     ensures { result.now ≡ shown (found_said found) buffer.now }
 {
-    let capacity = buffer.len();
     match found {
-        None => &buffer[capacity..],
-        Some(e) => part(e.start, e.length, buffer),
+        None => &[],
+        Some(e) => part(e.start, e.length, buffer).unwrap_or_default(),
     }
 }
 
 // `length` bytes from `start` on, or none where the buffer is too short.
-fn part<'a>(start: usize, length: usize, buffer: &'a [u8]) -> &'a [u8]
-    ensures { result.now ≡ part_of start length buffer.now }
+fn part<'a>(start: usize, length: usize, buffer: &'a [u8]) -> Option<&'a [u8]>
+    ensures { option_copied result ≡ part_in start length buffer.now }
 {
-    let capacity = buffer.len();
-    if capacity < start {
-        return &buffer[capacity..];
-    }
-    if capacity - start < length {
-        return &buffer[capacity..];
-    }
-    let end = start + length;
-    &buffer[start..end]
+    let behind = buffer.get(start..)?;
+    behind.get(..length)
 }

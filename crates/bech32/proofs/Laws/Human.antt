@@ -1,37 +1,46 @@
 -- The human part: the tests of a name, the name between a front and a back, and words in a form's case.
 use Prim.Native.Nat.{ℕ, zero, suc, ◌+◌, ◌-◌, ◌<◌, ◌≤◌}
 use mathlib.Core.Path.{◌≡◌, refl, sym, ap, ap₂, ◌∙◌}
-use mathlib.Core.Bool.{Bool, true, false, ◌&&◌}
+use mathlib.Core.Bool.{Bool, true, false, ◌&&◌, false≢true}
 use mathlib.Core.List.{List, [], ◌∷◌, ◌++◌, map, map-id, map-append, append_assoc}
 use lib.Dec.{leb, eqb}
 use lib.ListN.{length, take, drop, get_or, set, replicate, length-append, length-map, take-append-drop}
 use lib.Seq.{drop-drop, length-take-le, take_at}
 use native.Mathlib.Nat.{sub-zero, zero-sub, suc-sub-suc}
 use native.Mathlib.Omega.{arith}
+use borrow.Author.Tests.{leb-true, lt-leb}
+use Rattle.std.specs.Char.{to_ascii_lowercase}
+use Rattle.std.specs.Option.{is_some}
+use Rattle.std.specs.Prelude.{Option, Some, None}
+use Rattle.std.specs.List.{list_all, zip}
 use Rattle.refusal.specs.Pick.{pick}
 use Rattle.refusal.specs.Run.{all}
 use Rattle.refusal.specs.Same.{same}
-use Rattle.refusal.proofs.Laws.Booleans.{cases, and_true, and_assoc, and_true_right, and_false_right}
-use Rattle.refusal.proofs.Laws.Lists.{drop_one, front_store, front_whole, put_rest, part_rest, overwrite_part}
+use Rattle.refusal.proofs.Laws.Booleans.{and_true, and_assoc, and_true_right, and_false_right}
+use Rattle.refusal.proofs.Laws.Lists.{front_store, front_whole, put_rest, part_rest, overwrite_part}
 use Rattle.refusal.proofs.Laws.Same.{same_refl, same_length}
 use Rattle.symbols.specs.Charset.{lower, upper}
 use Rattle.bech32.specs.Text.{is_name_byte, is_name, Form, human_part, in_case, is_human}
-use Rattle.bech32.specs.Calls.{padded}
-use Rattle.bech32.specs.Steps.{shortened, between, name_between, name_or, cased_byte}
+use Rattle.bech32.specs.declared.human.Name.{Name}
+use Rattle.bech32.specs.Calls.{padded, given_name}
+use Rattle.bech32.specs.Steps.{IsGiven, between, name_between, name_or, cased_byte}
+use Rattle.symbols.proofs.Laws.Charset.{lower_ascii}
 use Rattle.symbols.proofs.Laws.Maps.{map_at, map_take, map_drop}
 
 -- ---- byte by byte
 
--- one byte on, where each is tested
-pub all_one : (class : ℕ → Bool) (t : List ℕ) (i : ℕ) → i < length t → all class (drop i t) ≡ (class (get_or t i 0) && all class (drop (i + 1) t))
+-- std's test of each byte, and that of two texts byte by byte, the first in lower case
+pub all_listed : (class : ℕ → Bool) (t : List ℕ) → list_all class t ≡ all class t
 unfolding all
-all_one class t i h = ap (all class) (drop_one t i 0 h)
+all_listed class [] = refl
+all_listed class (b ∷ t) = ap (λ x. class b && x) (all_listed class t)
 
--- one byte on, where a text in lower case is compared
-pub lower_same_one : (t w : List ℕ) (i : ℕ) → i < length t → i < length w →
-    same (map lower (drop i t)) (drop i w) ≡ (eqb (lower (get_or t i 0)) (get_or w i 0) && same (map lower (drop (i + 1) t)) (drop (i + 1) w))
+pub same_zipped : (t w : List ℕ) → length t ≡ length w → list_all (λ p. eqb (lower p.0) p.1) (zip t w) ≡ same (map lower t) w
 unfolding same
-lower_same_one t w i h k = rw (drop_one t i 0 h, drop_one w i 0 k)
+same_zipped [] [] h = refl
+same_zipped [] (c ∷ w) h = absurd (omega arith)
+same_zipped (b ∷ t) [] h = absurd (omega arith)
+same_zipped (b ∷ t) (c ∷ w) h = ap (λ x. eqb (lower b) c && x) (same_zipped t w (omega arith))
 
 -- one byte more of a mapped list, stored behind those that are there
 pub map_store : (f : ℕ → ℕ) (t o o₀ : List ℕ) (i x : ℕ) → o ≡ take i (map f t) ++ drop i o₀ → i < length t → length t ≤ length o₀ → x ≡ f (get_or t i 0) →
@@ -62,6 +71,41 @@ padded_front w o n e h = rw e (take_at w (replicate (32 - length w) 0) n (sym h)
 -- which is no longer than what it is taken from
 pub padded_fits : (w o : List ℕ) (n : ℕ) → o ≡ padded w → n ≡ length w → n ≤ length o
 padded_fits w o n e h = rw (e, length-append) (omega arith)
+
+-- in lower case: zeros are no letters
+lower_zeros : (n : ℕ) → map to_ascii_lowercase (replicate n 0) ≡ replicate n 0
+lower_zeros zero = refl
+lower_zeros (suc n) = ap (λ l. 0 ∷ l) (lower_zeros n)
+
+lower_bytes : (t : List ℕ) → map to_ascii_lowercase t ≡ map lower t
+lower_bytes [] = refl
+lower_bytes (b ∷ t) = ap₂ (λ x l. x ∷ l) (lower_ascii b) (lower_bytes t)
+
+pub lower_padded : (t : List ℕ) → map to_ascii_lowercase (padded t) ≡ padded (map lower t)
+lower_padded t =
+    map-append to_ascii_lowercase t (replicate (32 - length t) 0)
+    ∙ ap₂ (λ x y. x ++ y) (lower_bytes t) (lower_zeros (32 - length t) ∙ ap (λ n. replicate (32 - n) 0) (sym (length-map t lower)))
+
+-- a text of more than 32 bytes is no name, and no more is the empty text
+pub given_long : (t : List ℕ) → 32 < length t → given_name t ≡ []
+unfolding is_name
+given_long t h = rw (lt-leb (length t) 32 h, and_false_right)
+
+pub name_some : (t : List ℕ) → is_name t ≡ true → length t ≡ 0 → ⊥
+unfolding is_name
+name_some t e h =
+    let a = and_true (leb 1 (length t) && leb (length t) 32) (all is_name_byte t) e in
+    let b = leb-true 1 (length t) (and_true (leb 1 (length t)) (leb (length t) 32) a.0).0 in
+    omega arith
+
+-- a name that is given, or none
+pub given_none : (o : Option Name) (n : List ℕ) → IsGiven o n → is_some o ≡ false → n ≡ []
+given_none None n g h = g
+given_none (Some v) n g h = absurd (false≢true (sym h))
+
+pub given_some : (o : Option Name) (n : List ℕ) → IsGiven o n → is_some o ≡ true → length n ≡ 0 → ⊥
+given_some None n g h = absurd (false≢true h)
+given_some (Some v) n g h = g.1
 
 -- ---- what stands between a front and a back
 
@@ -95,25 +139,6 @@ between_same f b h l =
     ap (λ x. same x (f ++ between f b h ++ b)) (between_parts f b h l)
     ∙ same_around (take (length f) h) f (between f b h) (drop (length h - length b) h) b (length-take-le (length f) h (omega arith))
 
--- a text of more than 32 bytes is no name, and no more is the empty text
-shortened_name : (m : List ℕ) → is_name (shortened m) ≡ is_name m
-unfolding is_name
-shortened_name m = cases (leb (length m) 32) (λ e. rw (e, e)) (λ e. rw (e, and_false_right))
-
--- a name is not shortened
-pub name_shortened : (m : List ℕ) → is_name m ≡ true → shortened m ≡ m
-unfolding is_name
-name_shortened m e =
-    let a = and_true (leb 1 (length m) && leb (length m) 32) (all is_name_byte m) e in
-    rw (and_true (leb 1 (length m)) (leb (length m) 32) a.0).1
-
--- so the shortened text may be tested, and answered, in its place
-name_or_lem : (s : Bool) (m : List ℕ) → pick (s && is_name m) m [] ≡ pick (s && is_name (shortened m)) (shortened m) []
-name_or_lem s m =
-    cases (is_name m)
-    (λ e. rw (shortened_name m, name_shortened m e))
-    (λ e. rw (shortened_name m, e, and_false_right s))
-
 -- a text that is shorter than front and back has no name
 pub name_short : (f b h : List ℕ) → length h < length f + length b → name_between f b (map lower h) ≡ []
 name_short f b h l =
@@ -124,8 +149,8 @@ name_short f b h l =
 pub name_is : (f b h : List ℕ) → length f + length b ≤ length h →
     name_between f b (map lower h) ≡
     pick
-    (same (map lower (take (length f) h)) f && same (map lower (drop (length h - length b) h)) b && is_name (shortened (map lower (between f b h))))
-    (shortened (map lower (between f b h)))
+    (same (map lower (take (length f) h)) f && same (map lower (drop (length h - length b) h)) b && is_name (map lower (between f b h)))
+    (map lower (between f b h))
     []
 name_is f b h l =
     let w = map lower h in
@@ -135,7 +160,6 @@ name_is f b h l =
     between_same f b w (omega arith) ∙ rw (n, map_take lower (length f) h, map_drop lower (length h - length b) h) in
     ap (λ x. pick (x && is_name (between f b w)) (between f b w) []) s
     ∙ ap (λ x. pick (same (map lower (take (length f) h)) f && same (map lower (drop (length h - length b) h)) b && is_name x) x []) m
-    ∙ name_or_lem (same (map lower (take (length f) h)) f && same (map lower (drop (length h - length b) h)) b) (map lower (between f b h))
 
 -- the name of a form is the one between its front and its back
 pub name_form : (k : Form) (h : List ℕ) → name_or k h ≡ name_between k.front k.back h

@@ -4,18 +4,17 @@ use mathlib.Core.Path.{◌≡◌, refl, sym, ap, ap₂, ◌∙◌}
 use mathlib.Core.Bool.{Bool, true, false, ◌&&◌, not, false≢true}
 use mathlib.Core.List.{List, [], ◌∷◌, ◌++◌, map}
 use lib.Dec.{eqb, ltb, leb}
-use lib.ListN.{length, take, drop, get_or, length-map, length-drop, take-append-drop}
-use lib.Seq.{drop-drop}
+use lib.ListN.{length, take, drop, get_or, length-map, length-drop}
 use native.Mathlib.Nat.{min-eq_left}
 use native.Mathlib.Omega.{arith}
 use borrow.Author.Tests.{leb-true, leb-false, lt-ltb, le-ltb, le-leb, lt-leb, eq-eqb, ne_eqb}
+use Rattle.std.specs.List.{fold}
 use Rattle.refusal.specs.Pick.{pick}
 use Rattle.refusal.specs.Run.{all, run, is_graphic}
 use Rattle.refusal.specs.Same.{same}
-use Rattle.refusal.proofs.Laws.Booleans.{cases, and_true, true_and, and_assoc, and_true_right, and_false_right}
+use Rattle.refusal.proofs.Laws.Booleans.{cases, and_true, and_assoc, and_true_right, and_false_right}
 use Rattle.refusal.proofs.Laws.Pick.{pick_same}
-use Rattle.refusal.proofs.Laws.Lists.{drop_one}
-use Rattle.refusal.proofs.Laws.Run.{all_append, all_more}
+use Rattle.refusal.proofs.Laws.Lists.{part_rest}
 use Rattle.symbols.specs.Charset.{value_of, is_upper, lower}
 use Rattle.symbols.specs.Checksum.{are_symbols, polymod, expanded}
 use Rattle.symbols.specs.Regroup.{is_whole, bytes}
@@ -24,17 +23,21 @@ use Rattle.refusal.specs.Output.{refused, bytes as accepted}
 use Rattle.bech32.specs.Text.{Form, parsed, parse, human_part, is_name_byte, is_name, is_not_one, is_cased, separator, name_in, human_in, values_in, payload_in, has_tail, is_closed, is_human, is_formed, place_in}
 use Rattle.symbols.specs.Calls.{value_at, closes}
 use Rattle.bech32.specs.Steps.{name_or, has_head, name_at, tail_number}
-use Rattle.symbols.proofs.Laws.Charset.{upper_bounds}
+use Rattle.symbols.specs.Steps.{Values, value_in}
+use Rattle.symbols.proofs.Laws.Charset.{upper_bounds, values_by}
 use Rattle.symbols.proofs.Laws.Checksum.{polymod_append}
 use Rattle.symbols.proofs.Laws.Folds.{closes_is}
 use Rattle.symbols.proofs.Laws.Maps.{map_take, map_drop, map_map, run_map}
 use Rattle.bech32.proofs.Laws.Text.{parse_cases}
 
--- one byte more of a class
-pub all_one : (class : ℕ → Bool) (t : List ℕ) (i : ℕ) {good r : Bool} → i < length t → good ≡ all class (take i t) → r ≡ class (get_or t i 0) → (good && r) ≡ all class (take (i + 1) t)
-all_one class t i h e q =
-    let z : 0 + i ≡ i = omega arith in
-    all_more class t 0 i (omega arith) e (q ∙ sym (ap (λ n. class (get_or t n 0)) z))
+-- every byte of a class, as a fold with no early exit
+all_fold_from : (class : ℕ → Bool) (t : List ℕ) (good : Bool) → fold (λ a b. a && class b) good t ≡ (good && all class t)
+unfolding all
+all_fold_from class [] good = sym (and_true_right good)
+all_fold_from class (b ∷ t) good = all_fold_from class t (good && class b) ∙ sym (and_assoc good (class b) (all class t))
+
+pub all_fold : (class : ℕ → Bool) (t : List ℕ) → fold (λ a b. a && class b) true t ≡ all class t
+all_fold class t = all_fold_from class t true
 
 -- ---- the separator
 
@@ -63,17 +66,10 @@ unfolding separator
 separator_le [] = omega arith
 separator_le (b ∷ t) = cases (all is_not_one t) (λ a. cases (eqb b 49) (λ e. rw (a, e) (omega arith)) (λ e. rw (a, e) (omega arith))) (λ a. rw a (omega (arith, separator_le t)))
 
--- one byte more, from the right
-pub none_more : (t : List ℕ) (i : ℕ) → i < length t → (get_or t i 0 ≡ 49 → ⊥) → all is_not_one (drop (i + 1) t) ≡ true → all is_not_one (drop i t) ≡ true
-unfolding all
-none_more t i h n a = ap (all is_not_one) (drop_one t i 0 h) ∙ rw (ne_eqb (get_or t i 0) 49 n) a
-
--- several bytes more
-pub none_before : (n : ℕ) (t : List ℕ) (i : ℕ) → all is_not_one (take n (drop i t)) ≡ true → all is_not_one (drop (i + n) t) ≡ true → all is_not_one (drop i t) ≡ true
-none_before n t i h a =
-    ap (all is_not_one) (sym (take-append-drop n (drop i t)))
-    ∙ all_append is_not_one (take n (drop i t)) (drop n (drop i t))
-    ∙ true_and (all is_not_one (take n (drop i t))) (all is_not_one (drop n (drop i t))) h (rw drop-drop a)
+-- nothing before a text
+pub empty_before : (s t : List ℕ) → length s ≡ 0 → s ++ t ≡ t
+empty_before [] t h = refl
+empty_before (b ∷ s) t h = absurd (omega arith)
 
 -- the separator is no letter: it stands at the same place in lower case
 lower_one : (b : ℕ) → eqb (lower b) 49 ≡ eqb b 49
@@ -293,3 +289,15 @@ place_graphic t h = sym (min-eq_left (omega arith))
 pub place_least : (t : List ℕ) (b : ℕ) → b ≡ separator t + 1 + run (λ v. ltb v 32) (map value_at (drop (separator t + 1) t)) → place_in t ≡ min (run is_graphic t) b
 unfolding place_in
 place_least t b e = ap (λ n. min (run is_graphic t) (separator t + 1 + n)) (sym (run_map value_at (λ v. ltb v 32) (drop (separator t + 1) t))) ∙ ap (min (run is_graphic t)) (sym e)
+
+-- the values behind the separator by the table, and those of the payload
+module _ (f : List ℕ) (v : Values f) (t : List ℕ) (b : (i : ℕ) → get_or t i 0 < 256) where
+  pub data_values : map (value_in f) (drop (separator t + 1) t) ≡ map value_at (drop (separator t + 1) t)
+  data_values =
+      ap (map (value_in f)) (sym (part_rest (separator t + 1) t))
+      ∙ values_by f v (length t - (separator t + 1)) (separator t + 1) t b
+      ∙ ap (map value_at) (part_rest (separator t + 1) t)
+
+  pub payload_values :
+      map (value_in f) (take (length t - 6 - (separator t + 1)) (drop (separator t + 1) t)) ≡ map value_at (take (length t - 6 - (separator t + 1)) (drop (separator t + 1) t))
+  payload_values = values_by f v (length t - 6 - (separator t + 1)) (separator t + 1) t b

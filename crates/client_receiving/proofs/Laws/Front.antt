@@ -33,7 +33,8 @@ use Rattle.intake.specs.declared.answers.Last.TheVariants.{Nothing, CommandTwo}
 use Rattle.intake.specs.declared.answers.Received.{Received as CodeReceived}
 use Rattle.client_room.specs.Stanzas.{taking_said}
 use Rattle.client_room.specs.Room.{has_room, stanza_ahead}
-use Rattle.client_room.specs.declared.stanzas.Step.{Step as CodeStep}
+use Rattle.session.specs.declared.output.Outcome.{Outcome as CodeOutcome}
+use Rattle.client_room.specs.declared.stanzas.Taken.{Taken as CodeTaken}
 use Rattle.client_room.proofs.Laws.Stanzas.{line_of, body_behind}
 use Rattle.client_receiving.specs.Stanzas.{step_said}
 use Rattle.client_receiving.specs.Texts.{lent, behind_answer, MayTake, Answers}
@@ -95,7 +96,7 @@ module _ (given : CodeSession) (xs hs : List (List ℕ)) (e s d front text out :
       (answers_says (stopped n v) xs hs input input (lent b e s d) out out 0 _ _ (stop_says 0 Nothing 0 n v xs hs input [] (lent b e s d))
       (fault_is now (lent b e s d) front text (number_of n) second h ∙ ap (λ q. behind 0 no_stanza [] (no_more (number_of n) (emptied q []) (lent b e s d))) (sym sv)) refl (omega arith) refl refl)
 
-  module _ (l m k : ℕ) (h : read_first front ≡ stanza l m k) (y : CodeStep) (xs' : List (List ℕ)) (e' s' d' o' : List ℕ)
+  module _ (l m k : ℕ) (h : read_first front ≡ stanza l m k) (y : CodeOutcome CodeTaken) (xs' : List (List ℕ)) (e' s' d' o' : List ℕ)
       (q : step_said y xs' hs e' s' d' o' ≡ received_stanza now (two.buffers_of e s d) out (line_of front l) (body_behind front l k) k)
       (held : (b : BuffersOne) → is_held (stanza_ahead now (lent b e s d) front text) out ≡ true) where
     -- it is refused

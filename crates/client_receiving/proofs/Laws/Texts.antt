@@ -41,7 +41,8 @@ use Rattle.intake.specs.declared.answers.Last.{Last as CodeLast}
 use Rattle.intake.specs.declared.answers.Last.TheVariants.{CommandTwo}
 use Rattle.intake.specs.declared.answers.Received.{Received as CodeReceived}
 use Rattle.client_room.specs.Stanzas.{taking_said, next_in}
-use Rattle.client_room.specs.declared.stanzas.Step.{Step as CodeStep}
+use Rattle.session.specs.declared.output.Outcome.{Outcome as CodeOutcome}
+use Rattle.client_room.specs.declared.stanzas.Taken.{Taken as CodeTaken}
 use Rattle.client_room.proofs.Laws.Stanzas.{line_of, body_behind, reads_two}
 use Rattle.client_room.proofs.Laws.Room.{next_turn, next_first, next_within}
 use Rattle.client_receiving.specs.Stanzas.{step_said}
@@ -254,7 +255,7 @@ module _ (r₀ : CodeReceived) (xs₀ hs : List (List ℕ)) (e₀ s₀ d₀ text
         (g.same b ∙ ap (λ x. behind_answer r xs hs (lent b e s d) awaited x out) (sym (part_rest at text))) w g.room g.size g.rest
 
     -- one stanza more
-    module _ (l m k : ℕ) (h : stanza l m k ≡ next_in (turn_at client r.session.phase) (take (length text - at) (drop at text))) (y : CodeStep)
+    module _ (l m k : ℕ) (h : stanza l m k ≡ next_in (turn_at client r.session.phase) (take (length text - at) (drop at text))) (y : CodeOutcome CodeTaken)
         (xs' : List (List ℕ)) (e' s' d' o' : List ℕ)
         (q : step_said y xs' hs e' s' d' o' ≡ received_stanza (session_of r.session xs hs) (two.buffers_of e s d) (take (length out - r.written) (drop r.written out))
         (line_of (take (length text - at) (drop at text)) l) (body_behind (take (length text - at) (drop at text)) l k) k) where

@@ -130,31 +130,3 @@ reads_two Two e = refl
 reads_two (Awaiting w) e = absurd (keeps_not_reads e)
 reads_two Ended e = absurd (drops_not_reads 13 e)
 reads_two Closed e = absurd (drops_not_reads 13 e)
-
--- ---- the front of a stanza and its rest in a store
-
-pub put_together_is : (input rest store copied part : List ℕ) (n : ℕ) → n ≤ length input → n + length rest ≤ length store → copied ≡ filled (take n input) store →
-    part ≡ filled rest (take (length copied - n) (drop n copied)) →
-    take n copied ++ (part ++ drop (length copied - n) (drop n copied)) ≡ (take n input ++ rest) ++ drop (n + length rest) store
-put_together_is input rest store copied part n l m e f =
-    let k : length (take n input) ≡ n = length-take-le n input l in
-    let c : copied ≡ take n input ++ drop n store = e ∙ filled_front (take n input) store (omega arith) ∙ ap (λ i. take n input ++ drop i store) k in
-    let d : drop n copied ≡ drop n store = ap (drop n) c ∙ drop_at (take n input) (drop n store) n k in
-    let t : take n copied ≡ take n input = ap (take n) c ∙ take_at (take n input) (drop n store) n k in
-    let z : length (drop n store) ≡ length store - n = length-drop n store in
-    put_rest n copied part ∙ ap₂ ◌++◌ t (f ∙ ap (filled rest) (part_rest n copied ∙ d) ∙ filled_front rest (drop n store) (omega arith) ∙ ap (λ x. rest ++ x) (drop-drop (length rest) n store))
-    ∙ sym (append_assoc (take n input) rest (drop (n + length rest) store))
-  where
-    filled_front : (x o : List ℕ) → length x ≤ length o → filled x o ≡ x ++ drop (length x) o
-    filled_front x o l = ap (λ f. pick f o (x ++ drop (length x) o)) (le-ltb (length o) (length x) l)
-
--- what stands at the front of the store
-store_front : (t store after : List ℕ) (n : ℕ) → after ≡ t ++ drop n store → length t ≡ n → take n after ≡ t
-store_front t store after n e l = ap (take n) e ∙ take_at t (drop n store) n l
-
--- what was kept and the rest, in a store
-pub joined_front : (input rest store after : List ℕ) (n k : ℕ) → n ≤ length input → length rest ≡ k → after ≡ (take n input ++ rest) ++ drop (n + length rest) store →
-    take (n + k) after ≡ take n input ++ rest
-joined_front input rest store after n k l r e =
-    let z : length (take n input ++ rest) ≡ n + k = length-append (take n input) rest ∙ ap₂ ◌+◌ (length-take-le n input l) r in
-    store_front (take n input ++ rest) store after (n + k) (e ∙ ap (λ i. (take n input ++ rest) ++ drop (n + i) store) r) z

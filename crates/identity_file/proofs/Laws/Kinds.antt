@@ -1,7 +1,9 @@
 -- A line is exactly one of the four kinds, each exactly if its condition holds.
 use Prim.Native.Nat.{ℕ, ◌<◌, ◌≤◌}
-use mathlib.Core.Path.{◌≡◌, refl, sym, ◌∙◌}
-use mathlib.Core.Bool.{true, false}
+use mathlib.Core.Path.{◌≡◌, refl, sym, ap₂, ◌∙◌}
+use mathlib.Core.Bool.{true, false, ◌&&◌}
+use lib.Pointwise.{pointwise}
+use Rattle.refusal.specs.Same.{same}
 use mathlib.Core.List.{List, [], ◌∷◌}
 use mathlib.Core.Logic.{◌⊎◌, inl, inr}
 use lib.Dec.{ltb, eqb}
@@ -13,6 +15,17 @@ use Rattle.refusal.proofs.Laws.Same.{same_refl, same_eq}
 use Rattle.bech32.specs.Text.{identity, parse}
 use Rattle.bech32.specs.Calls.{text_number}
 use Rattle.identity_file.specs.Kinds.{Kind, skipped, secret_key, invalid, valid, secret_key_text, is_skipped, is_secret_key, judged, kind_of, Skipped, Unskipped, SecretKey, Judged, Invalid, Judgement}
+
+-- `starts_with` compares the other way round
+eqb_swapped : (x y : ℕ) → eqb x y ≡ eqb y x
+eqb_swapped x y = cases (eqb x y) (λ e. e ∙ sym (eq-eqb y x (sym (eqb-true x y e)))) (λ e. e ∙ sym (ne_eqb y x (λ h. eqb-false x y e (sym h))))
+
+pub same_swapped : (a b : List ℕ) → pointwise eqb b a ≡ same a b
+unfolding same
+same_swapped [] [] = refl
+same_swapped [] (y ∷ b) = refl
+same_swapped (x ∷ a) [] = refl
+same_swapped (x ∷ a) (y ∷ b) = ap₂ (λ p q. p && q) (eqb_swapped y x) (same_swapped a b)
 
 -- the four tests of a line, and what each way through them gives
 by_tests : (P : Kind → Type 0) (l : List ℕ) → (1024 < length l → P (invalid 16)) → (length l ≤ 1024 → is_skipped l ≡ true → P skipped) →

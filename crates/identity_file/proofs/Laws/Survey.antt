@@ -1,17 +1,17 @@
 -- What one pass over the lines comes to: the counts, the places of the valid lines and the faults that Files says.
 use Prim.Native.Nat.{ℕ, zero, suc, ◌+◌, ◌-◌, ◌<◌, ◌≤◌}
-use mathlib.Core.Path.{◌≡◌, refl, sym, ap, ap₂, ◌∙◌}
+use mathlib.Core.Path.{◌≡◌, refl, sym, subst, ap, ap₂, ◌∙◌}
 use mathlib.Core.List.{List, [], ◌∷◌, ◌++◌, append_assoc, append-nil}
 use lib.Dec.{ltb, eqb}
-use lib.ListN.{length, take, drop, get_or, set, length-append, length-map, length-take, length-drop, drop_of_length-le, replicate}
-use lib.Seq.{drop-append_seam, drop-drop, drop-length, get_or-take}
+use lib.ListN.{length, take, drop, get_or, set, length-append, length-map, length-take, length-drop, drop_of_length-le}
+use lib.Seq.{drop-append_seam, drop-drop, drop-length}
 use native.Mathlib.Omega.{arith}
 use borrow.Author.Tests.{ltb-true, ltb-false}
 use Rattle.refusal.proofs.Laws.Booleans.{cases}
 use Rattle.identity_file.specs.Lines.{lines}
 use Rattle.identity_file.specs.Kinds.{Kind, skipped, secret_key, invalid, valid, kind_of}
 use Rattle.identity_file.specs.Files.{key_by, keys_in, valid_by, valid_in, fault_by, faults_from, first_of}
-use Rattle.identity_file.specs.Steps.{line_end, next_line, Survey, started, noted, surveyed, text_at, texts_at, Place}
+use Rattle.identity_file.specs.Steps.{line_end, next_line, Survey, started, nothing, noted, surveyed, text_at, texts_at, Place, Places}
 use Rattle.stanza.specs.Arguments.{before}
 use Rattle.identity_file.proofs.Laws.Kinds.{valid_short}
 use Rattle.identity_file.proofs.Laws.Files.{first_put, first_take, first_length}
@@ -178,7 +178,7 @@ pub record Surveyed (t : List ℕ) (s : Survey) : Type 0 where
   pub valid : s.valid ≡ length (valid_in (lines t))
   pub slots : length s.places ≡ 64
   pub texts : s.valid ≤ 64 → texts_at t (take s.valid s.places) ≡ valid_in (lines t)
-  pub places : s.valid ≤ 64 → (i : ℕ) → i < s.valid → Place t (get_or s.places i [])
+  pub places : s.valid ≤ 64 → Places t (take s.valid s.places) (length (take s.valid s.places))
 
 surveyed_file : (t : List ℕ) → Surveyed t (surveyed 0 0 (lines t) (started (first_of 64 []) (first_of 64 [])))
 surveyed_file t =
@@ -189,14 +189,16 @@ surveyed_file t =
     let p = places_surveyed (lines t) 0 0 none [] (record { slots = refl; count = refl }) in
     let z = stood t (lines t) 0 (lines_stand t [] t refl) in
     let m : length ps ≡ length (valid_in (lines t)) = sym (length-map ps (text_at t)) ∙ ap length z.texts in
+    let r : Survey = surveyed 0 0 (lines t) none in
+    let noted : r.valid ≤ 64 → take r.valid r.places ≡ ps = λ h. ap₂ take p.count p.slots ∙ first_take 64 ps (omega (arith, p.count)) in
     record {
       keys = keys_surveyed (lines t) 0 0 none ∙ omega arith;
       invalid = f.count;
       faults = f.slots;
       valid = p.count ∙ m;
       slots = ap length p.slots ∙ first_length 64 ps;
-      texts = λ h. ap (texts_at t) (ap₂ take p.count p.slots ∙ first_take 64 ps (omega (arith, p.count))) ∙ z.texts;
-      places = λ h i l. rw p.slots (rw (← get_or-take (length ps) (first_of 64 ps) i [] (omega (arith, p.count))) (rw (first_take 64 ps (omega (arith, p.count))) (places_at t ps z.places i (omega (arith, p.count)))));
+      texts = λ h. ap (texts_at t) (noted h) ∙ z.texts;
+      places = λ h. subst (λ qs. Places t qs (length qs)) (sym (noted h)) (places_at t ps z.places);
     }
 
 -- ---- in the loop: no line left, and bounds
@@ -223,6 +225,6 @@ noted_bounds (invalid r) n a e s = record { keys = omega arith; invalid = omega 
 noted_bounds valid n a e s = record { keys = omega arith; invalid = omega arith; valid = omega arith }
 
 -- the pass that begins with slots of zeros
-pub found_file : (t : List ℕ) (s : Survey) → s ≡ surveyed 0 0 (lines t) (started (replicate 64 (0 ∷ 0 ∷ [])) (replicate 64 (0 ∷ 0 ∷ []))) → Surveyed t s
+pub found_file : (t : List ℕ) (s : Survey) → s ≡ surveyed 0 0 (lines t) nothing → Surveyed t s
 unfolding first_of
 found_file t s e = rw e (surveyed_file t)

@@ -4,9 +4,8 @@ use mathlib.Core.Path.{◌≡◌, refl, sym, ap, ap₂, ◌∙◌}
 use mathlib.Core.List.{List, [], ◌∷◌, ◌++◌, map, append_assoc, append-nil}
 use lib.ListN.{length, take, drop, get_or, length-append, length-take, length-drop}
 use native.Mathlib.Omega.{arith}
-use borrow.Author.Tests.{le-ltb}
-use Rattle.refusal.specs.Output.{filled}
-use Rattle.refusal.proofs.Laws.Lists.{take_one, put_rest, part_rest, overwrite_part}
+use lib.Seq.{drop-drop}
+use Rattle.refusal.proofs.Laws.Lists.{take_one, put_rest, part_rest, overwrite, overwrite_part}
 use Rattle.strict_base64.specs.Code.{encoded}
 use Rattle.strict_base64.specs.Lines.{wrapped}
 use Rattle.stanza.specs.Grammar.{stanza_text}
@@ -64,12 +63,11 @@ unfolding commands_of
 commands_none t ps = refl
 
 -- those of fewer places are no longer
-pub commands_le : (t : List ℕ) (ps : List (List ℕ)) (i n : ℕ) → i ≤ n → length (commands_of (texts_at t (take i ps))) ≤ length (commands_of (texts_at t (take n ps)))
+pub commands_le : (t : List ℕ) (ps : List (List ℕ)) (i : ℕ) → length (commands_of (texts_at t (take i ps))) ≤ length (commands_of (texts_at t ps))
 unfolding commands_of
-commands_le t ps zero n h = omega arith
-commands_le t ps (suc i) zero h = absurd (omega arith)
-commands_le t [] (suc i) (suc n) h = omega arith
-commands_le t (p ∷ ps) (suc i) (suc n) h = simp length-append (omega (arith, commands_le t ps i n (omega arith)))
+commands_le t ps zero = omega arith
+commands_le t [] (suc i) = omega arith
+commands_le t (p ∷ ps) (suc i) = simp length-append (omega (arith, commands_le t ps i))
 
 -- ---- written behind a front
 
@@ -82,24 +80,25 @@ placed_behind w content o o₀ part k e h p =
     ∙ overwrite_part o o₀ w content k e h
     ∙ ap (λ n. (w ++ content) ++ drop n o₀) (length-append w content ∙ ap (λ x. x + length content) h)
 
--- the same of a copy, which fits
-copied_behind : (w content o o₀ part : List ℕ) (k : ℕ) → o ≡ w ++ drop k o₀ → length w ≡ k → k + length content ≤ length o₀ → part ≡ filled content (take (length o - k) (drop k o)) →
-    take k o ++ (part ++ drop (length o - k) (drop k o)) ≡ (w ++ content) ++ drop (k + length content) o₀
-copied_behind w content o o₀ part k e h f p =
-    let z : length o ≡ length o₀ = ap length e ∙ length-append w (drop k o₀) ∙ omega (arith, length-drop k o₀) in
-    let m : length content ≤ length (take (length o - k) (drop k o)) = simp (length-take, length-drop) (omega arith) in
-    placed_behind w content o o₀ part k e h (p ∙ rw (le-ltb (length (take (length o - k) (drop k o))) (length content) m))
+-- n bytes copied to the front of what is left
+pub copied_behind : (w block o o₀ : List ℕ) (k n : ℕ) → o ≡ w ++ drop k o₀ → length w ≡ k → length block ≡ n →
+    take k o ++ (block ++ drop (k + n - k) (drop k o)) ≡ (w ++ block) ++ drop (k + n) o₀
+copied_behind w block o o₀ k n e h l =
+    let d : k + n - k ≡ n = omega arith in
+    rw (d, drop-drop n k o) (sym (append_assoc (take k o) block (drop (k + n) o)) ∙ overwrite o o₀ w block k n e h l)
 
 -- a command by three copies
-pub command_placed : (l o₀ o₁ p₂ p₃ : List ℕ) → length l + 18 ≤ length o₀ → o₁ ≡ filled front o₀ → p₂ ≡ filled l (take (length o₁ - 16) (drop 16 o₁)) → (let o₂ = take 16 o₁ ++ (p₂ ++ drop (length o₁ - 16) (drop 16 o₁)) in
-    let k = 16 + length l in p₃ ≡ filled back (take (length o₂ - k) (drop k o₂)) → take k o₂ ++ (p₃ ++ drop (length o₂ - k) (drop k o₂)) ≡ command_of l ++ drop (length l + 18) o₀)
-command_placed l o₀ o₁ p₂ p₃ f e₁ e₂ e₃ =
-    let o₂ : List ℕ = take 16 o₁ ++ (p₂ ++ drop (length o₁ - 16) (drop 16 o₁)) in
-    let a : o₁ ≡ front ++ drop 16 o₀ = e₁ ∙ rw (le-ltb (length o₀) 16 (omega arith)) in
-    let b : o₂ ≡ (front ++ l) ++ drop (16 + length l) o₀ = copied_behind front l o₁ o₀ p₂ 16 a refl (omega arith) e₂ in
-    let n : length (front ++ l) ≡ 16 + length l = length-append front l in
-    let m : 16 + length l + 2 ≡ length l + 18 = omega arith in
-    copied_behind (front ++ l) back o₂ o₀ p₃ (16 + length l) b n (omega arith) e₃ ∙ ap₂ (λ x y. x ++ drop y o₀) (sym (command_is l)) m
+pub command_placed : (l o₀ : List ℕ) → (let o₁ = front ++ drop 16 o₀ in
+    let k = 16 + length l in
+    let o₂ = take 16 o₁ ++ (l ++ drop (k - 16) (drop 16 o₁)) in
+    take k o₂ ++ (back ++ drop (k + 2 - k) (drop k o₂)) ≡ command_of l ++ drop (length l + 18) o₀)
+command_placed l o₀ =
+    let k : ℕ = 16 + length l in
+    let o₁ : List ℕ = front ++ drop 16 o₀ in
+    let o₂ : List ℕ = take 16 o₁ ++ (l ++ drop (k - 16) (drop 16 o₁)) in
+    let m : k + 2 ≡ length l + 18 = omega arith in
+    copied_behind (front ++ l) back o₂ o₀ k 2 (copied_behind front l o₁ o₀ 16 (length l) refl refl refl) (length-append front l) refl
+    ∙ ap₂ (λ x y. x ++ drop y o₀) (sym (command_is l)) m
 
 -- one command more, behind those that are written
 pub commands_placed : (t : List ℕ) (ps : List (List ℕ)) (i : ℕ) (o o₀ part : List ℕ) (from : ℕ) → i < length ps → Place t (get_or ps i []) → from ≡ length (commands_of (texts_at t (take i ps))) →
@@ -115,10 +114,9 @@ commands_placed t ps i o o₀ part from h q g e w =
     ∙ ap₂ (λ x y. x ++ drop y o₀) (sym (commands_more t ps i h)) m
 
 -- done behind the commands
-pub done_placed : (ls : List (List ℕ)) (o o₀ part : List ℕ) (k : ℕ) → k ≡ length (commands_of ls) → o ≡ commands_of ls ++ drop (length (commands_of ls)) o₀ → length (transcript ls) ≤ length o₀ →
-    part ≡ filled (stanza_text done_word []) (take (length o - k) (drop k o)) →
-    take k o ++ (part ++ drop (length o - k) (drop k o)) ≡ transcript ls ++ drop (length (transcript ls)) o₀
+pub done_placed : (ls : List (List ℕ)) (o o₀ : List ℕ) (k : ℕ) → k ≡ length (commands_of ls) → o ≡ commands_of ls ++ drop (length (commands_of ls)) o₀ →
+    take k o ++ (stanza_text done_word [] ++ drop (k + 9 - k) (drop k o)) ≡ transcript ls ++ drop (length (transcript ls)) o₀
 unfolding wrapped encoded
-done_placed ls o o₀ part k g e f p =
+done_placed ls o o₀ k g e =
     let n : k + 9 ≡ length (transcript ls) = omega (arith, transcript_length ls) in
-    copied_behind (commands_of ls) (stanza_text done_word []) o o₀ part k (rw g e) (sym g) (omega (arith, transcript_length ls)) p ∙ ap (λ y. transcript ls ++ drop y o₀) n
+    copied_behind (commands_of ls) (stanza_text done_word []) o o₀ k 9 (rw g e) (sym g) refl ∙ ap (λ y. transcript ls ++ drop y o₀) n

@@ -1,12 +1,13 @@
 -- What is kept in the lent input, and read back from it.
-use Prim.Native.Nat.{ℕ, suc, ◌+◌, ◌≤◌, ◌<◌, min}
-use mathlib.Core.Path.{◌≡◌, refl, sym, ap, ◌∙◌, subst}
+use Prim.Native.Nat.{ℕ, suc, ◌+◌, ◌-◌, ◌≤◌, ◌<◌, min}
+use mathlib.Core.Path.{◌≡◌, refl, sym, ap, ap₂, ◌∙◌, subst}
 use mathlib.Core.List.{List, [], ◌∷◌, ◌++◌, append_assoc, append-nil}
 use lib.ListN.{length, take, drop, set, get_or, length-append, length-drop, drop_of_length-le, take-append-drop}
 use lib.Seq.{set_split, take_at, drop_at, take_all, take-add, drop-drop, take-append_seam, drop-append_seam, length-take-le}
 use native.Mathlib.Omega.{arith}
 use borrow.Author.Tests.{lt-ltb, le-ltb}
 use Rattle.refusal.specs.Output.{filled}
+use Rattle.refusal.proofs.Laws.Lists.{part_rest, put_rest}
 use Rattle.session.specs.declared.sessions.Session.{Session as CodeSession}
 use Rattle.chunks.specs.Taking.{End}
 use Rattle.intake.specs.Intake.{awaited_size, kept_size, intake_of, stored_in}
@@ -57,6 +58,31 @@ pub one_of : (x : List ℕ) → length x ≡ 1 → x ≡ get_or x 0 0 ∷ []
 one_of [] h = absurd (omega arith)
 one_of (b ∷ []) h = refl
 one_of (b ∷ c ∷ x) h = absurd (omega arith)
+
+-- ---- the front of a stanza and its rest in a store
+
+pub put_together_is : (input rest store copied part : List ℕ) (n : ℕ) → n ≤ length input → n + length rest ≤ length store → copied ≡ filled (take n input) store →
+    part ≡ filled rest (take (length copied - n) (drop n copied)) →
+    take n copied ++ (part ++ drop (length copied - n) (drop n copied)) ≡ (take n input ++ rest) ++ drop (n + length rest) store
+put_together_is input rest store copied part n l m e f =
+    let k : length (take n input) ≡ n = length-take-le n input l in
+    let c : copied ≡ take n input ++ drop n store = e ∙ filled_whole (take n input) store (omega arith) ∙ ap (λ i. take n input ++ drop i store) k in
+    let d : drop n copied ≡ drop n store = ap (drop n) c ∙ drop_at (take n input) (drop n store) n k in
+    let t : take n copied ≡ take n input = ap (take n) c ∙ take_at (take n input) (drop n store) n k in
+    let z : length (drop n store) ≡ length store - n = length-drop n store in
+    put_rest n copied part ∙ ap₂ ◌++◌ t (f ∙ ap (filled rest) (part_rest n copied ∙ d) ∙ filled_whole rest (drop n store) (omega arith) ∙ ap (λ x. rest ++ x) (drop-drop (length rest) n store))
+    ∙ sym (append_assoc (take n input) rest (drop (n + length rest) store))
+
+-- what stands at the front of the store
+store_front : (t store after : List ℕ) (n : ℕ) → after ≡ t ++ drop n store → length t ≡ n → take n after ≡ t
+store_front t store after n e l = ap (take n) e ∙ take_at t (drop n store) n l
+
+-- what was kept and the rest, in a store
+pub joined_front : (input rest store after : List ℕ) (n k : ℕ) → n ≤ length input → length rest ≡ k → after ≡ (take n input ++ rest) ++ drop (n + length rest) store →
+    take (n + k) after ≡ take n input ++ rest
+joined_front input rest store after n k l r e =
+    let z : length (take n input ++ rest) ≡ n + k = length-append (take n input) rest ∙ ap₂ ◌+◌ (length-take-le n input l) r in
+    store_front (take n input ++ rest) store after (n + k) (e ∙ ap (λ i. (take n input ++ rest) ++ drop (n + i) store) r) z
 
 -- ---- read back
 

@@ -5,7 +5,7 @@ use mathlib.Core.Logic.{◌⊎◌, inl, inr, ⊎_elim}
 use mathlib.Core.Bool.{Bool, true, false}
 use mathlib.Core.List.{List, [], ◌∷◌, ◌++◌, map}
 use lib.Dec.{eqb}
-use lib.ListN.{length, take, drop, get_or}
+use lib.ListN.{length, take, drop, get_or, length-map, get_or-map, drop_of_length-le}
 use lib.Seq.{length-take-le}
 use native.Mathlib.Decide.{dec_lt}
 use native.Mathlib.Omega.{arith}
@@ -23,34 +23,40 @@ use Rattle.conversation.specs.Kinds.{of_file}
 use Rattle.conversation.specs.PhaseTwo.{Label, label_of, labels, how_many, is_file, errors, stanzas, returned}
 use Rattle.conversation.proofs.Laws.ViewsTwo.{ReachedTwo, kept_two}
 use Rattle.look_up.specs.LookUp.{entry_text, number_of, found_of, message_of, stanza_of, key_of, LookedOf, Told}
-use Rattle.look_up.proofs.Laws.Labels.{slot_label, labels_at, labels_end}
+use Rattle.refusal.proofs.Laws.Lists.{drop_one}
+use Rattle.look_up.proofs.Laws.Labels.{slot_label}
 
--- ---- the loop: the slots before i have been passed, and the k-th of the rest is looked for
+-- ---- the loop: the entries before i have been passed, and the k-th of the rest is looked for
 
-module _ (q : Label → Bool) (t : Table) where
+module _ (q : Label → Bool) (es : List (List ℕ)) where
   abbrev pub onward : ℕ → ℕ → ℕ
-  onward i k = i + number_of q (drop i (labels t)) k
+  onward i k = i + number_of q (drop i (map slot_label es)) k
+
+  labels_at : (i : ℕ) → i < length es → drop i (map slot_label es) ≡ slot_label (get_or es i []) ∷ drop (i + 1) (map slot_label es)
+  labels_at i h =
+      drop_one (map slot_label es) i (slot_label []) (omega (arith, length-map es slot_label))
+      ∙ ap (λ l. l ∷ drop (i + 1) (map slot_label es)) (get_or-map slot_label es i [])
 
   -- it is here
-  pub onward_here : (i k : ℕ) → i < length (labels t) → q (slot_label t i) ≡ true → k ≡ 0 → onward i k ≡ i
+  pub onward_here : (i k : ℕ) → i < length es → q (slot_label (get_or es i [])) ≡ true → k ≡ 0 → onward i k ≡ i
   unfolding number_of
-  onward_here i k h e z = ap (onward i) z ∙ rw (labels_at t i h, e) (omega arith)
+  onward_here i k h e z = ap (onward i) z ∙ rw (labels_at i h, e) (omega arith)
 
   -- another that passes
-  pub onward_one : (i k j : ℕ) → i < length (labels t) → q (slot_label t i) ≡ true → k ≡ suc j → onward i k ≡ onward (i + 1) j
+  pub onward_one : (i k j : ℕ) → i < length es → q (slot_label (get_or es i [])) ≡ true → k ≡ suc j → onward i k ≡ onward (i + 1) j
   unfolding number_of
-  onward_one i k j h e z = ap (onward i) z ∙ rw (labels_at t i h, e) (omega arith)
+  onward_one i k j h e z = ap (onward i) z ∙ rw (labels_at i h, e) (omega arith)
 
   -- one that does not
-  pub onward_none : (i k : ℕ) → i < length (labels t) → q (slot_label t i) ≡ false → onward i k ≡ onward (i + 1) k
+  pub onward_none : (i k : ℕ) → i < length es → q (slot_label (get_or es i [])) ≡ false → onward i k ≡ onward (i + 1) k
   unfolding number_of
-  onward_none i zero h e = rw (labels_at t i h, e) (omega arith)
-  onward_none i (suc k) h e = rw (labels_at t i h, e) (omega arith)
+  onward_none i zero h e = rw (labels_at i h, e) (omega arith)
+  onward_none i (suc k) h e = rw (labels_at i h, e) (omega arith)
 
   -- none is left
-  pub onward_end : (i k : ℕ) → length (labels t) ≤ i → onward i k ≡ i
+  pub onward_end : (k : ℕ) → onward (length es) k ≡ length es
   unfolding number_of
-  onward_end i k h = rw (labels_end t i h) (omega arith)
+  onward_end k = rw (drop_of_length-le (map slot_label es) {i = length es} (omega (arith, length-map es slot_label))) (omega arith)
 
 -- ---- a file's rows, by the numbers of its entries
 

@@ -6,7 +6,7 @@ use mathlib.Core.List.{List, ◌∷◌, ◌++◌}
 use lib.Dec.{ltb, eqb}
 use lib.ListN.{length, get_or}
 use native.Mathlib.Omega.{arith}
-use borrow.Author.Tests.{lt-ltb, le-ltb, le-leb, lt-leb, eq-eqb}
+use borrow.Author.Tests.{lt-ltb, le-ltb, le-leb, eq-eqb}
 use Rattle.stanza.specs.Arguments.{argument_of}
 use Rattle.tables.specs.Repeats.{repeats}
 use Rattle.tables.specs.Tables.{Table, empty, storing, entered, kept}
@@ -35,9 +35,6 @@ late_repeated false n z = refl
 module _ (t : Table) (index : ℕ) where
   pub falls_none : t.count ≡ 0 → false ≡ falls t index
   falls_none h = rw (le-ltb 0 t.count (omega arith))
-
-  pub falls_over : t.width < t.count → false ≡ falls t index
-  falls_over h = rw (lt-ltb 0 t.count (omega arith), lt-leb t.count t.width h)
 
   pub falls_is : 0 < t.count → t.count ≤ t.width → ltb index (get_or t.slots (t.count - 1) empty).index ≡ falls t index
   falls_is h g = rw (lt-ltb 0 t.count h, le-leb t.count t.width g)

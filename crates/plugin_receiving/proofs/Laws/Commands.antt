@@ -280,7 +280,7 @@ pub refusal_stands : (r : CodeReceived) (q : Refusal) (s : CodeSession) (xs hs :
       reading = Start;
       kept = 0;
       awaited = 0;
-    } → Says plugin (record { verdict = r.verdict; count = r.count; last = r.last; written = r.written; session = s }) xs hs input input [] b (comes_to r xs hs b rest)
+    } → Says plugin (record { verdict = Err q; count = r.count; last = r.last; written = r.written; session = s }) xs hs input input [] b (comes_to r xs hs b rest)
 refusal_stands r q s xs hs b input rest v e = record { taken = rw (e, v, number_not_zero q) (ap (λ n. at n) (omega arith)); input = rw e (filled_empty input) }
   where
     at : ℕ → Taken

@@ -43,7 +43,7 @@ use Rattle.plugin_receiving.specs.Responding.{answering_said, responded_said, se
 use Rattle.std.specs.Prelude.{Result, Ok, Err}
 use Rattle.refusal.specs.declared.Refusal.{Refusal}
 use Rattle.plugin_receiving.specs.declared.responding.Answered.{Answered as CodeAnswered}
-use Rattle.plugin_receiving.specs.declared.responding.Responded.{Responded as CodeResponded}
+use Rattle.session.specs.declared.output.Outcome.{Outcome as CodeOutcome}
 use Rattle.plugin_receiving.proofs.Laws.Commands.{stanza_not_refused}
 
 -- some buffers, where none is used
@@ -167,7 +167,7 @@ module _ (s : Session) (b : Buffers) (i : Intake) (bytes t rest out : List ℕ)
   none_taken z = is ∙ ap by_number (ne_eqb in_room.number 0 z)
 
   -- the code's step with the lent buffer settles the chunk
-  pub response_settled : (x : CodeResponded) (xs hs : List (List ℕ)) (after : List ℕ) → responded_said x xs hs after ≡ responded s t out →
+  pub response_settled : (x : CodeOutcome CodeAnswered) (xs hs : List (List ℕ)) (after : List ℕ) → responded_said x xs hs after ≡ responded s t out →
       settled_response (responded_said x xs hs after) i b (length rest) ≡ judged i b out (taken plugin i b bytes)
   response_settled x xs hs after e =
       let v = (responded_said x xs hs after).session in
@@ -223,7 +223,7 @@ module _ (s : CodeSession) (w : WordTwo) (due : s.phase ≡ Awaiting w) (input :
     begun_text : front_of s.reading (min s.kept 8191) chunk ≡ whole 0 → taken_text plugin v b [] chunk ≡ taken plugin i b chunk
     begun_text h = sym (chunk_begins plugin s xs hs input (ap (turn_at plugin) due) long chunk b h)
 
-    module _ (x : CodeResponded) (out after : List ℕ) where
+    module _ (x : CodeOutcome CodeAnswered) (out after : List ℕ) where
       by_due_lem : (text : List ℕ) → responded_said x xs hs after ≡ responded_text (read_first text) w v text out → responded_said x xs hs after ≡ responded v text out
       by_due_lem text e = e ∙ sym (ap (λ p. responded_by (due_in p) v text out) due)
 

@@ -1,14 +1,14 @@
 -- Words: what the code's loops pass over, and that what is printed is read back.
-use Prim.Native.Nat.{ℕ, suc, ◌+◌, ◌*◌, ◌/◌, ◌%◌, ◌<◌, ◌≤◌}
+use Prim.Native.Nat.{ℕ, ◌+◌, ◌-◌, ◌*◌, ◌/◌, ◌%◌, ◌<◌, ◌≤◌}
 use mathlib.Core.Path.{◌≡◌, refl, sym, ap, ◌∙◌}
 use mathlib.Core.Bool.{Bool, true, false, false≢true}
 use mathlib.Core.List.{List, [], ◌∷◌, ◌++◌, append_assoc, append-nil}
+use Rattle.std.specs.Prelude.{Some, None}
 use lib.Dec.{ltb, eqb, eqb→eq}
-use lib.ListN.{length, take, drop, set, get_or, drop_of_length-le, length-append, take-append-drop}
+use lib.ListN.{length, length-set, take, drop, set, get_or, drop_of_length-le, length-append, take-append-drop}
 use lib.Seq.{sets, sets-eq, length-take-le, take_at, drop_at, drop-drop, drop-set-lt}
-use native.Mathlib.Numerals.{add-one}
 use native.Mathlib.Omega.{arith}
-use borrow.Author.Tests.{lt-ltb, le-ltb, le-leb, ne_eqb, leb-true, ltb-true, eqb-true}
+use borrow.Author.Tests.{lt-ltb, le-ltb, le-leb, ne_eqb, leb-true, ltb-true, ltb-false, eqb-true}
 use Rattle.refusal.specs.Output.{bytes, refused, filled}
 use Rattle.refusal.specs.Pick.{pick}
 use Rattle.refusal.specs.Run.{all, is_graphic}
@@ -16,7 +16,9 @@ use Rattle.refusal.proofs.Laws.Below.{below}
 use Rattle.refusal.proofs.Laws.Booleans.{cases, and_true, T_true}
 use Rattle.refusal.proofs.Laws.Lists.{drop_one, store_one}
 use Rattle.refusal.proofs.Laws.Run.{all_append}
-use Rattle.script.specs.Escape.{hex_value, moves, gives, stops, plain, letter, digit, effect, Meaning, word, bad, behind, rest, unescaped, measured, fits, answered_by, filled_by, hex_digit, letter_of, printed, spelled, escaped, sized}
+use Rattle.script.specs.declared.unescaping.State.{State}
+use Rattle.script.specs.declared.unescaping.State.TheVariants.{Plain, Escape, Hex, Digit}
+use Rattle.script.specs.Escape.{state_said, hex_value, moves, gives, stops, plain, letter, digit, effect, Meaning, word, bad, behind, rest, unescaped, measured, fits, answered_by, filled_by, hex_digit, letter_of, some_letter, printed, spelled, escaped, sized}
 
 -- ---- reading, one byte on
 
@@ -47,6 +49,13 @@ module _ (t : List ℕ) (s i : ℕ) where
 
   pub rest_stops : i < length t → stops ≡ effect s (get_or t i 0) → rest s (drop i t) ≡ bad
   rest_stops h e = rw (drop_one t i 0 h) (cons_stops s (get_or t i 0) (drop (i + 1) t) e)
+
+-- the code's states: 0 is the one between two escapes
+pub state_plain : (s : State) → ((s ≡ Plain) → ⊥) → eqb (state_said s) 0 ≡ false
+state_plain Plain h = absurd (h refl)
+state_plain Escape h = refl
+state_plain Hex h = refl
+state_plain (Digit v) h = ne_eqb (16 + v) 0 (λ z. omega arith)
 
 -- ---- measuring
 
@@ -117,13 +126,35 @@ front o p n l h e =
     let k = length-take-le n o h in
     rw (k, le-ltb (length p) n (omega arith), ← e) (sym (take-append-drop n o))
 
--- a whole word stored
-pub stored : (u : Meaning (List ℕ)) (o p : List ℕ) (s n : ℕ) → fits u p ≡ true → length o ≡ length p → n ≤ length o → drop n o ≡ drop n p →
-    u ≡ behind (take n o) (pick (eqb s 0) (word []) bad) → o ≡ filled_by u p
-stored u o p s n f l h d e =
-    cases (eqb s 0)
-    (λ z. rw (rw z at e, append-nil (take n o)) (front o p n l h d))
-    (λ z. absurd (fits_rest u p (take n o) f (rw z at e)))
+-- o is p with n bytes stored at its front, which a word stands for before its rest m
+pub record Stored (u : Meaning (List ℕ)) (o p : List ℕ) (n : ℕ) (m : Meaning (List ℕ)) : Type 0 where
+  pub within : n ≤ length o
+  pub long : length o ≡ length p
+  pub as_it_was : drop n o ≡ drop n p
+  pub front : u ≡ behind (take n o) m
+
+module _ (u : Meaning (List ℕ)) (o p : List ℕ) (n : ℕ) (f : fits u p ≡ true) where
+  -- one byte more
+  pub stored_space : (v : ℕ) (m : Meaning (List ℕ)) → Stored u o p n (behind (v ∷ []) m) → n < length o
+  stored_space v m r = omega (arith, fits_one u p (take n o) v m f r.front, length-take-le n o r.within, r.long)
+
+  pub stored_one : (v : ℕ) (m : Meaning (List ℕ)) → Stored u o p n (behind (v ∷ []) m) → Stored u (set o n v) p (n + 1) m
+  stored_one v m r =
+      let h = stored_space v m r in
+      record {
+        within = simp length-set (omega (arith, h));
+        long = simp length-set r.long;
+        as_it_was = kept o p n v r.as_it_was;
+        front = more u o n v m h r.front;
+      }
+
+  -- the rest of a word that fits is a word
+  pub stored_bad : Stored u o p n bad → ⊥
+  stored_bad r = fits_rest u p (take n o) f r.front
+
+  -- a whole word
+  pub stored_whole : Stored u o p n (word []) → o ≡ filled_by u p
+  stored_whole r = rw (r.front, append-nil (take n o)) (front o p n r.long r.within r.as_it_was)
 
 -- ---- printing
 
@@ -138,6 +169,19 @@ printed_self b h e = rw (le-ltb 0 (letter_of b) h, e)
 pub printed_hex : (b : ℕ) → letter_of b ≤ 0 → is_graphic b ≡ false → printed b ≡ 92 ∷ 120 ∷ hex_digit (b / 16) ∷ hex_digit (b % 16) ∷ []
 unfolding printed
 printed_hex b h e = rw (le-ltb 0 (letter_of b) h, e)
+
+-- what the code answers of a byte's letter
+pub letter_some : (b l : ℕ) → Some l ≡ some_letter (letter_of b) → printed b ≡ 92 ∷ l ∷ []
+letter_some b l e =
+    cases (ltb 0 (letter_of b))
+    (λ h. let f = rw h at e in let k : l ≡ letter_of b = cc in rw k (printed_letter b (ltb-true 0 (letter_of b) h)))
+    (λ h. let f = rw h at e in let z : ◌≡◌ {A = ℕ} 0 1 = cc in absurd (omega arith))
+
+pub letter_none : (b : ℕ) → None ≡ some_letter (letter_of b) → letter_of b ≤ 0
+letter_none b e =
+    cases (ltb 0 (letter_of b))
+    (λ h. let f = rw h at e in let z : ◌≡◌ {A = ℕ} 0 1 = cc in absurd (omega arith))
+    (λ h. ltb-false 0 (letter_of b) h)
 
 module _ (t : List ℕ) (i : ℕ) where
   pub spelled_ends : length t ≤ i → spelled (drop i t) ≡ []
@@ -161,17 +205,11 @@ unfolding escaped
 escaped_none [] h = refl
 escaped_none (b ∷ t) h = absurd (omega arith)
 
--- stores one behind the other, as the code makes them
-pub two : (o : List ℕ) (k x y : ℕ) → set (set o k x) (k + 1) y ≡ sets o k (x ∷ y ∷ [])
-two o k x y = rw add-one
-
-pub four : (o : List ℕ) (k x y z w : ℕ) →
-    set (set (set (set o k x) (k + 1) y) (k + 2) z) (k + 3) w ≡ sets o k (x ∷ y ∷ z ∷ w ∷ [])
-four o k x y z w =
-    let e1 : k + 1 ≡ suc k = omega arith in
-    let e2 : k + 2 ≡ suc (suc k) = omega arith in
-    let e3 : k + 3 ≡ suc (suc (suc k)) = omega arith in
-    rw (e1, e2, e3)
+-- n bytes copied to a buffer, from k on
+pub copied : (o s : List ℕ) (k n : ℕ) → length s ≡ n → k + n ≤ length o → take k o ++ (s ++ drop (k + n - k) (drop k o)) ≡ sets o k s
+copied o s k n e h =
+    let d : k + n - k ≡ n = omega arith in
+    rw (sets-eq s o k (omega arith), e, d, drop-drop n k o) (sym (append_assoc (take k o) s (drop (k + n) o)))
 
 -- after a run of stores: the part up to its end, and the part behind it
 sets_front : (o : List ℕ) (k : ℕ) (s : List ℕ) → k ≤ length o → length (take k o ++ s) ≡ k + length s

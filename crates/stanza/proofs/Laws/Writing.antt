@@ -3,18 +3,17 @@ use Prim.Native.Nat.{ℕ, ◌+◌, ◌-◌, ◌<◌, ◌≤◌}
 use mathlib.Core.Path.{◌≡◌, refl, sym, ap, ◌∙◌}
 use mathlib.Core.List.{List, [], ◌∷◌, ◌++◌}
 use lib.ListN.{length, take, drop, set, get_or, length-append, length-drop}
-use lib.Seq.{sets-eq, get_or_at}
+use lib.Seq.{get_or_at}
 use native.Mathlib.Omega.{arith}
-use borrow.Author.Tests.{le-ltb, lt-ltb, lt-leb, eq-eqb, ne_eqb}
+use borrow.Author.Tests.{le-ltb, lt-leb}
 use mathlib.Core.Bool.{Bool, true, false, ◌&&◌}
-use lib.Dec.{eqb}
 use Rattle.refusal.specs.Pick.{pick}
-use Rattle.refusal.specs.Output.{bytes, refused, answered, filled, WritingJudged}
-use Rattle.refusal.proofs.Laws.Booleans.{cases, and_false_right}
+use Rattle.refusal.specs.Output.{bytes, refused, filled, WritingJudged}
+use Rattle.refusal.proofs.Laws.Booleans.{and_false_right}
 use Rattle.refusal.proofs.Laws.Output.{test_judged}
 use Rattle.refusal.proofs.Laws.Lists.{part_rest, put_rest, overwrite_part, front_part, front_store, front_whole}
 use Rattle.strict_base64.specs.Lines.{lines_of}
-use Rattle.stanza.specs.Arguments.{is_line, line_with}
+use Rattle.stanza.specs.Arguments.{is_line}
 use Rattle.stanza.specs.Grammar.{first_line, stanza_text}
 use Rattle.stanza.specs.Writing.{is_writable, sized, written, buffer_after}
 
@@ -24,16 +23,13 @@ first_length l = simp length-append (omega arith)
 pub text_length : (l b : List ℕ) → length (stanza_text l b) ≡ length l + 4 + length (lines_of b)
 text_length l b = length-append (first_line l) (lines_of b) ∙ rw (first_length l)
 
--- "-> ", the arguments copied to the part behind it, and LF
-pub line_done : (l o₀ part : List ℕ) → length l + 4 ≤ length o₀ →
-    part ≡ l ++ drop (length l) (take (length (set (set (set o₀ 0 45) 1 62) 2 32) - 3) (drop 3 (set (set (set o₀ 0 45) 1 62) 2 32))) →
-    set (take 3 (set (set (set o₀ 0 45) 1 62) 2 32) ++ (part ++ drop (length (set (set (set o₀ 0 45) 1 62) 2 32) - 3) (drop 3 (set (set (set o₀ 0 45) 1 62) 2 32)))) (length l + 3) 10 ≡
-    first_line l ++ drop (length l + 4) o₀
-line_done l o₀ part h p =
-    let o : List ℕ = set (set (set o₀ 0 45) 1 62) 2 32 in
+-- the arguments, copied to the part behind "-> ", and LF
+pub line_done : (l o₀ o part : List ℕ) → length l + 4 ≤ length o₀ → o ≡ (45 ∷ 62 ∷ 32 ∷ []) ++ drop 3 o₀ →
+    part ≡ l ++ drop (length l) (take (length o - 3) (drop 3 o)) →
+    set (take 3 o ++ (part ++ drop (length o - 3) (drop 3 o))) (length l + 3) 10 ≡ first_line l ++ drop (length l + 4) o₀
+line_done l o₀ o part h e p =
     let w : List ℕ = first_line l in
     let n = first_length l in
-    let e : o ≡ take 3 w ++ drop 3 o₀ = sets-eq (45 ∷ 62 ∷ 32 ∷ []) o₀ 0 (omega arith) in
     let f : take 3 o ++ (part ++ drop (length o - 3) (drop 3 o)) ≡ take (3 + length l) w ++ drop (3 + length l) o₀ =
     put_rest 3 o part ∙ rw (p, part_rest 3 o) (front_part w o o₀ l (10 ∷ []) 3 e refl (omega arith)) in
     let k : length l + 3 ≡ 3 + length l = omega arith in
@@ -72,47 +68,8 @@ pub size_none : (l b : List ℕ) (r : ℕ) → refused r ≡ sized l b → (is_w
 size_none l b r e = refused_only (is_writable l b) r (length (stanza_text l b)) e
 
 module _ (l b o : List ℕ) where
-  pub size_refused : (r : ℕ) → refused r ≡ sized l b → (refused r ≡ written l b o) × (o ≡ buffer_after l b o)
-  size_refused r e = let f = size_none l b r e in rw (f.0, f.1) (refl, refl)
-
   pub size_bytes : (n : ℕ) → bytes n ≡ sized l b → (is_writable l b ≡ true) × (n ≡ length (stanza_text l b))
   size_bytes n e = bytes_only (is_writable l b) n (length (stanza_text l b)) e
-
-  pub size_short : (n : ℕ) → bytes n ≡ sized l b → length o < n → (refused 15 ≡ written l b o) × (o ≡ buffer_after l b o)
-  size_short n e h =
-      let f = size_bytes n e in
-      rw (f.0, lt-ltb (length o) (length (stanza_text l b)) (omega (arith, f.1))) (refl, refl)
-
-  pub size_fits : (n : ℕ) (o' : List ℕ) → bytes n ≡ sized l b → n ≤ length o → o' ≡ stanza_text l b ++ drop (length (stanza_text l b)) o → (bytes n ≡ written l b o) × (o' ≡ buffer_after l b o)
-  size_fits n o' e h q =
-      let f = size_bytes n e in
-      rw (f.0, le-ltb (length o) (length (stanza_text l b)) (omega (arith, f.1))) (ap bytes f.1, q)
-
--- ---- a command and what stands behind it
-
-module _ (command arguments o : List ℕ) where
-  line_longer : length command ≤ length (line_with command arguments)
-  line_longer = cases (eqb (length arguments) 0) (λ e. rw e (omega arith)) (λ e. rw e (simp length-append (omega arith)))
-
-  pub join_short : length o < length command → (refused 15 ≡ answered (line_with command arguments) o) × (o ≡ filled (line_with command arguments) o)
-  join_short h = rw (lt-ltb (length o) (length (line_with command arguments)) (omega (arith, line_longer))) (refl, refl)
-
-  pub join_alone : (o' : List ℕ) → length arguments ≡ 0 → length command ≤ length o → o' ≡ command ++ drop (length command) o →
-      (bytes (length command) ≡ answered (line_with command arguments) o) × (o' ≡ filled (line_with command arguments) o)
-  join_alone o' e h q = rw (eq-eqb (length arguments) 0 e, le-ltb (length o) (length command) h) (refl, q)
-
-  joined_length : length (command ++ 32 ∷ arguments) ≡ length command + 1 + length arguments
-  joined_length = simp length-append (omega arith)
-
-  pub join_over : (length arguments ≡ 0 → ⊥) → length o ≤ length command + length arguments → (refused 15 ≡ answered (line_with command arguments) o) × (o ≡ filled (line_with command arguments) o)
-  join_over e h = rw (ne_eqb (length arguments) 0 e, lt-ltb (length o) (length (command ++ 32 ∷ arguments)) (omega (arith, joined_length))) (refl, refl)
-
-  pub join_both : (o' : List ℕ) → (length arguments ≡ 0 → ⊥) → length command + length arguments < length o →
-      o' ≡ (command ++ 32 ∷ arguments) ++ drop (length command + 1 + length arguments) o →
-      (bytes (length command + 1 + length arguments) ≡ answered (line_with command arguments) o) × (o' ≡ filled (line_with command arguments) o)
-  join_both o' e h q =
-      rw (ne_eqb (length arguments) 0 e, le-ltb (length o) (length (command ++ 32 ∷ arguments)) (omega (arith, joined_length)))
-      (ap bytes (sym joined_length), q ∙ ap (λ k. (command ++ 32 ∷ arguments) ++ drop k o) (sym joined_length))
 
 -- 17 exactly where the text can't be written, then 15, and nothing is written then
 pub written_judged : (l b buffer : List ℕ) → WritingJudged 17 (is_writable l b ≡ false) (stanza_text l b) buffer (written l b buffer) (buffer_after l b buffer)

@@ -122,28 +122,6 @@ encoded_size_lem i r =
     let m : (48 * i + r) % 3 ≡ r % 3 = omega arith in
     rw (q, m) (omega arith)
 
-pub body_fits : (l o : List ℕ) (i : ℕ) → 65 * i + 65 < length l → body_size (length l) ≤ length o →
-    decoded_size (length (take (65 * i + 64 - 65 * i) (drop (65 * i) l))) ≤ length (take (length o - 48 * i) (drop (48 * i) o))
-body_fits l o i h f =
-    let s : 65 * i + 64 - 65 * i ≡ 64 = omega arith in
-    rw (s, part_rest (48 * i) o, length-take-le 64 (drop (65 * i) l) (simp length-drop (omega arith)), length-drop) (omega arith)
-
-pub body_fits_last : (l o : List ℕ) (i : ℕ) → 65 * i < length l → length l ≤ 65 * i + 65 → body_size (length l) ≤ length o →
-    decoded_size (length (take (length l - 1 - 65 * i) (drop (65 * i) l))) ≤ length (take (length o - 48 * i) (drop (48 * i) o))
-body_fits_last l o i h k f =
-    let r : ℕ = length l - 1 - 65 * i in
-    let s : (length l - 1) - (length l - 1) / 65 ≡ 64 * i + r = omega arith in
-    let g : 48 * i + decoded_size r ≤ length o = rw (s, decoded_size_lem i r) at f in
-    rw (part_rest (48 * i) o, length-take-le (length l - 1 - 65 * i) (drop (65 * i) l) (simp length-drop (omega arith)), length-drop) (omega arith)
-
-pub lines_fits_last : (b o : List ℕ) (i : ℕ) → 48 * i ≤ length b → length b < 48 * i + 48 → encoded_size (length b) + encoded_size (length b) / 64 + 1 ≤ length o →
-    encoded_size (length (take (length b - 48 * i) (drop (48 * i) b))) + 1 ≤ length (take (length o - 65 * i) (drop (65 * i) o))
-lines_fits_last b o i h k f =
-    let r : ℕ = length b - 48 * i in
-    let s : length b ≡ 48 * i + r = omega arith in
-    let g : 64 * i + encoded_size r + (64 * i + encoded_size r) / 64 + 1 ≤ length o = rw (s, encoded_size_lem i r) at f in
-    rw (part_rest (65 * i) o, part_rest (48 * i) b, length-drop (65 * i) o, length-drop (48 * i) b) (omega arith)
-
 -- reading, line by line: a full line is written to the part of the buffer behind those before it
 pub body_turn : (l o o₀ part : List ℕ) (i : ℕ) → 65 * i + 65 < length l → o ≡ take (48 * i) (body_of l) ++ drop (48 * i) o₀ →
     part ≡ decoded (take (65 * i + 64 - 65 * i) (drop (65 * i) l)) ++ drop (length (decoded (take (65 * i + 64 - 65 * i) (drop (65 * i) l)))) (take (length o - 48 * i) (drop (48 * i) o)) →

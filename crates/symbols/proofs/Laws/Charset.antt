@@ -6,7 +6,9 @@ use mathlib.Core.List.{List, [], ◌∷◌, map}
 use lib.Dec.{eqb, leb, eqb→eq}
 use lib.ListN.{length, take, drop, get_or}
 use native.Mathlib.Omega.{arith}
-use borrow.Author.Tests.{eqb-true, leb-true, le-leb, lt-leb}
+use borrow.Author.Tests.{eqb-true, leb-true, leb-false, le-leb, lt-leb}
+use Rattle.std.specs.Char.{to_ascii_lowercase, to_ascii_uppercase}
+use Rattle.std.proofs.lemmas.Bool.Decides.{nat_tests}
 use Rattle.refusal.proofs.Laws.Below.{below}
 use Rattle.refusal.proofs.Laws.Booleans.{and_true, true_and, cases}
 use Rattle.symbols.specs.Charset.{charset, place_of, value_of, character_of, is_upper, is_lower, lower, upper}
@@ -64,6 +66,25 @@ lowered b h = rw h
 pub lower_plain : (b : ℕ) → is_upper b ≡ false → lower b ≡ b
 unfolding lower
 lower_plain b h = rw h
+
+-- the same as std's rule
+pub lower_ascii : (b : ℕ) → to_ascii_lowercase b ≡ lower b
+unfolding lower is_upper
+lower_ascii b =
+    cases (leb 65 b)
+    (λ e. cases (leb b 90)
+    (λ f. let g = leb-true 65 b e in let h = leb-true b 90 f in rw (e, f) (grind (arith, nat_tests)))
+    (λ f. let g = leb-true 65 b e in let h = leb-false b 90 f in rw (e, f) (grind (arith, nat_tests))))
+    (λ e. let g = leb-false 65 b e in rw e (grind (arith, nat_tests)))
+
+pub upper_ascii : (b : ℕ) → to_ascii_uppercase b ≡ upper b
+unfolding upper is_lower
+upper_ascii b =
+    cases (leb 97 b)
+    (λ e. cases (leb b 122)
+    (λ f. let g = leb-true 97 b e in let h = leb-true b 122 f in rw (e, f) (grind (arith, nat_tests)))
+    (λ f. let g = leb-true 97 b e in let h = leb-false b 122 f in rw (e, f) (grind (arith, nat_tests))))
+    (λ e. let g = leb-false 97 b e in rw e (grind (arith, nat_tests)))
 
 -- lowering undoes raising where nothing is in upper case, and raising lowering where nothing is in lower case
 pub lower_upper : (b : ℕ) → is_upper b ≡ false → lower (upper b) ≡ b

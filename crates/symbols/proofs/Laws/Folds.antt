@@ -1,6 +1,6 @@
 -- The checksum's loops: one symbol more, and the end.
 use Prim.Native.Nat.{ℕ, ◌+◌, ◌%◌, ◌<◌, ◌≤◌}
-use mathlib.Core.Path.{◌≡◌, refl, sym, ap, ◌∙◌}
+use mathlib.Core.Path.{◌≡◌, refl, sym, ap, ap₂, ◌∙◌}
 use mathlib.Core.Bool.{◌&&◌}
 use mathlib.Core.List.{List, [], ◌∷◌, map}
 use lib.Bits.{bit_or, or_lt, or_add_and, and_le_l, and_le_r}
@@ -8,6 +8,7 @@ use lib.Dec.{eqb, ltb}
 use lib.ListN.{length, drop, get_or, drop_of_length-le}
 use native.Mathlib.Omega.{arith}
 use borrow.Author.Tests.{ltb-true, ltb-false, lt-ltb, le-ltb}
+use Rattle.std.specs.List.{fold}
 use Rattle.refusal.specs.Run.{all}
 use Rattle.refusal.proofs.Laws.Booleans.{cases, and_assoc}
 use Rattle.symbols.specs.Charset.{is_upper, lower}
@@ -15,15 +16,11 @@ use Rattle.symbols.specs.Checksum.{are_symbols, stepped, polymod}
 use Rattle.symbols.specs.Calls.{closes}
 use Rattle.symbols.proofs.Laws.Maps.{map_one}
 
--- one symbol more
-pub polymod_at : (f : ℕ → ℕ) (l : List ℕ) (i c : ℕ) → i < length l → polymod c (map f (drop i l)) ≡ polymod (stepped c (f (get_or l i 0))) (map f (drop (i + 1) l))
+-- the state after the symbols that f makes, as a fold
+pub polymod_fold : (f : ℕ → ℕ) (l : List ℕ) (c : ℕ) → fold (λ s b. stepped s (f b)) c l ≡ polymod c (map f l)
 unfolding polymod
-polymod_at f l i c h = ap (polymod c) (map_one f l i h)
-
--- none left
-pub polymod_end : (f : ℕ → ℕ) (l : List ℕ) (i c : ℕ) → length l ≤ i → polymod c (map f (drop i l)) ≡ c
-unfolding polymod
-polymod_end f l i c h = ap (λ t. polymod c (map f t)) (drop_of_length-le l h)
+polymod_fold f [] c = refl
+polymod_fold f (b ∷ l) c = polymod_fold f l (stepped c (f b))
 
 closes_at : (f : ℕ → ℕ) (l : List ℕ) (i c : ℕ) → i < length l →
     closes c (map f (drop i l)) ≡ (ltb (f (get_or l i 0)) 32 && closes (stepped c (f (get_or l i 0))) (map f (drop (i + 1) l)))
@@ -57,6 +54,10 @@ closes_is [] c = refl
 closes_is (v ∷ l) c = ap (λ b. ltb v 32 && b) (closes_is l (stepped c v)) ∙ and_assoc (ltb v 32) (are_symbols l) (eqb (polymod (stepped c v) l) 1)
 
 -- a letter has the same low bits in either case
-pub lower_low : (b : ℕ) → lower b % 32 ≡ b % 32
+lower_low : (b : ℕ) → lower b % 32 ≡ b % 32
 unfolding lower
 lower_low b = cases (is_upper b) (λ e. rw e (omega arith)) (λ e. rw e)
+
+pub low_bits : (l : List ℕ) → map (λ b. b % 32) (map lower l) ≡ map (λ b. b % 32) l
+low_bits [] = refl
+low_bits (b ∷ l) = ap₂ (λ x t. x ∷ t) (lower_low b) (low_bits l)

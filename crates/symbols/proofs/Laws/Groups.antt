@@ -3,11 +3,11 @@ use Prim.Native.Nat.{ℕ, zero, suc, ◌+◌, ◌-◌, ◌*◌, ◌/◌, ◌%◌
 use mathlib.Core.Path.{◌≡◌, refl, sym, ap, ap₂, ◌∙◌}
 use mathlib.Core.Bool.{true}
 use mathlib.Core.List.{List, [], ◌∷◌, ◌++◌, map, map-append}
-use lib.ListN.{length, take, drop, get_or, length-map, length-take, length-drop, drop_of_length-le}
-use lib.Seq.{drop-cons, take-add, take_all, length-take-le}
-use native.Mathlib.Nat.{add-mul-mod_self_left}
-use native.Mathlib.Decide.{dec_le}
+use lib.ListN.{length, replicate, take, drop, get_or, length-map, length-take, length-drop, drop_of_length-le}
+use lib.Seq.{drop-cons, drop-drop, take-add, take_all, length-take-le}
+use native.Mathlib.Nat.{add-zero, add-mul-mod_self_left}
 use native.Mathlib.Omega.{arith}
+use Rattle.std.specs.Simd.{first_chunks}
 use Rattle.refusal.proofs.Laws.Below.{tabulate}
 use Rattle.refusal.proofs.Laws.Lists.{part_rest, put_rest, overwrite_part}
 use Rattle.symbols.specs.Checksum.{are_symbols}
@@ -72,6 +72,35 @@ symbols_append n (a ∷ b ∷ c ∷ []) t h = absurd (omega arith)
 symbols_append n (a ∷ b ∷ c ∷ d ∷ []) t h = absurd (omega arith)
 symbols_append n (a ∷ b ∷ c ∷ d ∷ e ∷ s) t h = rw (symbols_append (n - 1) s t (omega arith))
 
+-- the bytes of fewer than eight symbols are the first of a group that they begin, and the symbols of fewer than five bytes those of one with zeros behind
+pub bytes_front : (f : ℕ → ℕ) (t : List ℕ) → length t < 8 →
+    take (bytes_size (length t)) (bytes (map f (t ++ drop (length t) (replicate 8 0)))) ≡ bytes (map f t)
+unfolding bytes
+bytes_front f [] h = refl
+bytes_front f (p ∷ []) h = refl
+bytes_front f (p ∷ q ∷ []) h = refl
+bytes_front f (p ∷ q ∷ r ∷ []) h = refl
+bytes_front f (p ∷ q ∷ r ∷ s ∷ []) h = refl
+bytes_front f (p ∷ q ∷ r ∷ s ∷ t ∷ []) h = refl
+bytes_front f (p ∷ q ∷ r ∷ s ∷ t ∷ u ∷ []) h = refl
+bytes_front f (p ∷ q ∷ r ∷ s ∷ t ∷ u ∷ v ∷ []) h = refl
+bytes_front f (p ∷ q ∷ r ∷ s ∷ t ∷ u ∷ v ∷ w ∷ l) h = absurd (omega arith)
+
+pub symbols_front : (t : List ℕ) → length t < 5 → take (symbols_size (length t)) (symbols (t ++ drop (length t) (replicate 5 0))) ≡ symbols t
+unfolding symbols
+symbols_front [] h = refl
+symbols_front (a ∷ []) h = rw add-zero
+symbols_front (a ∷ b ∷ []) h = rw add-zero
+symbols_front (a ∷ b ∷ c ∷ []) h = rw add-zero
+symbols_front (a ∷ b ∷ c ∷ d ∷ []) h = rw add-zero
+symbols_front (a ∷ b ∷ c ∷ d ∷ e ∷ t) h = absurd (omega arith)
+
+-- the group at i of a list that is cut into groups of g
+pub group_at : (g k i : ℕ) (t d : List ℕ) → i < k → get_or (first_chunks g k t) i d ≡ take g (drop (g * i) t)
+group_at g zero i t d h = absurd (omega arith)
+group_at g (suc k) zero t d h = let z : g * 0 ≡ 0 = omega arith in rw z
+group_at g (suc k) (suc i) t d h = group_at g k i (drop g t) d (omega arith) ∙ rw drop-drop (ap (λ n. take g (drop n t)) (omega arith))
+
 -- ---- lists by their elements
 
 -- the rest of a list from i on, element by element
@@ -103,41 +132,7 @@ module _ (f : ℕ → ℕ) where
       let e : length t * 5 % 8 ≡ length t % 8 * 5 % 8 = ap (λ n. n % 8) s ∙ add-mul-mod_self_left (length t % 8 * 5) 8 (length t / 8 * 5) in
       rw (length-map t f, map_at f t (length t - 1) (omega arith), e)
 
-  -- the bytes of fewer than two characters, of two or three, of four, of five or six, of seven, of eight
-  pub bytes_none : (t : List ℕ) → length t < 2 → bytes (map f t) ≡ []
-  unfolding bytes
-  bytes_none [] h = refl
-  bytes_none (a ∷ []) h = refl
-  bytes_none (a ∷ b ∷ t) h = absurd (omega arith)
-
-  pub bytes_two : (t : List ℕ) → 2 ≤ length t → length t < 4 → bytes (map f t) ≡ (f (get_or t 0 0) * 8 + f (get_or t 1 0) / 4) ∷ []
-  unfolding bytes
-  bytes_two [] g h = absurd (omega arith)
-  bytes_two (a ∷ []) g h = absurd (omega arith)
-  bytes_two (a ∷ b ∷ []) g h = refl
-  bytes_two (a ∷ b ∷ c ∷ []) g h = refl
-  bytes_two (a ∷ b ∷ c ∷ d ∷ t) g h = absurd (omega arith)
-
-  pub bytes_four : (t : List ℕ) → length t ≡ 4 →
-      bytes (map f t) ≡ (f (get_or t 0 0) * 8 + f (get_or t 1 0) / 4) ∷ (f (get_or t 1 0) % 4 * 64 + f (get_or t 2 0) * 2 + f (get_or t 3 0) / 16) ∷ []
-  unfolding bytes
-  bytes_four t h = ap (λ l. bytes (map f l)) (whole 4 t h)
-
-  pub bytes_five : (t : List ℕ) → 5 ≤ length t → length t < 7 →
-      bytes (map f t) ≡
-      (f (get_or t 0 0) * 8 + f (get_or t 1 0) / 4) ∷ (f (get_or t 1 0) % 4 * 64 + f (get_or t 2 0) * 2 + f (get_or t 3 0) / 16) ∷
-      (f (get_or t 3 0) % 16 * 16 + f (get_or t 4 0) / 2) ∷ []
-  unfolding bytes
-  bytes_five t g h =
-      elim (dec_le (length t) 5) [ yes k ↦ ap (λ l. bytes (map f l)) (whole 5 t (omega arith)) | no k ↦ ap (λ l. bytes (map f l)) (whole 6 t (omega arith)) ]
-
-  pub bytes_seven : (t : List ℕ) → length t ≡ 7 →
-      bytes (map f t) ≡
-      (f (get_or t 0 0) * 8 + f (get_or t 1 0) / 4) ∷ (f (get_or t 1 0) % 4 * 64 + f (get_or t 2 0) * 2 + f (get_or t 3 0) / 16) ∷
-      (f (get_or t 3 0) % 16 * 16 + f (get_or t 4 0) / 2) ∷ (f (get_or t 4 0) % 2 * 128 + f (get_or t 5 0) * 4 + f (get_or t 6 0) / 8) ∷ []
-  unfolding bytes
-  bytes_seven t h = ap (λ l. bytes (map f l)) (whole 7 t h)
-
+  -- the bytes of eight characters
   pub bytes_eight : (t : List ℕ) → length t ≡ 8 →
       bytes (map f t) ≡
       (f (get_or t 0 0) * 8 + f (get_or t 1 0) / 4) ∷ (f (get_or t 1 0) % 4 * 64 + f (get_or t 2 0) * 2 + f (get_or t 3 0) / 16) ∷
@@ -146,34 +141,7 @@ module _ (f : ℕ → ℕ) where
   unfolding bytes
   bytes_eight t h = ap (λ l. bytes (map f l)) (whole 8 t h)
 
--- the symbols of no byte, of one, .. of five
-pub symbols_none : (t : List ℕ) → length t ≡ 0 → symbols t ≡ []
-unfolding symbols
-symbols_none t h = ap symbols (whole 0 t h)
-
-pub symbols_one : (t : List ℕ) → length t ≡ 1 → symbols t ≡ (get_or t 0 0 / 8) ∷ (get_or t 0 0 % 8 * 4) ∷ []
-unfolding symbols
-symbols_one t h = ap symbols (whole 1 t h)
-
-pub symbols_two : (t : List ℕ) → length t ≡ 2 →
-    symbols t ≡ (get_or t 0 0 / 8) ∷ (get_or t 0 0 % 8 * 4 + get_or t 1 0 / 64) ∷ (get_or t 1 0 / 2 % 32) ∷ (get_or t 1 0 % 2 * 16) ∷ []
-unfolding symbols
-symbols_two t h = ap symbols (whole 2 t h)
-
-pub symbols_three : (t : List ℕ) → length t ≡ 3 →
-    symbols t ≡
-    (get_or t 0 0 / 8) ∷ (get_or t 0 0 % 8 * 4 + get_or t 1 0 / 64) ∷ (get_or t 1 0 / 2 % 32) ∷ (get_or t 1 0 % 2 * 16 + get_or t 2 0 / 16) ∷
-    (get_or t 2 0 % 16 * 2) ∷ []
-unfolding symbols
-symbols_three t h = ap symbols (whole 3 t h)
-
-pub symbols_four : (t : List ℕ) → length t ≡ 4 →
-    symbols t ≡
-    (get_or t 0 0 / 8) ∷ (get_or t 0 0 % 8 * 4 + get_or t 1 0 / 64) ∷ (get_or t 1 0 / 2 % 32) ∷ (get_or t 1 0 % 2 * 16 + get_or t 2 0 / 16) ∷
-    (get_or t 2 0 % 16 * 2 + get_or t 3 0 / 128) ∷ (get_or t 3 0 / 4 % 32) ∷ (get_or t 3 0 % 4 * 8) ∷ []
-unfolding symbols
-symbols_four t h = ap symbols (whole 4 t h)
-
+-- the symbols of five bytes
 pub symbols_five : (t : List ℕ) → length t ≡ 5 →
     symbols t ≡
     (get_or t 0 0 / 8) ∷ (get_or t 0 0 % 8 * 4 + get_or t 1 0 / 64) ∷ (get_or t 1 0 / 2 % 32) ∷ (get_or t 1 0 % 2 * 16 + get_or t 2 0 / 16) ∷
@@ -196,22 +164,23 @@ module _ (g j : ℕ) (F : List ℕ → List ℕ) (append : (n : ℕ) (s t : List
       put_rest (j * i) o part ∙ rw (p, part_rest (j * i) o) (overwrite_part o o₀ (F (take k t)) (F (take n (drop k t))) (j * i) e (size i (take k t) a) ∙ rw d)
 
   -- one group more
-  turn : (t o o₀ part : List ℕ) (i : ℕ) → g * i + g ≤ length t → o ≡ F (take (g * i) t) ++ drop (j * i) o₀ →
-      part ≡ F (take (g * i + g - g * i) (drop (g * i) t)) ++ drop j (take (length o - j * i) (drop (j * i) o)) →
+  turn : (t o o₀ part group : List ℕ) (i : ℕ) → group ≡ take g (drop (g * i) t) → g * i + g ≤ length t → o ≡ F (take (g * i) t) ++ drop (j * i) o₀ →
+      part ≡ F group ++ drop j (take (length o - j * i) (drop (j * i) o)) →
       take (j * i) o ++ (part ++ drop (length o - j * i) (drop (j * i) o)) ≡ F (take (g * (i + 1)) t) ++ drop (j * (i + 1)) o₀
-  turn t o o₀ part i h e p =
-      let s : g * i + g - g * i ≡ g = omega arith in
+  turn t o o₀ part group i q h e p =
       let m : g * (i + 1) ≡ g * i + g = omega arith in
       let a : length (take g (drop (g * i) t)) ≡ g * 1 = simp (length-take, length-drop) (omega arith) in
       let b : length (F (take g (drop (g * i) t))) ≡ j = size 1 (take g (drop (g * i) t)) a ∙ omega arith in
       let c : length (take (g * i + g) t) ≡ g * (i + 1) = length-take-le (g * i + g) t h ∙ sym m in
-      more t o o₀ part i g (omega arith) e (p ∙ rw (s, b)) ∙ rw (size (i + 1) (take (g * i + g) t) c, m)
+      more t o o₀ part i g (omega arith) e (p ∙ rw (q, b)) ∙ rw (size (i + 1) (take (g * i + g) t) c, m)
 
   -- the whole, where what is left was written behind n groups
-  ended : (t o o₀ part : List ℕ) (n : ℕ) → g * n ≤ length t → o ≡ F (take (g * n) t) ++ drop (j * n) o₀ →
-      part ≡ F (take (length t - g * n) (drop (g * n) t)) ++ drop (length (F (take (length t - g * n) (drop (g * n) t)))) (take (length o - j * n) (drop (j * n) o)) →
+  ended : (t o o₀ part rest : List ℕ) (n : ℕ) → rest ≡ drop (g * n) t → g * n ≤ length t → o ≡ F (take (g * n) t) ++ drop (j * n) o₀ →
+      part ≡ F rest ++ drop (length (F rest)) (take (length o - j * n) (drop (j * n) o)) →
       take (j * n) o ++ (part ++ drop (length o - j * n) (drop (j * n) o)) ≡ F t ++ drop (length (F t)) o₀
-  ended t o o₀ part n h e p = more t o o₀ part n (length t - g * n) h e p ∙ rw (take_all (g * n + (length t - g * n)) t (omega arith))
+  ended t o o₀ part rest n q h e p =
+      let r : rest ≡ take (length t - g * n) (drop (g * n) t) = rw (take_all (length t - g * n) (drop (g * n) t) (simp length-drop (omega arith))) q in
+      more t o o₀ part n (length t - g * n) h e (rw r at p) ∙ rw (take_all (g * n + (length t - g * n)) t (omega arith))
 
 -- eight characters make five bytes: a group more, and what is left
 module _ (f : ℕ → ℕ) where
@@ -222,13 +191,13 @@ module _ (f : ℕ → ℕ) where
   mapped_size : (n : ℕ) (s : List ℕ) → length s ≡ 8 * n → length (bytes (map f s)) ≡ 5 * n
   mapped_size n s h = bytes_length (map f s) ∙ rw (length-map s f, h) (omega arith)
 
-  pub bytes_turn : (t o o₀ part : List ℕ) (i : ℕ) → 8 * i + 8 ≤ length t → o ≡ bytes (map f (take (8 * i) t)) ++ drop (5 * i) o₀ →
-      part ≡ bytes (map f (take (8 * i + 8 - 8 * i) (drop (8 * i) t))) ++ drop 5 (take (length o - 5 * i) (drop (5 * i) o)) →
+  pub bytes_turn : (t o o₀ part group : List ℕ) (i : ℕ) → group ≡ take 8 (drop (8 * i) t) → 8 * i + 8 ≤ length t → o ≡ bytes (map f (take (8 * i) t)) ++ drop (5 * i) o₀ →
+      part ≡ bytes (map f group) ++ drop 5 (take (length o - 5 * i) (drop (5 * i) o)) →
       take (5 * i) o ++ (part ++ drop (length o - 5 * i) (drop (5 * i) o)) ≡ bytes (map f (take (8 * (i + 1)) t)) ++ drop (5 * (i + 1)) o₀
   bytes_turn = turn 8 5 (λ t. bytes (map f t)) mapped_append mapped_size
 
-  pub bytes_ended : (t o o₀ part : List ℕ) (n : ℕ) → 8 * n ≤ length t → o ≡ bytes (map f (take (8 * n) t)) ++ drop (5 * n) o₀ →
-      part ≡ bytes (map f (take (length t - 8 * n) (drop (8 * n) t))) ++ drop (length (bytes (map f (take (length t - 8 * n) (drop (8 * n) t))))) (take (length o - 5 * n) (drop (5 * n) o)) →
+  pub bytes_ended : (t o o₀ part rest : List ℕ) (n : ℕ) → rest ≡ drop (8 * n) t → 8 * n ≤ length t → o ≡ bytes (map f (take (8 * n) t)) ++ drop (5 * n) o₀ →
+      part ≡ bytes (map f rest) ++ drop (length (bytes (map f rest))) (take (length o - 5 * n) (drop (5 * n) o)) →
       take (5 * n) o ++ (part ++ drop (length o - 5 * n) (drop (5 * n) o)) ≡ bytes (map f t) ++ drop (length (bytes (map f t))) o₀
   bytes_ended = ended 8 5 (λ t. bytes (map f t)) mapped_append mapped_size
 
@@ -236,12 +205,12 @@ module _ (f : ℕ → ℕ) where
 symbols_size_lem : (n : ℕ) (s : List ℕ) → length s ≡ 5 * n → length (symbols s) ≡ 8 * n
 symbols_size_lem n s h = symbols_length s ∙ rw h (omega arith)
 
-pub symbols_turn : (t o o₀ part : List ℕ) (i : ℕ) → 5 * i + 5 ≤ length t → o ≡ symbols (take (5 * i) t) ++ drop (8 * i) o₀ →
-    part ≡ symbols (take (5 * i + 5 - 5 * i) (drop (5 * i) t)) ++ drop 8 (take (length o - 8 * i) (drop (8 * i) o)) →
+pub symbols_turn : (t o o₀ part group : List ℕ) (i : ℕ) → group ≡ take 5 (drop (5 * i) t) → 5 * i + 5 ≤ length t → o ≡ symbols (take (5 * i) t) ++ drop (8 * i) o₀ →
+    part ≡ symbols group ++ drop 8 (take (length o - 8 * i) (drop (8 * i) o)) →
     take (8 * i) o ++ (part ++ drop (length o - 8 * i) (drop (8 * i) o)) ≡ symbols (take (5 * (i + 1)) t) ++ drop (8 * (i + 1)) o₀
 symbols_turn = turn 5 8 symbols symbols_append symbols_size_lem
 
-pub symbols_ended : (t o o₀ part : List ℕ) (n : ℕ) → 5 * n ≤ length t → o ≡ symbols (take (5 * n) t) ++ drop (8 * n) o₀ →
-    part ≡ symbols (take (length t - 5 * n) (drop (5 * n) t)) ++ drop (length (symbols (take (length t - 5 * n) (drop (5 * n) t)))) (take (length o - 8 * n) (drop (8 * n) o)) →
+pub symbols_ended : (t o o₀ part rest : List ℕ) (n : ℕ) → rest ≡ drop (5 * n) t → 5 * n ≤ length t → o ≡ symbols (take (5 * n) t) ++ drop (8 * n) o₀ →
+    part ≡ symbols rest ++ drop (length (symbols rest)) (take (length o - 8 * n) (drop (8 * n) o)) →
     take (8 * n) o ++ (part ++ drop (length o - 8 * n) (drop (8 * n) o)) ≡ symbols t ++ drop (length (symbols t)) o₀
 symbols_ended = ended 5 8 symbols symbols_append symbols_size_lem

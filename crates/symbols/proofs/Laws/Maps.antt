@@ -6,7 +6,10 @@ use mathlib.Core.List.{List, [], ◌∷◌, map}
 use lib.ListN.{length, take, drop, get_or}
 use native.Mathlib.Omega.{arith}
 use Rattle.refusal.specs.Pick.{pick}
+use Rattle.std.specs.List.{prefix_len, take_while}
+use Rattle.std.proofs.lemmas.List.Folds.{length-prefix_len}
 use Rattle.refusal.specs.Run.{run}
+use Rattle.refusal.proofs.Laws.Booleans.{cases}
 use Rattle.refusal.proofs.Laws.Lists.{drop_one}
 
 pub map_id : (l : List ℕ) → map (λ b. b) l ≡ l
@@ -54,3 +57,12 @@ module _ (f g : ℕ → ℕ) (agree : (b : ℕ) → b < 256 → f b ≡ g b) whe
   pub map_part : (n m : ℕ) (l : List ℕ) → ((i : ℕ) → get_or l i 0 < 256) → map f (take n (drop m l)) ≡ map g (take n (drop m l))
   map_part n m l h =
       sym (map_take f n (drop m l)) ∙ ap (take n) (sym (map_drop f m l) ∙ ap (drop m) (map_bytes l h) ∙ map_drop g m l) ∙ map_take g n (drop m l)
+
+-- the front that a class takes is its run
+prefix_run : (class : ℕ → Bool) (l : List ℕ) → prefix_len class l ≡ run class l
+unfolding run
+prefix_run class [] = refl
+prefix_run class (b ∷ l) = cases (class b) (λ e. rw e (omega (arith, prefix_run class l))) (λ e. rw e)
+
+pub run_taken : (class : ℕ → Bool) (l : List ℕ) → length (take_while class l) ≡ run class l
+run_taken class l = length-prefix_len class l ∙ prefix_run class l

@@ -18,9 +18,6 @@ module _ (t : Table) (n : ℕ) where
   pub find_none : t.count ≤ n → nothing ≡ found t n
   find_none h = rw (le-ltb n t.count h)
 
-  pub find_beyond : n < t.count → t.width ≤ n → nothing ≡ found t n
-  find_beyond h g = rw (lt-ltb n t.count h, le-ltb n t.width g)
-
   pub find_there : n < t.count → n < t.width → entry (get_or t.slots n empty) ≡ found t n
   find_there h g = rw (lt-ltb n t.count h, lt-ltb n t.width g)
 
@@ -29,12 +26,6 @@ module _ (t : Table) (n : ℕ) where
 -- what lies behind a buffer's end
 pub nothing_left : (b : List ℕ) → take (length b - length b) (drop (length b) b) ≡ []
 nothing_left b = ap (take (length b - length b)) (drop_of_length-le b {i = length b} (omega arith)) ∙ take-nil (length b - length b)
-
-pub part_short : (start n : ℕ) (b : List ℕ) → length b < start + n → take (length b - length b) (drop (length b) b) ≡ part_of start n b
-part_short start n b h = nothing_left b ∙ rw (lt-leb (start + n) (length b) h)
-
-pub part_there : (start n : ℕ) (b : List ℕ) → start + n ≤ length b → take (start + n - start) (drop start b) ≡ part_of start n b
-part_there start n b h = let e : start + n - start ≡ n = omega arith in rw (le-leb (start + n) (length b) h) (ap (λ k. take k (drop start b)) e)
 
 -- ---- of a table that an opening and calls can reach
 

@@ -4,13 +4,12 @@ use mathlib.Core.Path.{◌≡◌, refl, sym, ap, ◌∙◌}
 use mathlib.Core.Bool.{true, ◌||◌}
 use mathlib.Core.List.{List, [], ◌∷◌, map}
 use lib.Dec.{leb}
-use lib.ListN.{length, take, drop, set, get_or, length-drop, length-take, length-map, get_or-map, get_or-eq_default}
-use lib.Seq.{drop-set-add, drop-set-lt, take-set-lt, take-set-le, get_or-take, get_or-drop}
+use lib.ListN.{take, drop, set}
+use lib.Seq.{drop-set-add, drop-set-lt, take-set-lt, take-set-le}
 use native.Mathlib.Omega.{arith}
 use borrow.Author.Tests.{leb-true}
 use Rattle.refusal.proofs.Laws.Booleans.{cases}
 use Rattle.tables.specs.Slots.{are_apart, entry_of, slots_of}
-use Rattle.tables.specs.Tables.{empty}
 use Rattle.tables.specs.declared.slots.Span.{Span}
 
 map_set : (l : List (List ℕ)) (i : ℕ) (v : List ℕ) → map entry_of (set l i v) ≡ set (map entry_of l) i (entry_of v)
@@ -19,34 +18,6 @@ map_set (x ∷ xs) zero v = refl
 map_set (x ∷ xs) (suc i) v = ap (λ r. entry_of x ∷ r) (map_set xs i v)
 
 module _ (h : Span) (xs : List (List ℕ)) where
-  -- the entry of a number
-  pub slot_at : (n : ℕ) → n < h.width → entry_of (get_or xs (h.first + n) []) ≡ get_or (slots_of h xs) n empty
-  slot_at n l =
-      sym (get_or-map entry_of (take h.width (drop h.first xs)) n []
-      ∙ ap entry_of (get_or-take h.width (drop h.first xs) n [] l ∙ get_or-drop h.first xs n []))
-
-  -- how many there are
-  pub slots_length : length (slots_of h xs) ≡ length (take h.width (drop h.first xs))
-  slots_length = length-map (take h.width (drop h.first xs)) entry_of
-
-  -- none beyond the last
-  pub slot_none : (n : ℕ) → length (slots_of h xs) ≤ n → get_or (slots_of h xs) n empty ≡ empty
-  slot_none n l = get_or-eq_default (slots_of h xs) empty l
-
-  -- none where the array ends before the span; as many as there are behind its start; or all
-  pub slots_before : length xs < h.first → 0 ≡ length (slots_of h xs)
-  slots_before l = let d = length-drop h.first xs in let k = length-take h.width (drop h.first xs) in omega (arith, slots_length, d, k)
-
-  pub slots_behind : h.first ≤ length xs → length xs - h.first < h.width → length xs - h.first ≡ length (slots_of h xs)
-  slots_behind f l = let d = length-drop h.first xs in let k = length-take h.width (drop h.first xs) in omega (arith, slots_length, d, k)
-
-  pub slots_all : h.first ≤ length xs → h.width ≤ length xs - h.first → h.width ≡ length (slots_of h xs)
-  slots_all f l = let d = length-drop h.first xs in let k = length-take h.width (drop h.first xs) in omega (arith, slots_length, d, k)
-
-  -- a number that is there
-  pub slot_there : (n : ℕ) → n < length (slots_of h xs) → (n < h.width) × (h.first + n < length xs)
-  slot_there n l = let d = length-drop h.first xs in let k = length-take h.width (drop h.first xs) in (omega (arith, slots_length, d, k), omega (arith, slots_length, d, k))
-
   -- one put in
   pub slot_set : (n : ℕ) (v : List ℕ) → n < h.width → slots_of h (set xs (h.first + n) v) ≡ set (slots_of h xs) n (entry_of v)
   slot_set n v l =

@@ -1,35 +1,19 @@
 -- Tables: one entry more, once for every kind.
 use Prim.Native.Nat.{ℕ, suc, ◌+◌, ◌-◌, ◌<◌, ◌≤◌}
 use mathlib.Core.Path.{◌≡◌, refl, sym, ap, ap₂, ◌∙◌, subst}
-use mathlib.Core.Bool.{true, false, ◌&&◌}
+use mathlib.Core.Bool.{true, false}
 use mathlib.Core.List.{List, [], ◌∷◌, ◌++◌, map, map-append, append_assoc}
 use lib.Dec.{ltb, leb}
 use lib.ListN.{length, take, drop, set, replicate, length-drop, length-set, length-replicate, length-map}
 use lib.Seq.{length-take-le, take-append-le, drop-append-le, take-suc-set, drop_at, take-take, drop-drop, drop-set-lt, take-append_seam}
 use native.Mathlib.Nat.{sub-zero}
 use native.Mathlib.Omega.{arith}
-use borrow.Author.Tests.{ltb-true, leb-true, leb-false, lt-ltb, le-ltb, le-leb, lt-leb}
+use borrow.Author.Tests.{ltb-true, leb-true}
 use Rattle.refusal.specs.Pick.{pick}
-use Rattle.refusal.proofs.Laws.Booleans.{and_true, and_false_right, cases}
+use Rattle.refusal.proofs.Laws.Booleans.{and_true, cases}
 use Rattle.refusal.proofs.Laws.Lists.{drop_take}
 use Rattle.tables.specs.Tables.{Table, empty, opened, fits, storing, appended, entered, row_of, view, placed, kept}
 use Rattle.tables.specs.declared.slots.Entry.{Entry}
-
--- ---- whether a command fits, by the tests of the code
-
-module _ (count width used n capacity : ℕ) where
-  pub no_slot : width ≤ count → false ≡ (ltb count width && leb (used + n) capacity)
-  no_slot h = rw (le-ltb count width h)
-
-  pub no_capacity : capacity < used + n → false ≡ (ltb count width && leb (used + n) capacity)
-  no_capacity h = sym (ap (λ b. ltb count width && b) (lt-leb (used + n) capacity h) ∙ and_false_right (ltb count width))
-
-  pub space_is : count < width → used ≤ capacity → leb n (capacity - used) ≡ (ltb count width && leb (used + n) capacity)
-  space_is h g =
-      rw (lt-ltb count width h)
-      (cases (leb n (capacity - used))
-      (λ e. let l = leb-true n (capacity - used) e in e ∙ sym (le-leb (used + n) capacity (omega arith)))
-      (λ e. let l = leb-false n (capacity - used) e in e ∙ sym (lt-leb (used + n) capacity (omega arith))))
 
 -- ---- what storing comes to
 
@@ -38,16 +22,9 @@ module _ (t : Table) (n capacity late : ℕ) where
   pub storing_full : fits t n capacity ≡ false → 8 ≡ storing t n capacity late
   storing_full f = rw f
 
-  pub storing_late : fits t n capacity ≡ true → late ≡ storing t n capacity late
-  storing_late f = rw f
-
   -- nothing is refused only if it fits
   pub storing_fits : storing t n capacity late ≡ 0 → fits t n capacity ≡ true
   storing_fits z = cases (fits t n capacity) (λ f. f) (λ f. absurd (let e = storing_full f in omega (arith, e, z)))
-
-  -- and then the payload lies within the buffer
-  pub storing_within : storing t n capacity late ≡ 0 → t.used + n ≤ capacity
-  storing_within z = leb-true (t.used + n) capacity (and_true (ltb t.count t.width) (leb (t.used + n) capacity) (storing_fits z)).1
 
 -- ---- tables that an opening and calls can reach: entries one behind the other, the rest of the slots as opened
 

@@ -3,9 +3,6 @@ use Rattle.refusal.proofs.Laws.Below.{tabulated_at}
 use Rattle.symbols.specs.Charset.{character_of, upper, is_lower}
 use Rattle.bech32.proofs.charset.characters.Goals as goal
 
-pub returns-in-Recipient : goal.returns-in-Recipient
-returns-in-Recipient c = rw c.in-Recipient.is (tabulated_at character_of 32)
-
 pub returns-in-Identity : goal.returns-in-Identity
 unfolding upper is_lower
 returns-in-Identity c = rw c.in-Identity.is (tabulated_at (λ v. upper (character_of v)) 32)

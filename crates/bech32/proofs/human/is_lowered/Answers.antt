@@ -1,40 +1,29 @@
--- `is_lowered` meets its contract. Invariant: the texts are the same exactly if what stands from i on is.
-use mathlib.Core.Path.{refl, sym, ◌∙◌}
+-- Texts of one length are compared byte by byte.
+use Prim.Native.Nat.{ℕ}
+use mathlib.Core.Path.{◌≡◌, sym, ◌∙◌}
+use mathlib.Core.Bool.{Bool}
 use mathlib.Core.List.{map}
-use lib.ListN.{get_or, length-map, drop_of_length-le}
-use native.Mathlib.Omega.{arith}
+use lib.Dec.{eqb}
+use lib.ListN.{length, length-map}
 use borrow.Author.Rules.{rules}
-use borrow.Author.Tests.{eq-eqb, ne_eqb}
-use Rattle.refusal.specs.Same.{same}
+use borrow.Author.Tests.{tests, ne_eqb}
+use Rattle.std.specs.List.{list_all, zip}
+use Rattle.std.proofs.lemmas.Iterator.{YieldsList-from_slice, YieldsList-from_zip}
+use Rattle.std.proofs.lemmas.Iterator.Search.{all_from_yields_List}
 use Rattle.refusal.proofs.Laws.Same.{same_length}
 use Rattle.symbols.specs.Charset.{lower}
-use Rattle.bech32.proofs.Laws.Human.{lower_same_one}
+use Rattle.bech32.proofs.Laws.Human.{same_zipped}
 use Rattle.bech32.proofs.human.is_lowered.Goals as goal
 
-pub returns-then-n-word : goal.returns-then-n-word
-returns-then-n-word c = let t = c.args.text.now in
-    sym (same_length (map lower t) c.args.word.now (λ q. omega (arith, q, length-map t lower)))
-
-pub loop-i-init : goal.loop-i-init
-loop-i-init c = (search rules, refl)
-
-pub returns-then-lowered-word : goal.returns-then-lowered-word
-returns-then-lowered-word c = let t = c.args.text.now in
+pub returns-then-text-word : goal.returns-then-text-word
+returns-then-text-word c = let t = c.args.text.now in
     let w = c.args.word.now in
-    let i = c.loop-i.i in
-    sym (c.loop-i.invariant.1 ∙ lower_same_one t w i (omega arith) (omega arith) ∙ rw (ne_eqb (lower (get_or t i 0)) (get_or w i 0) (λ q. omega arith)))
+    let test : ℕ × ℕ → Bool = λ p. eqb (lower p.0) p.1 in
+    let e : c.all.result ≡ list_all test (zip t w) =
+    all_from_yields_List test c.all.new.self _ c.all.result c.all.ensures.ran (YieldsList-from_zip (YieldsList-from_slice t cc) (YieldsList-from_slice w cc)) (λ x b q k. search (rules, tests)) in
+    e ∙ same_zipped t w c.if-text-word.true
 
-pub loop-i-preserved : goal.loop-i-preserved
-loop-i-preserved c = let t = c.args.text.now in
+pub returns-else-text-word : goal.returns-else-text-word
+returns-else-text-word c = let t = c.args.text.now in
     let w = c.args.word.now in
-    let i = c.loop-i.i in (
-      search rules,
-      c.loop-i.invariant.1 ∙ lower_same_one t w i (omega arith) (omega arith) ∙ rw (eq-eqb (lower (get_or t i 0)) (get_or w i 0) (omega arith)),
-    )
-
-pub returns : goal.returns
-unfolding same
-returns c = let t = c.args.text.now in
-    let w = c.args.word.now in
-    let i = c.loop-i.i in
-    sym (c.loop-i.invariant.1 ∙ rw (drop_of_length-le t {i = i} (omega arith), drop_of_length-le w {i = i} (omega arith)))
+    ne_eqb (length t) (length w) c.if-text-word.false ∙ sym (same_length (map lower t) w (λ q. c.if-text-word.false (sym (length-map t lower) ∙ q)))

@@ -1,18 +1,18 @@
--- `is_name` meets its contract.
-use lib.ListN.{length}
+-- By the length, and byte by byte.
+use mathlib.Core.Path.{sym, ◌∙◌}
 use native.Mathlib.Omega.{arith}
-use borrow.Author.Tests.{le-leb, lt-leb}
+use lib.ListN.{length}
+use borrow.Author.Tests.{le-leb, eqb-false}
+use Rattle.std.proofs.lemmas.Bool.Decides.{nat_tests}
 use Rattle.bech32.specs.Text.{is_name}
 use Rattle.bech32.proofs.human.is_name.Goals as goal
 
-pub returns-then-text-eq0 : goal.returns-then-text-eq0
+pub returns-then-is_empty : goal.returns-then-is_empty
 unfolding is_name
-returns-then-text-eq0 c = rw (lt-leb 1 (length c.args.text.now) (omega arith))
-
-pub returns-then-text-gt-LONGEST_NAME : goal.returns-then-text-gt-LONGEST_NAME
-unfolding is_name
-returns-then-text-gt-LONGEST_NAME c = rw (le-leb 1 (length c.args.text.now) (omega arith), lt-leb (length c.args.text.now) 32 (omega arith))
+returns-then-is_empty c = grind (arith, nat_tests)
 
 pub returns : goal.returns
 unfolding is_name
-returns c = rw (le-leb 1 (length c.args.text.now) (omega arith), le-leb (length c.args.text.now) 32 (omega arith)) c.are_name_bytes.ensures
+returns c = let t = c.args.text.now in
+    let n = eqb-false (length t) 0 (sym c.is_empty.ensures ∙ c.if-is_empty.false) in
+    rw (le-leb 1 (length t) (omega arith), le-leb (length t) 32 c.if-text-gt-LONGEST_NAME.false) c.are_name_bytes.ensures

@@ -1,39 +1,35 @@
--- `lower_name` meets its contract. Invariant: the first i bytes in lower case stand at the front, zeros behind them.
-use mathlib.Core.Path.{◌≡◌, refl, sym, ap, ◌∙◌}
-use mathlib.Core.List.{[], map}
-use lib.ListN.{length, length-map, length-set}
+-- A text that is too long is no name, and zeros are no letters.
+use mathlib.Core.Path.{◌≡◌, sym, ap, ◌∙◌}
+use mathlib.Core.Bool.{true, false}
+use mathlib.Core.List.{map}
+use lib.ListN.{length, length-map}
 use native.Mathlib.Omega.{arith}
-use borrow.Author.Rules.{rules}
-use borrow.Author.Tests.{le-leb, lt-leb}
+use Rattle.std.specs.Char.{to_ascii_lowercase}
 use Rattle.symbols.specs.Charset.{lower}
-use Rattle.bech32.specs.Calls.{padded}
-use Rattle.bech32.specs.Steps.{shortened}
-use Rattle.bech32.proofs.Laws.Human.{map_store, map_whole, over_zeros}
+use Rattle.bech32.specs.Text.{is_name}
+use Rattle.bech32.specs.Calls.{padded, given_name}
+use Rattle.bech32.proofs.Laws.Human.{padded_front, lower_padded, given_long, name_some}
 use Rattle.bech32.proofs.human.lower_name.Goals as goal
 
-pub returns-then-n-gt-LONGEST_NAME : goal.returns-then-n-gt-LONGEST_NAME
-returns-then-n-gt-LONGEST_NAME c = let t = map lower c.args.text.now in
-    let z : shortened t ≡ [] = rw (lt-leb (length t) 32 (omega (arith, length-map c.args.text.now lower))) in
-    record {
-      bytes = c.nameless.ensures.bytes ∙ ap padded (sym z);
-      length = c.nameless.ensures.length ∙ ap length (sym z);
-    }
+pub returns-in_err-name : goal.returns-in_err-name
+returns-in_err-name c = let t = c.args.text.now in
+    let l = c.in_err-name.ensures in
+    rw c.from_residual.ensures (given_long (map lower t) (omega (arith, length-map t lower)))
 
-pub loop-i-init : goal.loop-i-init
-loop-i-init c = (search rules, refl, refl)
-
-pub loop-i-preserved : goal.loop-i-preserved
-loop-i-preserved c = (
-  search rules,
-  simp length-set c.loop-i.invariant.1,
-  map_store lower c.args.text.now c.loop-i.bytes _ c.loop-i.i c.lowered.result c.loop-i.invariant.2 c.loop-i-test.true (omega arith) c.lowered.ensures,
-)
+pub returns-then-not-is_name : goal.returns-then-not-is_name
+returns-then-not-is_name c = let t = c.args.text.now in
+    let w = map lower t in
+    let e = c.in_ok-name.ensures in
+    let p : c.make_ascii_lowercase.new.self ≡ padded w = c.make_ascii_lowercase.ensures.after ∙ ap (map to_ascii_lowercase) e.0 ∙ lower_padded t in
+    let v : is_name w ≡ false = ap is_name (sym (padded_front w _ _ p (e.1 ∙ sym (length-map t lower)))) ∙ sym c.is_name.ensures ∙ c.if-not-is_name.true in
+    rw v
 
 pub returns : goal.returns
 returns c = let t = c.args.text.now in
-    let z : shortened (map lower t) ≡ map lower t = rw (le-leb (length (map lower t)) 32 (omega (arith, length-map t lower))) in
-    let e = map_whole lower t c.loop-i.bytes _ c.loop-i.i c.loop-i.invariant.2 (omega arith) in
-    record {
-      bytes = over_zeros (map lower t) c.loop-i.bytes (length t) e (sym (length-map t lower)) ∙ ap padded (sym z);
-      length = sym (length-map t lower) ∙ ap length (sym z);
-    }
+    let w = map lower t in
+    let e = c.in_ok-name.ensures in
+    let p : c.make_ascii_lowercase.new.self ≡ padded w = c.make_ascii_lowercase.ensures.after ∙ ap (map to_ascii_lowercase) e.0 ∙ lower_padded t in
+    let q : c.in_ok-name.name.length ≡ length w = e.1 ∙ sym (length-map t lower) in
+    let v : is_name w ≡ true = ap is_name (sym (padded_front w _ _ p q)) ∙ sym c.is_name.ensures ∙ c.if-not-is_name.false in
+    let z : given_name w ≡ w = rw v in
+    ((p ∙ ap padded (sym z), q ∙ ap length (sym z)), λ n. name_some w v (sym (ap length z) ∙ n))

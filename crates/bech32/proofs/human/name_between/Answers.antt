@@ -1,111 +1,45 @@
--- `name_between` meets its contract.
+-- By the tests of front, back, and what is between.
 use Prim.Native.Nat.{◌-◌}
-use mathlib.Core.Path.{◌≡◌, sym, ap, ◌∙◌}
-use mathlib.Core.Bool.{true, false}
-use mathlib.Core.List.{[], map}
+use mathlib.Core.Path.{◌≡◌, sym, ap, ap₂, ◌∙◌}
+use mathlib.Core.Bool.{true, false, ◌&&◌}
+use mathlib.Core.List.{map}
 use lib.ListN.{length, take, drop}
-use lib.Seq.{length-take-le}
+use lib.Seq.{drop-drop}
 use native.Mathlib.Omega.{arith}
-use borrow.Author.Tests.{not-true, not-false}
 use Rattle.refusal.specs.Same.{same}
-use Rattle.refusal.proofs.Laws.Lists.{part_rest}
 use Rattle.symbols.specs.Charset.{lower}
-use Rattle.bech32.specs.Text.{is_name}
-use Rattle.bech32.specs.Calls.{padded}
-use Rattle.bech32.specs.Steps.{shortened, between, name_between}
-use Rattle.bech32.proofs.Laws.Human.{padded_front, padded_fits, name_short, name_is}
+use Rattle.bech32.specs.Calls.{given_name}
+use Rattle.bech32.specs.Steps.{name_between}
+use Rattle.bech32.proofs.Laws.Human.{name_is}
 use Rattle.bech32.proofs.human.name_between.Goals as goal
-
-pub returns-then-n-f : goal.returns-then-n-f
-returns-then-n-f c = let f = c.args.front.now in
-    let b = c.args.back.now in
-    let h = c.args.human.now in
-    let z = name_short f b h (omega arith) in
-    record {
-      bytes = c.nameless.ensures.bytes ∙ ap padded (sym z);
-      length = c.nameless.ensures.length ∙ ap length (sym z);
-    }
-
-pub returns-then-n-f-2 : goal.returns-then-n-f-2
-returns-then-n-f-2 c = let f = c.args.front.now in
-    let b = c.args.back.now in
-    let h = c.args.human.now in
-    let z = name_short f b h (omega arith) in
-    record {
-      bytes = c.nameless-then-n-f-2.ensures.bytes ∙ ap padded (sym z);
-      length = c.nameless-then-n-f-2.ensures.length ∙ ap length (sym z);
-    }
-
-pub slice_bounds-is_lowered-end : goal.slice_bounds-is_lowered-end
-slice_bounds-is_lowered-end c = sym (length-take-le (length c.args.front.now) c.args.human.now (omega arith))
+use Rattle.bech32.proofs.human.name_between.Goals.{then-not-is_lowered-via-then-not-is_lowered, then-not-is_lowered-via-else-not-is_lowered+then-not-is_lowered-2}
 
 pub returns-then-not-is_lowered : goal.returns-then-not-is_lowered
 returns-then-not-is_lowered c = let f = c.args.front.now in
     let b = c.args.back.now in
     let h = c.args.human.now in
-    let t : same (map lower (take (length f) h)) f ≡ false = sym c.is_lowered.ensures ∙ not-true _ c.if-not-is_lowered.true-raw in
-    let z : name_between f b (map lower h) ≡ [] = name_is f b h (omega arith) ∙ rw t in
-    record {
-      bytes = c.nameless-then-not-is_lowered.ensures.bytes ∙ ap padded (sym z);
-      length = c.nameless-then-not-is_lowered.ensures.length ∙ ap length (sym z);
-    }
-
-pub returns-then-not-is_lowered-2 : goal.returns-then-not-is_lowered-2
-returns-then-not-is_lowered-2 c = let f = c.args.front.now in
-    let b = c.args.back.now in
-    let h = c.args.human.now in
-    let t : same (map lower (take (length f) h)) f ≡ true = sym c.is_lowered.ensures ∙ not-false _ c.if-not-is_lowered.false-raw in
-    let u : same (map lower (drop (length h - length b) h)) b ≡ false = rw (part_rest (length h - length b) h) at (sym c.is_lowered-2.ensures ∙ not-true _ c.if-not-is_lowered-2.true-raw) in
-    let z : name_between f b (map lower h) ≡ [] = name_is f b h (omega arith) ∙ rw (t, u) in
-    record {
-      bytes = c.nameless-then-not-is_lowered-2.ensures.bytes ∙ ap padded (sym z);
-      length = c.nameless-then-not-is_lowered-2.ensures.length ∙ ap length (sym z);
-    }
-
-pub slice_bounds-bytes-end : goal.slice_bounds-bytes-end
-slice_bounds-bytes-end c = let f = c.args.front.now in
-    let b = c.args.back.now in
-    let h = c.args.human.now in
-    let s = shortened (map lower (take (length h - length b - length f) (drop (length f) h))) in
-    padded_fits s _ _ c.lower_name-name.ensures.bytes c.lower_name-name.ensures.length
-
-pub slice_bounds-is_name-end : goal.slice_bounds-is_name-end
-slice_bounds-is_name-end c = let f = c.args.front.now in
-    let b = c.args.back.now in
-    let h = c.args.human.now in
-    let s = shortened (map lower (take (length h - length b - length f) (drop (length f) h))) in
-    sym (length-take-le _ _ (padded_fits s _ _ c.lower_name-name.ensures.bytes c.lower_name-name.ensures.length))
-
-pub returns-then-not-is_name : goal.returns-then-not-is_name
-returns-then-not-is_name c = let f = c.args.front.now in
-    let b = c.args.back.now in
-    let h = c.args.human.now in
-    let s = shortened (map lower (between f b h)) in
-    let t : same (map lower (take (length f) h)) f ≡ true = sym c.is_lowered.ensures ∙ not-false _ c.if-not-is_lowered.false-raw in
-    let u : same (map lower (drop (length h - length b) h)) b ≡ true = rw (part_rest (length h - length b) h) at (sym c.is_lowered-2.ensures ∙ not-false _ c.if-not-is_lowered-2.false-raw) in
-    let n : length h - length b - length f ≡ length h - length f - length b = omega arith in
-    let p : c.lower_name-name.result.bytes ≡ padded s = rw n at c.lower_name-name.ensures.bytes in
-    let q : c.lower_name-name.result.length ≡ length s = rw n at c.lower_name-name.ensures.length in
-    let v : is_name s ≡ false = ap is_name (sym (padded_front s _ _ p q)) ∙ sym c.is_name.ensures ∙ not-true _ c.if-not-is_name.true-raw in
-    let z : name_between f b (map lower h) ≡ [] = name_is f b h (omega arith) ∙ rw (t, u, v) in
-    record {
-      bytes = c.nameless-then-not-is_name.ensures.bytes ∙ ap padded (sym z);
-      length = c.nameless-then-not-is_name.ensures.length ∙ ap length (sym z);
-    }
+    let x = c.in_ok-start.ensures.cases in
+    let y = c.in_ok-middle.ensures.cases in
+    let k : c.in_ok-checked_sub.field-0 ≡ length h - length f - length b = omega (arith, c.in_ok-checked_sub.ensures) in
+    let e : c.in_ok-middle.end.now ≡ drop (length h - length b) h = y.2 ∙ ap₂ drop k x.2 ∙ drop-drop (length h - length f - length b) (length f) h ∙ ap (λ n. drop n h) (omega (arith, c.in_ok-checked_sub.ensures)) in
+    let t : same (map lower (take (length f) h)) f ≡ c.is_lowered.result = sym (c.is_lowered.ensures ∙ ap (λ s. same (map lower s) f) x.1) in
+    let v : (same (map lower (take (length f) h)) f && same (map lower (drop (length h - length b) h)) b) ≡ false = elim c.then-not-is_lowered.branch [
+      | then-not-is_lowered-via-then-not-is_lowered w ↦ rw (t ∙ w.if-not-is_lowered.true)
+      | then-not-is_lowered-via-else-not-is_lowered+then-not-is_lowered-2 w ↦
+          rw (t ∙ w.if-not-is_lowered.false, sym (w.is_lowered-else-not-is_lowered.ensures ∙ ap (λ s. same (map lower s) b) e) ∙ w.if-not-is_lowered-2.true)
+    ] in
+    name_is f b h (omega (arith, c.in_ok-checked_sub.ensures)) ∙ rw v
 
 pub returns : goal.returns
 returns c = let f = c.args.front.now in
     let b = c.args.back.now in
     let h = c.args.human.now in
-    let s = shortened (map lower (between f b h)) in
-    let t : same (map lower (take (length f) h)) f ≡ true = sym c.is_lowered.ensures ∙ not-false _ c.if-not-is_lowered.false-raw in
-    let u : same (map lower (drop (length h - length b) h)) b ≡ true = rw (part_rest (length h - length b) h) at (sym c.is_lowered-2.ensures ∙ not-false _ c.if-not-is_lowered-2.false-raw) in
-    let n : length h - length b - length f ≡ length h - length f - length b = omega arith in
-    let p : c.lower_name-name.result.bytes ≡ padded s = rw n at c.lower_name-name.ensures.bytes in
-    let q : c.lower_name-name.result.length ≡ length s = rw n at c.lower_name-name.ensures.length in
-    let v : is_name s ≡ true = ap is_name (sym (padded_front s _ _ p q)) ∙ sym c.is_name.ensures ∙ not-false _ c.if-not-is_name.false-raw in
-    let z : name_between f b (map lower h) ≡ s = name_is f b h (omega arith) ∙ rw (t, u, v) in
-    record {
-      bytes = p ∙ ap padded (sym z);
-      length = q ∙ ap length (sym z);
-    }
+    let x = c.in_ok-start.ensures.cases in
+    let y = c.in_ok-middle.ensures.cases in
+    let k : c.in_ok-checked_sub.field-0 ≡ length h - length f - length b = omega (arith, c.in_ok-checked_sub.ensures) in
+    let e : c.in_ok-middle.end.now ≡ drop (length h - length b) h = y.2 ∙ ap₂ drop k x.2 ∙ drop-drop (length h - length f - length b) (length f) h ∙ ap (λ n. drop n h) (omega (arith, c.in_ok-checked_sub.ensures)) in
+    let t : same (map lower (take (length f) h)) f ≡ true = sym (c.is_lowered.ensures ∙ ap (λ s. same (map lower s) f) x.1) ∙ c.if-not-is_lowered.false in
+    let u : same (map lower (drop (length h - length b) h)) b ≡ true = sym (c.is_lowered-else-not-is_lowered.ensures ∙ ap (λ s. same (map lower s) b) e) ∙ c.if-not-is_lowered-2.false in
+    let z : name_between f b (map lower h) ≡ given_name (map lower c.in_ok-middle.middle.now) =
+    name_is f b h (omega (arith, c.in_ok-checked_sub.ensures)) ∙ rw (t, u) (ap (λ s. given_name (map lower s)) (sym (y.1 ∙ ap₂ take k x.2))) in
+    rw z c.lower_name.ensures

@@ -1,28 +1,26 @@
--- `name_of` meets its contract: a name is in lower case and short enough.
+-- A name is short enough.
 use mathlib.Core.Path.{◌≡◌, sym, ap, ◌∙◌}
-use mathlib.Core.Bool.{true}
-use mathlib.Core.List.{map}
+use mathlib.Core.List.{[]}
 use lib.ListN.{length}
-use borrow.Author.Tests.{not-true, not-false}
-use Rattle.symbols.specs.Charset.{lower}
-use Rattle.bech32.specs.Calls.{padded}
-use Rattle.bech32.specs.Steps.{shortened}
-use Rattle.bech32.specs.Text.{is_name}
-use Rattle.bech32.proofs.Laws.Human.{name_shortened}
-use Rattle.bech32.proofs.Laws.Text.{name_lowered}
+use Rattle.bech32.specs.Calls.{padded, given_name}
+use Rattle.bech32.proofs.Laws.Human.{given_long}
 use Rattle.bech32.proofs.human.name_of.Goals as goal
+use Rattle.bech32.proofs.human.name_of.Goals.{in_default-via-in-Some+else-is_name, in_default-via-in_default}
 
-pub returns-then-not-is_name : goal.returns-then-not-is_name
-returns-then-not-is_name c = record {
-  bytes = rw (sym c.is_name.ensures ∙ not-true _ c.if-not-is_name.true-raw) c.nameless.ensures.bytes;
-  length = rw (sym c.is_name.ensures ∙ not-true _ c.if-not-is_name.true-raw) c.nameless.ensures.length;
-}
-
-pub returns : goal.returns
-returns c = let t = c.args.text.now in
-    let h : is_name t ≡ true = sym c.is_name.ensures ∙ not-false _ c.if-not-is_name.false-raw in
-    let e : shortened (map lower t) ≡ t = ap shortened (name_lowered t h) ∙ name_shortened t h in
+pub returns-in_default : goal.returns-in_default
+returns-in_default c = let t = c.args.text.now in
+    let z : given_name t ≡ [] = elim c.in_default.branch [
+      | in_default-via-in-Some+else-is_name w ↦ rw (sym w.is_name.ensures ∙ w.if-is_name.false)
+      | in_default-via-in_default w ↦ given_long t w.in_default.ensures
+    ] in
     record {
-      bytes = rw h (c.lower_name.ensures.bytes ∙ ap padded e);
-      length = rw h (c.lower_name.ensures.length ∙ ap length e);
+      bytes = c.nameless.ensures.bytes ∙ ap padded (sym z);
+      length = c.nameless.ensures.length ∙ ap length (sym z);
+    }
+
+pub returns-in-Some : goal.returns-in-Some
+returns-in-Some c = let z : given_name c.args.text.now ≡ c.args.text.now = rw (sym c.is_name.ensures ∙ c.if-is_name.true) in
+    record {
+      bytes = c.in-Some.ensures.0 ∙ ap padded (sym z);
+      length = c.in-Some.ensures.1 ∙ ap length (sym z);
     }

@@ -1,19 +1,17 @@
--- `eight_without_one` meets its contract. Invariant: `good` says whether none of the first j bytes is a "1".
-use mathlib.Core.Path.{◌≡◌, refl, ◌∙◌}
-use native.Mathlib.Omega.{arith}
+-- The fold says whether no byte is a "1".
+use mathlib.Core.Path.{◌≡◌, ◌∙◌}
+use mathlib.Core.Bool.{true, ◌&&◌}
 use borrow.Author.Rules.{rules}
-use Rattle.refusal.specs.Run.{all}
-use Rattle.refusal.proofs.Laws.Run.{all_more}
+use borrow.Author.Tests.{tests}
+use Rattle.std.specs.List.{fold}
+use Rattle.std.proofs.lemmas.Iterator.{YieldsList-from_slice}
+use Rattle.std.proofs.lemmas.Iterator.Consumers.{fold_from_yields_List}
 use Rattle.bech32.specs.Text.{is_not_one}
+use Rattle.bech32.proofs.Laws.Parsing.{all_fold}
 use Rattle.bech32.proofs.parsing.eight_without_one.Goals as goal
 
-pub loop-j-init : goal.loop-j-init
-unfolding all
-loop-j-init c = (search rules, refl)
-
-pub loop-j-preserved : goal.loop-j-preserved
-loop-j-preserved c = (search rules, all_more is_not_one c.args.text.now c.args.at c.loop-j.j (omega arith) c.loop-j.invariant.1 refl)
-
 pub returns : goal.returns
-returns c = let e : c.loop-j.j ≡ 8 = omega arith in
-    c.loop-j.invariant.1 ∙ rw e
+returns c = let t = c.args.eight.now in
+    let e : c.fold.result ≡ fold (λ a b. a && is_not_one b) true t =
+    fold_from_yields_List _ (λ a b. a && is_not_one b) true c.fold.result c.fold.ensures.ran (YieldsList-from_slice t cc) (λ a x b q k. search (rules, tests)) in
+    e ∙ all_fold is_not_one t

@@ -1,20 +1,21 @@
--- `find_separator` meets its contract. Invariant of both loops: no "1" stands from i on.
-use Prim.Native.Nat.{◌≤◌}
+-- Invariant of both loops: the text is what is left and a back, and no "1" stands in the back.
+use Prim.Native.Nat.{ℕ}
 use mathlib.Core.Path.{◌≡◌}
 use mathlib.Core.Bool.{true}
-use lib.ListN.{length, drop}
+use mathlib.Core.List.{List, ◌++◌}
+use lib.ListN.{length}
 use Rattle.refusal.specs.Run.{all}
 use Rattle.bech32.specs.Text.{is_not_one}
 use Rattle.bech32.proofs.parsing.find_separator.Given as goal
 
-abbrev pub invariant-loop-i : goal.invariant-loop-i
-invariant-loop-i l = (l.i ≤ length l.text) × (all is_not_one (drop l.i l.text) ≡ true)
+abbrev pub invariant-loop-before : goal.invariant-loop-before
+invariant-loop-before l = (back : List ℕ) × (l.text ≡ l.front ++ back) × (all is_not_one back ≡ true)
 
-abbrev pub decreases-loop-i : goal.decreases-loop-i
-decreases-loop-i l = l.i
+abbrev pub decreases-loop-before : goal.decreases-loop-before
+decreases-loop-before l = length l.front
 
-abbrev pub invariant-loop-i-2 : goal.invariant-loop-i-2
-invariant-loop-i-2 l = (l.i ≤ length l.text) × (all is_not_one (drop l.i l.text) ≡ true)
+abbrev pub invariant-loop-last : goal.invariant-loop-last
+invariant-loop-last l = (back : List ℕ) × (l.text ≡ l.front ++ back) × (all is_not_one back ≡ true)
 
-abbrev pub decreases-loop-i-2 : goal.decreases-loop-i-2
-decreases-loop-i-2 l = l.i
+abbrev pub decreases-loop-last : goal.decreases-loop-last
+decreases-loop-last l = length l.front

@@ -1,27 +1,27 @@
 -- Without a name the text has not the form; with one the tail decides.
-use mathlib.Core.Path.{sym, ◌∙◌}
+use mathlib.Core.Path.{sym, ap, ◌∙◌}
+use lib.ListN.{length}
 use native.Mathlib.Omega.{arith}
 use Rattle.bech32.specs.Calls.{form_of}
+use Rattle.bech32.specs.Steps.{name_at}
+use Rattle.bech32.proofs.Laws.Human.{given_none, given_some}
 use Rattle.bech32.proofs.Laws.Parsing.{is_head, no_head, head_long, number_none, number_is}
 use Rattle.bech32.proofs.parsing.judge.Goals as goal
 
-pub returns-then-name-eq0 : goal.returns-then-name-eq0
-returns-then-name-eq0 c = let t = c.args.text.now in
+pub returns-then-is_none : goal.returns-then-is_none
+returns-then-is_none c = let t = c.of-text.result.text.now in
     let k = form_of c.args.kind in
-    c.number.ensures ∙ sym (number_none k t (no_head k t (sym c.name_at-name.ensures.length ∙ c.if-name-eq0.true)))
+    let n = given_none _ (name_at k t) c.name.ensures c.if-is_none.ensures in
+    rw (← c.of-text.ensures) (c.number.ensures ∙ sym (number_none k t (no_head k t (ap length n))))
 
 pub judge_tail-requires : goal.judge_tail-requires
-judge_tail-requires c = let t = c.args.text.now in
+judge_tail-requires c = let t = c.of-text.result.text.now in
     let k = form_of c.args.kind in
-    let e = is_head k t (λ z. c.if-name-eq0.false (c.name_at-name.ensures.length ∙ z)) in
-    record {
-      values = c.values-table.ensures;
-      at_value = c.find_separator-at.ensures;
-      at_in_bounds = omega (arith, c.find_separator-at.ensures, head_long k t e);
-    }
+    let e = is_head k t (given_some _ (name_at k t) c.name.ensures c.if-is_none.ensures) in
+    record { values = c.values.ensures; in_bounds = omega (arith, head_long k t e) }
 
 pub returns : goal.returns
-returns c = let t = c.args.text.now in
+returns c = let t = c.of-text.result.text.now in
     let k = form_of c.args.kind in
-    let e = is_head k t (λ z. c.if-name-eq0.false (c.name_at-name.ensures.length ∙ z)) in
-    c.verdict_number.ensures ∙ c.judge_tail.ensures ∙ sym (number_is k t e)
+    let e = is_head k t (given_some _ (name_at k t) c.name.ensures c.if-is_none.ensures) in
+    rw (← c.of-text.ensures) (c.verdict_number.ensures ∙ c.judge_tail.ensures ∙ sym (number_is k t e))

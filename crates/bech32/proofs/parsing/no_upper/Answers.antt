@@ -1,20 +1,17 @@
--- Invariant: `good` says whether none of the first i bytes is in upper case.
-use mathlib.Core.Path.{refl, ap, ◌∙◌}
-use mathlib.Core.Bool.{not}
-use native.Mathlib.Omega.{arith}
+-- The fold says whether no byte is in upper case.
+use mathlib.Core.Path.{◌≡◌, ◌∙◌}
+use mathlib.Core.Bool.{true, ◌&&◌, not}
 use borrow.Author.Rules.{rules}
-use lib.Seq.{take_all}
-use Rattle.refusal.specs.Run.{all}
-use Rattle.bech32.proofs.Laws.Parsing.{all_one}
+use borrow.Author.Tests.{tests}
+use Rattle.std.specs.List.{fold}
+use Rattle.std.proofs.lemmas.Iterator.{YieldsList-from_slice}
+use Rattle.std.proofs.lemmas.Iterator.Consumers.{fold_from_yields_List}
 use Rattle.symbols.specs.Charset.{is_upper}
+use Rattle.bech32.proofs.Laws.Parsing.{all_fold}
 use Rattle.bech32.proofs.parsing.no_upper.Goals as goal
 
-pub loop-i-init : goal.loop-i-init
-unfolding all
-loop-i-init c = (search rules, refl)
-
-pub loop-i-preserved : goal.loop-i-preserved
-loop-i-preserved c = (search rules, all_one (λ b. not (is_upper b)) c.args.text.now c.loop-i.i (omega arith) c.loop-i.invariant.1 (ap not c.is_upper.ensures))
-
 pub returns : goal.returns
-returns c = c.loop-i.invariant.1 ∙ ap (all (λ b. not (is_upper b))) (take_all c.loop-i.i c.args.text.now (omega arith))
+returns c = let t = c.args.text.now in
+    let e : c.fold.result ≡ fold (λ a b. a && not (is_upper b)) true t =
+    fold_from_yields_List _ (λ a b. a && not (is_upper b)) true c.fold.result c.fold.ensures.ran (YieldsList-from_slice t cc) (λ a x b q k. search (rules, tests)) in
+    e ∙ all_fold (λ b. not (is_upper b)) t

@@ -25,10 +25,7 @@ translate-requires c = let p = c.args.payload.now in
     let n = c.symbols_length-end.result in
     let k : length w ≡ n + 6 = with_length c.args.from p ∙ ap (λ m. m + 6) (sym c.symbols_length-end.ensures) in
     let e : take (n + 6) c.put_symbols.new.out ≡ w = ap (take (n + 6)) c.put_symbols.ensures ∙ take_at w (drop (symbols_size (length p) + 6) o₀) (n + 6) k in
-    record {
-      characters = c.characters-table.ensures;
-      out_value = ap are_symbols e ∙ with_symbols c.args.from p (are_bytes_lem p (λ i. omega (arith, c.shared_slice_known-1.given i)));
-    }
+    ap are_symbols e ∙ with_symbols c.args.from p (are_bytes_lem p (λ i. (c.type_inv.payload i).fits))
 
 pub returns : goal.returns
 returns c = let p = c.args.payload.now in

@@ -6,15 +6,12 @@ use lib.ListN.{length, take, drop}
 use native.Mathlib.Omega.{arith}
 use borrow.Author.Tests.{le-ltb}
 use Rattle.refusal.specs.Output.{filled}
-use lib.Seq.{length-take-le, take_at}
+use lib.Seq.{take_at}
 use Rattle.symbols.specs.Checksum.{polymod, checksum}
 use Rattle.symbols.specs.Regroup.{symbols}
 use Rattle.symbols.proofs.Laws.Groups.{symbols_length}
 use Rattle.bech32.proofs.Laws.Writing.{put_behind}
 use Rattle.bech32.proofs.writing.put_symbols.Goals as goal
-
-pub slice_bounds-fold_symbols-end-2 : goal.slice_bounds-fold_symbols-end-2
-slice_bounds-fold_symbols-end-2 c = sym (length-take-le c.symbols_length-n.result c.encode.new.out (omega (arith, c.symbols_length-n.ensures, c.encode.auto.out, c.requires.payload_in_bounds)))
 
 pub returns : goal.returns
 returns c = let a = c.encode.new.out in

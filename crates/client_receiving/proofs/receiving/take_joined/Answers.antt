@@ -8,7 +8,7 @@ use Rattle.refusal.proofs.Laws.Lists.{part_rest}
 use Rattle.session.specs.Session.{session_of}
 use Rattle.chunks.specs.Chunks.{is_held}
 use Rattle.client_room.specs.Room.{stanza_ahead}
-use Rattle.client_room.proofs.Laws.Stanzas.{joined_front}
+use Rattle.intake.proofs.Laws.Keeping.{joined_front}
 use Rattle.client_receiving.specs.Texts.{lent, Answers}
 use Rattle.client_receiving.proofs.receiving.take_joined.Goals as goal
 

@@ -5,8 +5,8 @@ use lib.ListN.{length}
 use Rattle.client_receiving.proofs.Laws.Texts.{Going}
 use Rattle.client_receiving.proofs.texts.take_text.Given as goal
 
-abbrev pub invariant-loop-turn : goal.invariant-loop-turn
-invariant-loop-turn l = (l.input ≡ l.initial.input) × Going l.initial.done l.done l.initial.slots l.slots l.header_slots l.initial.errors l.initial.stanzas l.initial.returned l.errors l.stanzas l.returned l.text l.initial.out l.out l.begun l.at
+abbrev pub invariant-loop-s : goal.invariant-loop-s
+invariant-loop-s l = Going l.initial.done l.done l.initial.slots l.slots l.header_slots l.initial.errors l.initial.stanzas l.initial.returned l.errors l.stanzas l.returned l.text l.initial.out l.out l.begun l.at
 
-abbrev pub decreases-loop-turn : goal.decreases-loop-turn
-decreases-loop-turn l = length l.text - l.at
+abbrev pub decreases-loop-s : goal.decreases-loop-s
+decreases-loop-s l = length l.text - l.at

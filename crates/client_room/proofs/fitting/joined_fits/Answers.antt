@@ -7,7 +7,7 @@ use mathlib.Core.Path.{sym, ap, ap₂, ◌∙◌}
 use lib.ListN.{length, take, length-append}
 use lib.Seq.{length-take-le}
 use native.Mathlib.Omega.{arith}
-use Rattle.client_room.proofs.Laws.Stanzas.{joined_front}
+use Rattle.intake.proofs.Laws.Keeping.{joined_front}
 use Rattle.client_room.proofs.fitting.joined_fits.Goals as goal
 
 pub slice_bounds-put_together-end : goal.slice_bounds-put_together-end

@@ -26,6 +26,10 @@ line_short recipient_stanza t = with_short recipient_stanza_text t (omega arith)
 line_short done_command t = with_short done_word t (omega arith)
 line_short other_word t = omega arith
 
-pub send_in-requires : goal.send_in-requires
-send_in-requires c = let a = c.args in
+pub send_with-requires-asks-send_in-requires : goal.send_with-requires-asks-send_in-requires
+send_with-requires-asks-send_in-requires c = let a = c.args in
+    omega (arith, line_short (word_said a.word) a.arguments.now)
+
+pub send_with-requires-2-asks-send_in-requires : goal.send_with-requires-2-asks-send_in-requires
+send_with-requires-2-asks-send_in-requires c = let a = c.args in
     omega (arith, line_short (word_said a.word) a.arguments.now)

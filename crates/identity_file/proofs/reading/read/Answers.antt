@@ -1,7 +1,7 @@
 -- What the pass over the lines comes to decides; then the transcript is written.
-use mathlib.Core.Path.{◌≡◌, refl, sym, ap, ◌∙◌}
+use mathlib.Core.Path.{◌≡◌, refl, ap, ◌∙◌}
 use mathlib.Core.Bool.{true, false}
-use lib.ListN.{length, drop}
+use lib.ListN.{length, length-take, drop}
 use native.Mathlib.Omega.{arith}
 use mathlib.Core.List.{◌++◌}
 use borrow.Author.Tests.{lt-ltb, le-ltb}
@@ -14,7 +14,7 @@ use Rattle.identity_file.proofs.reading.read.Goals as goal
 
 pub returns-then-n-gt-MOST_IDENTITIES : goal.returns-then-n-gt-MOST_IDENTITIES
 returns-then-n-gt-MOST_IDENTITIES c = let text = c.args.text.now in
-    let f = found_file text (survey_of c.survey-t.result c.survey-t.new.places c.survey-t.new.faults) c.survey-t.ensures in
+    let f = found_file text (survey_of c.survey-t.result) c.survey-t.ensures in
     let o : is_over text ≡ true = lt-ltb 64 (length (valid_in (lines text))) (omega (arith, f.valid, c.if-n-gt-MOST_IDENTITIES.true)) in
     record {
       answer = rw (c.refused.ensures.answer, o);
@@ -24,20 +24,15 @@ returns-then-n-gt-MOST_IDENTITIES c = let text = c.args.text.now in
       buffer = rw o;
     }
 
-pub slice_bounds-transcript_size-end : goal.slice_bounds-transcript_size-end
-slice_bounds-transcript_size-end c = let text = c.args.text.now in
-    let f = found_file text (survey_of c.survey-t.result c.survey-t.new.places c.survey-t.new.faults) c.survey-t.ensures in
-    sym f.slots
-
 pub transcript_size-size-requires : goal.transcript_size-size-requires
 transcript_size-size-requires c = let text = c.args.text.now in
-    let f = found_file text (survey_of c.survey-t.result c.survey-t.new.places c.survey-t.new.faults) c.survey-t.ensures in
+    let f = found_file text (survey_of c.survey-t.result) c.survey-t.ensures in
     let h = c.if-n-gt-MOST_IDENTITIES.false in
-    record { n_bound = (h, omega (arith, f.slots)); places = f.places h }
+    record { few = simp length-take (omega (arith, h)); places = f.places h }
 
 pub returns-then-out-size : goal.returns-then-out-size
 returns-then-out-size c = let text = c.args.text.now in
-    let f = found_file text (survey_of c.survey-t.result c.survey-t.new.places c.survey-t.new.faults) c.survey-t.ensures in
+    let f = found_file text (survey_of c.survey-t.result) c.survey-t.ensures in
     let h = c.if-n-gt-MOST_IDENTITIES.false in
     let o : is_over text ≡ false = le-ltb 64 (length (valid_in (lines text))) (omega (arith, f.valid)) in
     let z : c.transcript_size-size.result ≡ length (transcript_of text) = c.transcript_size-size.ensures ∙ ap (λ x. length (transcript x)) (f.texts h) in
@@ -50,24 +45,18 @@ returns-then-out-size c = let text = c.args.text.now in
       buffer = rw (o, v);
     }
 
-pub slice_bounds-put_transcript-end : goal.slice_bounds-put_transcript-end
-slice_bounds-put_transcript-end c = let text = c.args.text.now in
-    let f = found_file text (survey_of c.survey-t.result c.survey-t.new.places c.survey-t.new.faults) c.survey-t.ensures in
-    sym f.slots
-
 pub put_transcript-requires : goal.put_transcript-requires
 put_transcript-requires c = let text = c.args.text.now in
-    let f = found_file text (survey_of c.survey-t.result c.survey-t.new.places c.survey-t.new.faults) c.survey-t.ensures in
+    let f = found_file text (survey_of c.survey-t.result) c.survey-t.ensures in
     let h = c.if-n-gt-MOST_IDENTITIES.false in
     record {
-      n_bound = (h, omega (arith, f.slots));
       places = f.places h;
       places_in_bounds = omega (arith, c.transcript_size-size.ensures, c.if-out-size.false);
     }
 
 pub returns : goal.returns
 returns c = let text = c.args.text.now in
-    let f = found_file text (survey_of c.survey-t.result c.survey-t.new.places c.survey-t.new.faults) c.survey-t.ensures in
+    let f = found_file text (survey_of c.survey-t.result) c.survey-t.ensures in
     let h = c.if-n-gt-MOST_IDENTITIES.false in
     let o : is_over text ≡ false = le-ltb 64 (length (valid_in (lines text))) (omega (arith, f.valid)) in
     let z : c.transcript_size-size.result ≡ length (transcript_of text) = c.transcript_size-size.ensures ∙ ap (λ x. length (transcript x)) (f.texts h) in

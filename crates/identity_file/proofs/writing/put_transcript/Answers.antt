@@ -1,25 +1,15 @@
 -- The commands, and done behind them.
-use native.Mathlib.Omega.{arith}
-use lib.ListN.{take}
+use Rattle.std.proofs.Common.{arith}
 use Rattle.identity_file.specs.Steps.{texts_at}
 use Rattle.identity_file.proofs.Laws.Writing.{transcript_length, done_placed}
 use Rattle.strict_base64.specs.Code.{encoded}
 use Rattle.strict_base64.specs.Lines.{wrapped}
 use Rattle.identity_file.proofs.writing.put_transcript.Goals as goal
 
-pub put_commands-end-requires : goal.put_commands-end-requires
-put_commands-end-requires c = record {
-  n_bound = c.requires.n_bound;
-  places = c.requires.places;
-  places_in_bounds = omega (arith, c.requires.places_in_bounds, transcript_length (texts_at c.args.text.now (take c.args.n c.args.places.now)));
-}
-
-pub slice_bounds-copy-count : goal.slice_bounds-copy-count
-slice_bounds-copy-count c = omega (arith, c.put_commands-end.ensures.end, c.put_commands-end.auto.out, transcript_length (texts_at c.args.text.now (take c.args.n c.args.places.now)), c.requires.places_in_bounds)
-
-pub slice_bounds-copy-start : goal.slice_bounds-copy-start
-slice_bounds-copy-start c = omega (arith, c.put_commands-end.ensures.end, c.put_commands-end.auto.out, transcript_length (texts_at c.args.text.now (take c.args.n c.args.places.now)), c.requires.places_in_bounds)
+pub slice_bounds-copy_from_slice-end : goal.slice_bounds-copy_from_slice-end
+slice_bounds-copy_from_slice-end c = omega (arith, c.put_commands-end.ensures.end, c.put_commands-end.auto.out, transcript_length (texts_at c.args.text.now c.args.places.now), c.requires.places_in_bounds)
 
 pub returns : goal.returns
 unfolding wrapped encoded
-returns c = done_placed (texts_at c.args.text.now (take c.args.n c.args.places.now)) c.put_commands-end.new.out c.args.out.now c.copy.new.out c.put_commands-end.result c.put_commands-end.ensures.end c.put_commands-end.ensures.buffer c.requires.places_in_bounds c.copy.ensures
+returns c =
+    rw c.copy_from_slice.ensures.after (done_placed (texts_at c.args.text.now c.args.places.now) c.put_commands-end.new.out c.args.out.now c.put_commands-end.result c.put_commands-end.ensures.end c.put_commands-end.ensures.buffer)

@@ -1,24 +1,24 @@
--- Each arm is one law of a command that is kept, refused or ignored; parsing says which it is, storing what it came to.
+-- Each arm is one law of a command that is kept; parsing says which it is, storing what it came to.
 use mathlib.Core.Path.{refl, sym, ap, ◌∙◌}
 use lib.ListN.{length}
+use Rattle.std.specs.Prelude.{Ok}
 use Rattle.refusal.specs.Verdict.{verdict_said}
-use Rattle.refusal.proofs.Laws.Number.{number_not_zero}
 use Rattle.tables.specs.Bodies.{body_from}
 use Rattle.session.specs.Tables.{tables_in}
 use Rattle.session.proofs.Laws.Putting.{put_recipients, put_identities, put_keys, put_headers}
 use Rattle.phase_one.specs.Commands.{command_said}
 use Rattle.phase_one.specs.PhaseOne.{buffers_of}
-use Rattle.phase_one.proofs.Laws.PhaseOne.{step_bad, step_done, step_other, step_recipient, step_identity, step_key, step_header}
+use Rattle.phase_one.proofs.Laws.PhaseOne.{step_recipient, step_identity, step_key, step_header}
 use Rattle.phase_one.proofs.steps.step_one.Goals as goal
 
-pub returns-in-Recipient : goal.returns-in-Recipient
-returns-in-Recipient c = let a = c.args in
+pub returns-in-Ok-Recipient : goal.returns-in-Ok-Recipient
+returns-in-Ok-Recipient c = let a = c.args in
     let y = body_from a.coding a.source.now in
     let t = tables_in a.tables a.slots.now a.header_slots.now in
     let b = buffers_of a.recipients.now a.identities.now a.keys.now a.headers.now in
     let e = rw c.body_size-n.ensures.0 at (c.parse_one-command.ensures a.plugin.now) in
     let z = c.keep_recipient-stored.ensures in
-    let k = ap (command_said a.plugin.now a.line.now (length y)) (sym c.in-Recipient.is) ∙ e in
+    let k = ap (command_said a.plugin.now a.line.now (length y)) (sym (c.in-Ok-Recipient.is ∙ ap Ok (rw c.in-Ok-Recipient.is at c.in-Ok-Recipient.field-0-is))) ∙ e in
     let s = step_recipient a.machine a.plugin.now t b (verdict_said a.late) a.line.now y _ _ _ _ k z.number z.table z.buffer in
     record {
       command = rw c.stepped.ensures e;
@@ -27,90 +27,50 @@ returns-in-Recipient c = let a = c.args in
       buffers = s.1.1;
     }
 
-pub returns-in-Identity : goal.returns-in-Identity
-returns-in-Identity c = let a = c.args in
+pub returns-in-Ok-Identity : goal.returns-in-Ok-Identity
+returns-in-Ok-Identity c = let a = c.args in
     let y = body_from a.coding a.source.now in
     let t = tables_in a.tables a.slots.now a.header_slots.now in
     let b = buffers_of a.recipients.now a.identities.now a.keys.now a.headers.now in
     let e = rw c.body_size-n.ensures.0 at (c.parse_one-command.ensures a.plugin.now) in
     let z = rw c.span_of-span.ensures at c.keep_text-stored.ensures in
-    let k = ap (command_said a.plugin.now a.line.now (length y)) (sym c.in-Identity.is) ∙ e in
+    let k = ap (command_said a.plugin.now a.line.now (length y)) (sym (c.in-Ok-Identity.is ∙ ap Ok (rw c.in-Ok-Identity.is at c.in-Ok-Identity.field-0-is))) ∙ e in
     let s = step_identity a.machine a.plugin.now t b (verdict_said a.late) a.line.now y _ _ _ _ k z.number z.table z.buffer in
     record {
-      command = rw c.stepped-in-Identity.ensures e;
-      number = rw c.stepped-in-Identity.ensures s.0;
-      tables = rw c.stepped-in-Identity.ensures (put_identities a.tables a.slots.now _ a.header_slots.now c.keep_text-stored.result.table _ refl z.others ∙ s.1.0);
+      command = rw c.stepped-in-Ok-Identity.ensures e;
+      number = rw c.stepped-in-Ok-Identity.ensures s.0;
+      tables = rw c.stepped-in-Ok-Identity.ensures (put_identities a.tables a.slots.now _ a.header_slots.now c.keep_text-stored.result.table _ refl z.others ∙ s.1.0);
       buffers = s.1.1;
     }
 
-pub returns-in-Key : goal.returns-in-Key
-returns-in-Key c = let a = c.args in
+pub returns-in-Ok-Key : goal.returns-in-Ok-Key
+returns-in-Ok-Key c = let a = c.args in
     let y = body_from a.coding a.source.now in
     let t = tables_in a.tables a.slots.now a.header_slots.now in
     let b = buffers_of a.recipients.now a.identities.now a.keys.now a.headers.now in
     let e = rw c.body_size-n.ensures.0 at (c.parse_one-command.ensures a.plugin.now) in
-    let z = rw c.span_of-span-in-Key.ensures at c.store-stored.ensures in
-    let k = ap (command_said a.plugin.now a.line.now (length y)) (sym c.in-Key.is) ∙ e in
+    let z = rw c.span_of-span-in-Ok-Key.ensures at c.store-stored.ensures in
+    let k = ap (command_said a.plugin.now a.line.now (length y)) (sym (c.in-Ok-Key.is ∙ ap Ok (rw c.in-Ok-Key.is at c.in-Ok-Key.field-0-is))) ∙ e in
     let s = step_key a.machine a.plugin.now t b (verdict_said a.late) a.line.now y _ _ _ k z.number (rw (sym z.number) at z.table) (rw (sym z.number) at z.buffer) in
     record {
-      command = rw c.stepped-in-Key.ensures e;
-      number = rw c.stepped-in-Key.ensures s.0;
-      tables = rw c.stepped-in-Key.ensures (put_keys a.tables a.slots.now _ a.header_slots.now c.store-stored.result.table _ refl z.others ∙ s.1.0);
+      command = rw c.stepped-in-Ok-Key.ensures e;
+      number = rw c.stepped-in-Ok-Key.ensures s.0;
+      tables = rw c.stepped-in-Ok-Key.ensures (put_keys a.tables a.slots.now _ a.header_slots.now c.store-stored.result.table _ refl z.others ∙ s.1.0);
       buffers = s.1.1;
     }
 
-pub returns-in-Header : goal.returns-in-Header
-returns-in-Header c = let a = c.args in
+pub returns-in-Ok-Header : goal.returns-in-Ok-Header
+returns-in-Ok-Header c = let a = c.args in
     let y = body_from a.coding a.source.now in
     let t = tables_in a.tables a.slots.now a.header_slots.now in
     let b = buffers_of a.recipients.now a.identities.now a.keys.now a.headers.now in
     let e = rw c.body_size-n.ensures.0 at (c.parse_one-command.ensures a.plugin.now) in
     let z = rw c.body_size-n.ensures.0 at c.keep_header-stored.ensures in
-    let k = ap (command_said a.plugin.now a.line.now (length y)) (sym c.in-Header.is) ∙ e in
+    let k = ap (command_said a.plugin.now a.line.now (length y)) (sym (c.in-Ok-Header.is ∙ ap Ok (rw c.in-Ok-Header.is at c.in-Ok-Header.field-0-is))) ∙ e in
     let s = step_header a.machine a.plugin.now t b (verdict_said a.late) a.line.now y _ _ _ _ _ k z.number z.table z.buffer in
     record {
-      command = rw c.stepped-in-Header.ensures k;
-      number = rw c.stepped-in-Header.ensures s.0;
-      tables = rw c.stepped-in-Header.ensures (put_headers a.tables a.slots.now c.keep_header-stored.new.slots c.keep_header-stored.result.table _ refl a.header_slots.now ∙ s.1.0);
+      command = rw c.stepped-in-Ok-Header.ensures e;
+      number = rw c.stepped-in-Ok-Header.ensures s.0;
+      tables = rw c.stepped-in-Ok-Header.ensures (put_headers a.tables a.slots.now c.keep_header-stored.new.slots c.keep_header-stored.result.table _ refl a.header_slots.now ∙ s.1.0);
       buffers = s.1.1;
-    }
-
-pub returns-in-Done : goal.returns-in-Done
-returns-in-Done c = let a = c.args in
-    let y = body_from a.coding a.source.now in
-    let t = tables_in a.tables a.slots.now a.header_slots.now in
-    let b = buffers_of a.recipients.now a.identities.now a.keys.now a.headers.now in
-    let e = rw c.body_size-n.ensures.0 at (c.parse_one-command.ensures a.plugin.now) in
-    record {
-      command = e;
-      number = (step_done a.machine a.plugin.now t b (verdict_said a.late) a.line.now y (ap (command_said a.plugin.now a.line.now (length y)) (sym c.in-Done.is) ∙ e)).0;
-      tables = (step_done a.machine a.plugin.now t b (verdict_said a.late) a.line.now y (ap (command_said a.plugin.now a.line.now (length y)) (sym c.in-Done.is) ∙ e)).1.0;
-      buffers = (step_done a.machine a.plugin.now t b (verdict_said a.late) a.line.now y (ap (command_said a.plugin.now a.line.now (length y)) (sym c.in-Done.is) ∙ e)).1.1;
-    }
-
-pub returns-in-Other : goal.returns-in-Other
-returns-in-Other c = let a = c.args in
-    let y = body_from a.coding a.source.now in
-    let t = tables_in a.tables a.slots.now a.header_slots.now in
-    let b = buffers_of a.recipients.now a.identities.now a.keys.now a.headers.now in
-    let e = rw c.body_size-n.ensures.0 at (c.parse_one-command.ensures a.plugin.now) in
-    record {
-      command = e;
-      number = (step_other a.machine a.plugin.now t b (verdict_said a.late) a.line.now y (ap (command_said a.plugin.now a.line.now (length y)) (sym c.in-Other.is) ∙ e)).0;
-      tables = (step_other a.machine a.plugin.now t b (verdict_said a.late) a.line.now y (ap (command_said a.plugin.now a.line.now (length y)) (sym c.in-Other.is) ∙ e)).1.0;
-      buffers = (step_other a.machine a.plugin.now t b (verdict_said a.late) a.line.now y (ap (command_said a.plugin.now a.line.now (length y)) (sym c.in-Other.is) ∙ e)).1.1;
-    }
-
-pub returns-in-Refused : goal.returns-in-Refused
-returns-in-Refused c = let a = c.args in
-    let y = body_from a.coding a.source.now in
-    let t = tables_in a.tables a.slots.now a.header_slots.now in
-    let b = buffers_of a.recipients.now a.identities.now a.keys.now a.headers.now in
-    let e = rw c.body_size-n.ensures.0 at (c.parse_one-command.ensures a.plugin.now) in
-    let k = ap (command_said a.plugin.now a.line.now (length y)) (sym c.in-Refused.is) ∙ e in
-    record {
-      command = k;
-      number = (step_bad a.machine a.plugin.now t b (verdict_said a.late) a.line.now y _ k (number_not_zero c.in-Refused.r)).0;
-      tables = (step_bad a.machine a.plugin.now t b (verdict_said a.late) a.line.now y _ k (number_not_zero c.in-Refused.r)).1.0;
-      buffers = (step_bad a.machine a.plugin.now t b (verdict_said a.late) a.line.now y _ k (number_not_zero c.in-Refused.r)).1.1;
     }

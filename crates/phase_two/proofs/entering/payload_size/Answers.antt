@@ -4,12 +4,12 @@ use Rattle.tables.proofs.Laws.Copying.{lines_length}
 use Rattle.phase_one.specs.Commands.{rest_of}
 use Rattle.phase_two.proofs.entering.payload_size.Goals as goal
 
-pub returns-in-Stanza : goal.returns-in-Stanza
-returns-in-Stanza c = let a = c.args in
-    rw (c.in-Stanza.is, c.rest_of-rest.ensures, c.body_size.ensures.0) (lines_length (rest_of a.line.now) (body_from a.coding a.source.now))
+pub returns-in-Ok-Stanza : goal.returns-in-Ok-Stanza
+returns-in-Ok-Stanza c = let a = c.args in
+    rw (c.in-Ok-Stanza.is, rw c.in-Ok-Stanza.is at c.in-Ok-Stanza.field-0-is, c.rest_of-rest.ensures, c.body_size.ensures.0) (lines_length (rest_of a.line.now) (body_from a.coding a.source.now))
 
-pub returns-in-Key : goal.returns-in-Key
-returns-in-Key c = rw c.in-Key.is c.body_size-in-Key.ensures.0
+pub returns-in-Ok-Key : goal.returns-in-Ok-Key
+returns-in-Ok-Key c = rw (c.in-Ok-Key.is, rw c.in-Ok-Key.is at c.in-Ok-Key.field-0-is) c.body_size-in-Ok-Key.ensures.0
 
-pub returns-in-Error : goal.returns-in-Error
-returns-in-Error c = rw c.in-Error.is c.body_size-in-Error.ensures.0
+pub returns-in-Ok-Error : goal.returns-in-Ok-Error
+returns-in-Ok-Error c = rw (c.in-Ok-Error.is, rw c.in-Ok-Error.is at c.in-Ok-Error.field-0-is) c.body_size-in-Ok-Error.ensures.0

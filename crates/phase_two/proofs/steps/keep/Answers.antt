@@ -13,71 +13,71 @@ use Rattle.phase_two_commands.specs.Commands.{named_said}
 use Rattle.phase_two.proofs.Laws.Steps.{step_none, step_stanza, step_key, step_error}
 use Rattle.phase_two.proofs.steps.keep.Goals as goal
 
-pub returns-in-Stanza : goal.returns-in-Stanza
-returns-in-Stanza c = let a = c.args in
+pub returns-in-Ok-Stanza : goal.returns-in-Ok-Stanza
+returns-in-Ok-Stanza c = let a = c.args in
     let b = buffers_of a.errors.now a.stanzas.now a.returned.now in
     let y = body_from a.coding a.source.now in
     let z = c.keep_stanza-stored.ensures in
     record {
-      number = rw (c.in-Stanza.is, c.stepped.ensures) ((λ hs. (step_stanza (tables_in a.tables a.slots.now hs) b (rest_of a.line.now ++ 10 ∷ y) (verdict_said a.late) c.in-Stanza.file _ _ _ z.number z.table z.buffer).0));
-      tables = rw (c.in-Stanza.is, c.stepped.ensures) ((λ hs. put_stanzas a.tables a.slots.now _ hs c.keep_stanza-stored.result.table _ refl z.others ∙ (step_stanza (tables_in a.tables a.slots.now hs) b (rest_of a.line.now ++ 10 ∷ y) (verdict_said a.late) c.in-Stanza.file _ _ _ z.number z.table z.buffer).1.0));
-      buffers = simp (c.in-Stanza.is, c.stepped.ensures) ((λ hs. (step_stanza (tables_in a.tables a.slots.now hs) b (rest_of a.line.now ++ 10 ∷ y) (verdict_said a.late) c.in-Stanza.file _ _ _ z.number z.table z.buffer).1.1));
+      number = rw (c.in-Ok-Stanza.is, rw c.in-Ok-Stanza.is at c.in-Ok-Stanza.field-0-is, c.stepped.ensures) ((λ hs. (step_stanza (tables_in a.tables a.slots.now hs) b (rest_of a.line.now ++ 10 ∷ y) (verdict_said a.late) c.in-Ok-Stanza.file _ _ _ z.number z.table z.buffer).0));
+      tables = rw (c.in-Ok-Stanza.is, rw c.in-Ok-Stanza.is at c.in-Ok-Stanza.field-0-is, c.stepped.ensures) ((λ hs. put_stanzas a.tables a.slots.now _ hs c.keep_stanza-stored.result.table _ refl z.others ∙ (step_stanza (tables_in a.tables a.slots.now hs) b (rest_of a.line.now ++ 10 ∷ y) (verdict_said a.late) c.in-Ok-Stanza.file _ _ _ z.number z.table z.buffer).1.0));
+      buffers = simp (c.in-Ok-Stanza.is, rw c.in-Ok-Stanza.is at c.in-Ok-Stanza.field-0-is, c.stepped.ensures) ((λ hs. (step_stanza (tables_in a.tables a.slots.now hs) b (rest_of a.line.now ++ 10 ∷ y) (verdict_said a.late) c.in-Ok-Stanza.file _ _ _ z.number z.table z.buffer).1.1));
     }
 
-pub returns-in-Key : goal.returns-in-Key
-returns-in-Key c = let a = c.args in
+pub returns-in-Ok-Key : goal.returns-in-Ok-Key
+returns-in-Ok-Key c = let a = c.args in
     let b = buffers_of a.errors.now a.stanzas.now a.returned.now in
     let y = body_from a.coding a.source.now in
     let z = c.keep_key-stored.ensures in
     record {
-      number = rw (c.in-Key.is, c.stepped-in-Key.ensures) ((λ hs. (step_key (tables_in a.tables a.slots.now hs) b y (verdict_said a.late) c.in-Key.file _ _ _ z.number z.table z.buffer).0));
-      tables = rw (c.in-Key.is, c.stepped-in-Key.ensures) ((λ hs. put_returned a.tables a.slots.now _ hs c.keep_key-stored.result.table _ refl z.others ∙ (step_key (tables_in a.tables a.slots.now hs) b y (verdict_said a.late) c.in-Key.file _ _ _ z.number z.table z.buffer).1.0));
-      buffers = simp (c.in-Key.is, c.stepped-in-Key.ensures) ((λ hs. (step_key (tables_in a.tables a.slots.now hs) b y (verdict_said a.late) c.in-Key.file _ _ _ z.number z.table z.buffer).1.1));
+      number = rw (c.in-Ok-Key.is, rw c.in-Ok-Key.is at c.in-Ok-Key.field-0-is, c.stepped-in-Ok-Key.ensures) ((λ hs. (step_key (tables_in a.tables a.slots.now hs) b y (verdict_said a.late) c.in-Ok-Key.file _ _ _ z.number z.table z.buffer).0));
+      tables = rw (c.in-Ok-Key.is, rw c.in-Ok-Key.is at c.in-Ok-Key.field-0-is, c.stepped-in-Ok-Key.ensures) ((λ hs. put_returned a.tables a.slots.now _ hs c.keep_key-stored.result.table _ refl z.others ∙ (step_key (tables_in a.tables a.slots.now hs) b y (verdict_said a.late) c.in-Ok-Key.file _ _ _ z.number z.table z.buffer).1.0));
+      buffers = simp (c.in-Ok-Key.is, rw c.in-Ok-Key.is at c.in-Ok-Key.field-0-is, c.stepped-in-Ok-Key.ensures) ((λ hs. (step_key (tables_in a.tables a.slots.now hs) b y (verdict_said a.late) c.in-Ok-Key.file _ _ _ z.number z.table z.buffer).1.1));
     }
 
-pub returns-in-Error : goal.returns-in-Error
-returns-in-Error c = let a = c.args in
+pub returns-in-Ok-Error : goal.returns-in-Ok-Error
+returns-in-Ok-Error c = let a = c.args in
     let b = buffers_of a.errors.now a.stanzas.now a.returned.now in
     let y = body_from a.coding a.source.now in
     let z = c.keep_error-stored.ensures in
     record {
-      number = rw (c.in-Error.is, c.stepped-in-Error.ensures) ((λ hs. (step_error (tables_in a.tables a.slots.now hs) b y (verdict_said a.late) (named_said c.in-Error.named) _ _ _ z.number z.table z.buffer).0));
-      tables = rw (c.in-Error.is, c.stepped-in-Error.ensures) ((λ hs. put_errors a.tables a.slots.now _ hs c.keep_error-stored.result.table _ refl z.others ∙ (step_error (tables_in a.tables a.slots.now hs) b y (verdict_said a.late) (named_said c.in-Error.named) _ _ _ z.number z.table z.buffer).1.0));
-      buffers = simp (c.in-Error.is, c.stepped-in-Error.ensures) ((λ hs. (step_error (tables_in a.tables a.slots.now hs) b y (verdict_said a.late) (named_said c.in-Error.named) _ _ _ z.number z.table z.buffer).1.1));
+      number = rw (c.in-Ok-Error.is, rw c.in-Ok-Error.is at c.in-Ok-Error.field-0-is, c.stepped-in-Ok-Error.ensures) ((λ hs. (step_error (tables_in a.tables a.slots.now hs) b y (verdict_said a.late) (named_said c.in-Ok-Error.named) _ _ _ z.number z.table z.buffer).0));
+      tables = rw (c.in-Ok-Error.is, rw c.in-Ok-Error.is at c.in-Ok-Error.field-0-is, c.stepped-in-Ok-Error.ensures) ((λ hs. put_errors a.tables a.slots.now _ hs c.keep_error-stored.result.table _ refl z.others ∙ (step_error (tables_in a.tables a.slots.now hs) b y (verdict_said a.late) (named_said c.in-Ok-Error.named) _ _ _ z.number z.table z.buffer).1.0));
+      buffers = simp (c.in-Ok-Error.is, rw c.in-Ok-Error.is at c.in-Ok-Error.field-0-is, c.stepped-in-Ok-Error.ensures) ((λ hs. (step_error (tables_in a.tables a.slots.now hs) b y (verdict_said a.late) (named_said c.in-Ok-Error.named) _ _ _ z.number z.table z.buffer).1.1));
     }
 
-pub returns-in-Ask : goal.returns-in-Ask
-returns-in-Ask c = let a = c.args in
+pub returns-in-Ok-Ask : goal.returns-in-Ok-Ask
+returns-in-Ok-Ask c = let a = c.args in
     let b = buffers_of a.errors.now a.stanzas.now a.returned.now in
     record {
-      number = rw c.in-Ask.is ((λ hs. (step_none (tables_in a.tables a.slots.now hs) b [] (verdict_said a.late) (two.ask c.in-Ask.field-0) refl refl refl).0));
-      tables = rw c.in-Ask.is ((λ hs. (step_none (tables_in a.tables a.slots.now hs) b [] (verdict_said a.late) (two.ask c.in-Ask.field-0) refl refl refl).1.0));
-      buffers = rw c.in-Ask.is ((λ hs. (step_none (tables_in a.tables a.slots.now hs) b [] (verdict_said a.late) (two.ask c.in-Ask.field-0) refl refl refl).1.1));
+      number = rw (c.in-Ok-Ask.is, rw c.in-Ok-Ask.is at c.in-Ok-Ask.field-0-is) ((λ hs. (step_none (tables_in a.tables a.slots.now hs) b [] (verdict_said a.late) (two.ask c.in-Ok-Ask.field-0-0) refl refl refl).0));
+      tables = rw (c.in-Ok-Ask.is, rw c.in-Ok-Ask.is at c.in-Ok-Ask.field-0-is) ((λ hs. (step_none (tables_in a.tables a.slots.now hs) b [] (verdict_said a.late) (two.ask c.in-Ok-Ask.field-0-0) refl refl refl).1.0));
+      buffers = rw (c.in-Ok-Ask.is, rw c.in-Ok-Ask.is at c.in-Ok-Ask.field-0-is) ((λ hs. (step_none (tables_in a.tables a.slots.now hs) b [] (verdict_said a.late) (two.ask c.in-Ok-Ask.field-0-0) refl refl refl).1.1));
     }
 
-pub returns-in-Done : goal.returns-in-Done
-returns-in-Done c = let a = c.args in
+pub returns-in-Ok-Done : goal.returns-in-Ok-Done
+returns-in-Ok-Done c = let a = c.args in
     let b = buffers_of a.errors.now a.stanzas.now a.returned.now in
     record {
-      number = rw c.in-Done.is ((λ hs. (step_none (tables_in a.tables a.slots.now hs) b [] (verdict_said a.late) two.done refl refl refl).0));
-      tables = rw c.in-Done.is ((λ hs. (step_none (tables_in a.tables a.slots.now hs) b [] (verdict_said a.late) two.done refl refl refl).1.0));
-      buffers = rw c.in-Done.is ((λ hs. (step_none (tables_in a.tables a.slots.now hs) b [] (verdict_said a.late) two.done refl refl refl).1.1));
+      number = rw (c.in-Ok-Done.is, rw c.in-Ok-Done.is at c.in-Ok-Done.field-0-is) ((λ hs. (step_none (tables_in a.tables a.slots.now hs) b [] (verdict_said a.late) two.done refl refl refl).0));
+      tables = rw (c.in-Ok-Done.is, rw c.in-Ok-Done.is at c.in-Ok-Done.field-0-is) ((λ hs. (step_none (tables_in a.tables a.slots.now hs) b [] (verdict_said a.late) two.done refl refl refl).1.0));
+      buffers = rw (c.in-Ok-Done.is, rw c.in-Ok-Done.is at c.in-Ok-Done.field-0-is) ((λ hs. (step_none (tables_in a.tables a.slots.now hs) b [] (verdict_said a.late) two.done refl refl refl).1.1));
     }
 
-pub returns-in-Other : goal.returns-in-Other
-returns-in-Other c = let a = c.args in
+pub returns-in-Ok-Other : goal.returns-in-Ok-Other
+returns-in-Ok-Other c = let a = c.args in
     let b = buffers_of a.errors.now a.stanzas.now a.returned.now in
     record {
-      number = rw c.in-Other.is ((λ hs. (step_none (tables_in a.tables a.slots.now hs) b [] (verdict_said a.late) two.other refl refl refl).0));
-      tables = rw c.in-Other.is ((λ hs. (step_none (tables_in a.tables a.slots.now hs) b [] (verdict_said a.late) two.other refl refl refl).1.0));
-      buffers = rw c.in-Other.is ((λ hs. (step_none (tables_in a.tables a.slots.now hs) b [] (verdict_said a.late) two.other refl refl refl).1.1));
+      number = rw (c.in-Ok-Other.is, rw c.in-Ok-Other.is at c.in-Ok-Other.field-0-is) ((λ hs. (step_none (tables_in a.tables a.slots.now hs) b [] (verdict_said a.late) two.other refl refl refl).0));
+      tables = rw (c.in-Ok-Other.is, rw c.in-Ok-Other.is at c.in-Ok-Other.field-0-is) ((λ hs. (step_none (tables_in a.tables a.slots.now hs) b [] (verdict_said a.late) two.other refl refl refl).1.0));
+      buffers = rw (c.in-Ok-Other.is, rw c.in-Ok-Other.is at c.in-Ok-Other.field-0-is) ((λ hs. (step_none (tables_in a.tables a.slots.now hs) b [] (verdict_said a.late) two.other refl refl refl).1.1));
     }
 
-pub returns-in-Refused : goal.returns-in-Refused
-returns-in-Refused c = let a = c.args in
+pub returns-in-Err : goal.returns-in-Err
+returns-in-Err c = let a = c.args in
     let b = buffers_of a.errors.now a.stanzas.now a.returned.now in
     record {
-      number = rw c.in-Refused.is ((λ hs. (step_none (tables_in a.tables a.slots.now hs) b [] (verdict_said a.late) (two.bad (number_of c.in-Refused.field-0)) refl refl refl).0));
-      tables = rw c.in-Refused.is ((λ hs. (step_none (tables_in a.tables a.slots.now hs) b [] (verdict_said a.late) (two.bad (number_of c.in-Refused.field-0)) refl refl refl).1.0));
-      buffers = rw c.in-Refused.is ((λ hs. (step_none (tables_in a.tables a.slots.now hs) b [] (verdict_said a.late) (two.bad (number_of c.in-Refused.field-0)) refl refl refl).1.1));
+      number = rw c.in-Err.is ((λ hs. (step_none (tables_in a.tables a.slots.now hs) b [] (verdict_said a.late) (two.bad (number_of c.in-Err.field-0)) refl refl refl).0));
+      tables = rw c.in-Err.is ((λ hs. (step_none (tables_in a.tables a.slots.now hs) b [] (verdict_said a.late) (two.bad (number_of c.in-Err.field-0)) refl refl refl).1.0));
+      buffers = rw c.in-Err.is ((λ hs. (step_none (tables_in a.tables a.slots.now hs) b [] (verdict_said a.late) (two.bad (number_of c.in-Err.field-0)) refl refl refl).1.1));
     }

@@ -1,14 +1,5 @@
 -- Only an error that names a header stanza is asked for its file's key.
 use Rattle.phase_two_decision.proofs.decision.is_against_key.Goals as goal
 
-pub returns-in-Internal : goal.returns-in-Internal
-returns-in-Internal c = λ hs. rw c.in-Internal.is
-
-pub returns-in-Identity : goal.returns-in-Identity
-returns-in-Identity c = λ hs. rw c.in-Identity.is
-
-pub returns-in-Recipient : goal.returns-in-Recipient
-returns-in-Recipient c = λ hs. rw c.in-Recipient.is
-
 pub returns-in-Header : goal.returns-in-Header
 returns-in-Header c = λ hs. rw c.in-Header.is (rw c.wide.ensures at (c.has_key.ensures hs))

@@ -2,8 +2,5 @@
 use borrow.Author.Tests.{lt-ltb, le-ltb}
 use Rattle.phase_two_decision.proofs.decision.is_against_work.Goals as goal
 
-pub returns-then-tables-gt0 : goal.returns-then-tables-gt0
-returns-then-tables-gt0 c = λ hs. rw (lt-ltb _ _ c.if-tables-gt0.true)
-
 pub returns : goal.returns
 returns c = λ hs. rw (le-ltb _ _ c.if-tables-gt0.false) (c.is_against_key.ensures hs)

@@ -1,37 +1,24 @@
--- All before i are settled: what is said of the rest is said of all.
+-- Whether each of the entries' labels that is invalid has had its error.
+use Prim.Native.Nat.{ℕ}
 use mathlib.Core.Bool.{not, ◌||◌}
-use mathlib.Core.Path.{refl, sym, ap, ◌∙◌}
-use native.Mathlib.Omega.{arith}
-use borrow.Author.Tests.{not-true, not-false}
+use mathlib.Core.List.{List}
+use Rattle.std.proofs.Common.{ap, ◌∙◌, rules, tests}
+use Rattle.std.proofs.lemmas.Iterator.{YieldsList-from_slice}
+use Rattle.std.proofs.lemmas.Iterator.Consumers.{YieldsList-from_enumerate}
+use Rattle.std.proofs.lemmas.Iterator.Search.{all_from_yields_List}
 use Rattle.tables.specs.Tables.{table_in}
 use Rattle.session.specs.Tables.{span_of}
 use Rattle.session.specs.declared.kinds.Kind.TheVariants as the
-use Rattle.conversation.specs.PhaseTwo.{labels, label_of, is_any, is_invalid, is_naming}
-use Rattle.phase_two_decision.proofs.Laws.Questions.{reported_not, reported_on, reported_all}
+use Rattle.conversation.specs.PhaseTwo.{labels, is_any, is_invalid, is_naming, are_reported}
+use Rattle.look_up.proofs.Laws.Labels.{slot_label, labels_are}
+use Rattle.phase_two_decision.proofs.Laws.Questions.{all_reported}
 use Rattle.phase_two_decision.proofs.questions.are_reported.Goals as goal
 
-pub loop-i-init : goal.loop-i-init
-loop-i-init c = (refl, omega arith)
-
-pub returns-then-not-is_settled : goal.returns-then-not-is_settled
-returns-then-not-is_settled c = let a = c.args in
-    let t = table_in a.span a.table a.slots.now in
-    let es = labels (table_in (span_of the.Errors) a.errors a.slots.now) in
-    let i = c.loop-i.i in
-    reported_not is_invalid a.mark t es i c.loop-i.invariant.0 (omega (arith, c.count_entries.ensures)) (ap (λ x. not (is_invalid (label_of x)) || is_any (is_naming a.mark i) es) (sym c.entry_at-e.ensures) ∙ sym c.is_settled.ensures ∙ not-true _ c.if-not-is_settled.true-raw)
-
-pub loop-i-smaller : goal.loop-i-smaller
-loop-i-smaller c = omega (arith, c.count_entries.ensures)
-
-pub loop-i-preserved : goal.loop-i-preserved
-loop-i-preserved c = let a = c.args in
-    let t = table_in a.span a.table a.slots.now in
-    let es = labels (table_in (span_of the.Errors) a.errors a.slots.now) in
-    let i = c.loop-i.i in
-    let z = c.count_entries.ensures in
-    (reported_on is_invalid a.mark t es i c.loop-i.invariant.0 (omega (arith, z)) (ap (λ x. not (is_invalid (label_of x)) || is_any (is_naming a.mark i) es) (sym c.entry_at-e.ensures) ∙ sym c.is_settled.ensures ∙ not-false _ c.if-not-is_settled.false-raw), omega (arith, z))
-
 pub returns : goal.returns
-returns c = let a = c.args in
-    let t = table_in a.span a.table a.slots.now in
-    reported_all is_invalid a.mark t (labels (table_in (span_of the.Errors) a.errors a.slots.now)) c.loop-i.i c.loop-i.invariant.0 (omega (arith, c.count_entries.ensures))
+returns c =
+    let a = c.args in
+    let es = c.entries.result.now in
+    let errors = labels (table_in (span_of the.Errors) a.errors a.slots.now) in
+    all_from_yields_List (λ (p : ℕ × List ℕ). not (is_invalid (slot_label p.1)) || is_any (is_naming a.mark p.0) errors) _ _ c.all.result c.all.ensures.ran
+    (YieldsList-from_enumerate (YieldsList-from_slice es cc) (cc)) (λ x b q k. search (rules, tests))
+    ∙ all_reported is_invalid a.mark errors 0 es ∙ ap (λ ls. are_reported is_invalid a.mark 0 ls errors) (labels_are a.span a.table a.slots.now es c.entries.ensures)

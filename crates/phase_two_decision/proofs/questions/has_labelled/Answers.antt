@@ -1,28 +1,15 @@
--- None that passes stands before i: what is left from there on is all.
-use mathlib.Core.Path.{refl, sym, ap, ◌∙◌}
-use native.Mathlib.Omega.{arith}
-use Rattle.tables.specs.Tables.{table_in}
-use Rattle.phase_two_decision.proofs.Laws.Questions.{any_here, any_on, any_none}
-use Rattle.conversation.specs.PhaseTwo.{label_of, is_naming}
+-- Whether one of the entries' labels has the mark and the index.
+use Rattle.std.proofs.Common.{ap, ◌∙◌, rules, tests}
+use Rattle.std.proofs.lemmas.Iterator.{YieldsList-from_slice}
+use Rattle.std.proofs.lemmas.Iterator.Search.{any_from_yields_List}
+use Rattle.conversation.specs.PhaseTwo.{is_any, is_naming}
+use Rattle.look_up.proofs.Laws.Labels.{slot_label, labels_are, any_slots}
 use Rattle.phase_two_decision.proofs.questions.has_labelled.Goals as goal
 
-pub loop-i-init : goal.loop-i-init
-loop-i-init c = (refl, omega arith)
-
-pub returns-then-is_labelled : goal.returns-then-is_labelled
-returns-then-is_labelled c = let t = table_in c.args.span c.args.table c.args.slots.now in
-    let q = is_naming c.args.mark c.args.index in
-    any_here q t c.loop-i.i c.loop-i.invariant.0 (omega (arith, c.count_entries.ensures)) (ap (λ x. q (label_of x)) (sym c.entry_at-e.ensures) ∙ sym c.is_labelled.ensures ∙ c.if-is_labelled.true)
-
-pub loop-i-smaller : goal.loop-i-smaller
-loop-i-smaller c = omega (arith, c.count_entries.ensures)
-
-pub loop-i-preserved : goal.loop-i-preserved
-loop-i-preserved c = let t = table_in c.args.span c.args.table c.args.slots.now in
-    let q = is_naming c.args.mark c.args.index in
-    let z = c.count_entries.ensures in
-    (any_on q t c.loop-i.i c.loop-i.invariant.0 (omega (arith, z)) (ap (λ x. q (label_of x)) (sym c.entry_at-e.ensures) ∙ sym c.is_labelled.ensures ∙ c.if-is_labelled.false), omega (arith, z))
-
 pub returns : goal.returns
-returns c = let t = table_in c.args.span c.args.table c.args.slots.now in
-    any_none (is_naming c.args.mark c.args.index) t c.loop-i.i c.loop-i.invariant.0 (omega (arith, c.count_entries.ensures))
+returns c =
+    let a = c.args in
+    let q = is_naming a.mark a.index in
+    let es = c.entries.result.now in
+    any_from_yields_List (λ slot. q (slot_label slot)) _ _ c.any.result c.any.ensures.ran (YieldsList-from_slice es cc) (λ x b q k. search (rules, tests))
+    ∙ any_slots q es ∙ ap (is_any q) (labels_are a.span a.table a.slots.now es c.entries.ensures)

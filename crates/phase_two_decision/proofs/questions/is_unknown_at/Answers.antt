@@ -1,15 +1,18 @@
 -- Beyond the last entry nothing passes; else the slot's mark is asked.
-use mathlib.Core.Path.{ap, ◌∙◌}
+use mathlib.Core.Path.{◌≡◌, ap, ◌∙◌}
+use mathlib.Core.List.{map}
 use native.Mathlib.Omega.{arith}
-use Rattle.tables.specs.Tables.{table_in}
-use Rattle.conversation.specs.PhaseTwo.{label_of, is_unknown}
-use Rattle.phase_two_decision.proofs.Laws.Questions.{passes_at, passes_out}
+use Rattle.std.proofs.lemmas.Grind.{common_steps}
+use Rattle.session.specs.Tables.{span_of}
+use Rattle.session.specs.declared.kinds.Kind.TheVariants as the
+use Rattle.conversation.specs.PhaseTwo.{is_unknown, passes}
+use Rattle.look_up.proofs.Laws.Labels.{slot_label, labels_are}
+use Rattle.phase_two_decision.proofs.Laws.Questions.{passes_there, passes_out}
 use Rattle.phase_two_decision.proofs.questions.is_unknown_at.Goals as goal
 
-pub returns-then-count_entries-n : goal.returns-then-count_entries-n
-returns-then-count_entries-n c = let t = table_in c.span_of-span.result c.args.headers c.args.header_slots.now in
-    rw c.span_of-span.ensures at (passes_out is_unknown t c.args.n (omega (arith, c.count_entries.ensures)))
-
 pub returns : goal.returns
-returns c = let t = table_in c.span_of-span.result c.args.headers c.args.header_slots.now in
-    rw c.span_of-span.ensures at (ap (λ x. is_unknown (label_of x)) c.entry_at-e.ensures ∙ passes_at is_unknown t c.args.n (omega (arith, c.count_entries.ensures)))
+returns c =
+    let a = c.args in
+    let es = c.entries.result.now in
+    let h : c.is_some_and.result ≡ passes is_unknown (map slot_label es) a.n = grind (arith, common_steps, passes_there is_unknown es a.n, passes_out is_unknown es a.n) in
+    h ∙ ap (λ ls. passes is_unknown ls a.n) (labels_are (span_of the.Headers) a.headers a.header_slots.now es (rw c.span_of.ensures at c.entries.ensures))

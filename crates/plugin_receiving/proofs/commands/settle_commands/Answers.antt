@@ -4,6 +4,7 @@ use mathlib.Core.List.{[]}
 use Rattle.refusal.specs.Verdict.{verdict_said}
 use Rattle.chunks.specs.Taking.{plugin}
 use Rattle.intake.specs.Turns.{turn_said}
+use Rattle.intake.specs.declared.answers.Received.{Received}
 use Rattle.plugin_receiving.proofs.Laws.Commands.{may_settle, refusal_stands}
 use Rattle.plugin_receiving.proofs.commands.settle_commands.Goals as goal
 
@@ -19,6 +20,6 @@ returns-in-Ok c = let a = c.args in
 pub returns-in-Err : goal.returns-in-Err
 returns-in-Err c = let a = c.args in
     record {
-      outcome = λ xs hs b. refusal_stands a.so_far c.in-Err.field-0 c.keeping.result xs hs b a.input.now a.rest.now c.in-Err.is c.keeping.ensures;
-      rest = (refl, ap (λ s. s.name) c.keeping.ensures);
+      outcome = λ xs hs b. rw c.stop.ensures (refusal_stands a.so_far c.in-Err.r _ xs hs b a.input.now a.rest.now c.in-Err.is refl);
+      rest = (ap (λ (r : Received). r.written) c.stop.ensures, ap (λ (r : Received). r.session.name) c.stop.ensures);
     }

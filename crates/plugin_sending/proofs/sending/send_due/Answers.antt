@@ -31,5 +31,8 @@ line_short Error a = with_word error_word a (omega arith)
 line_short Done a = with_word done_word a (omega arith)
 line_short Other a = omega arith
 
-pub send_in-requires : goal.send_in-requires
-send_in-requires c = let a = c.args in omega (arith, line_short a.word a.arguments.now)
+pub send_with-requires-asks-send_in-requires : goal.send_with-requires-asks-send_in-requires
+send_with-requires-asks-send_in-requires c = let a = c.args in omega (arith, line_short a.word a.arguments.now)
+
+pub send_with-requires-2-asks-send_in-requires : goal.send_with-requires-2-asks-send_in-requires
+send_with-requires-2-asks-send_in-requires c = let a = c.args in omega (arith, line_short a.word a.arguments.now)

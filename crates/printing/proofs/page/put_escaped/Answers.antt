@@ -2,7 +2,6 @@
 use Prim.Native.Nat.{◌+◌}
 use mathlib.Core.Path.{sym, ap, ◌∙◌}
 use mathlib.Core.List.{◌++◌}
-use native.Mathlib.Omega.{arith}
 use lib.ListN.{take, drop, length-drop}
 use Rattle.refusal.specs.Output.{said, answered, filled}
 use Rattle.refusal.proofs.Laws.Lists.{part_rest, put_rest}
@@ -13,13 +12,6 @@ use Rattle.printing.proofs.page.put_escaped.Goals as goal
 
 pub returns-then-out-at : goal.returns-then-out-at
 returns-then-out-at c = put_none (escaped c.args.bytes.now) c.args.out.now c.args.at c.if-out-at.true
-
-pub overflow_add-result : goal.overflow_add-result
-overflow_add-result c = let o = c.args.out.now in
-    let t = escaped c.args.bytes.now in
-    let n = c.args.at in
-    let w = written_front t (drop n o) c.in-Ok.n _ (sym (ap said c.in-Ok.is) ∙ c.escape-w.ensures.answer ∙ ap (λ x. answered t x) (part_rest n o)) (c.escape-w.ensures.buffer ∙ ap (λ x. filled t x) (part_rest n o)) in
-    omega (arith, w.size, simp length-drop at w.fits)
 
 pub returns-in-Ok : goal.returns-in-Ok
 returns-in-Ok c = let o = c.args.out.now in

@@ -1,30 +1,8 @@
--- `choose_reply` meets its contract: the code's words are those of `reply_words`, and each number has its reply.
-use mathlib.Core.Path.{sym, ◌∙◌}
-use Rattle.stanza.specs.Arguments.{words, before}
-use Rattle.script.proofs.Laws.Choice.{none_below, place_other}
-use Rattle.script.specs.Choice.{reply_words}
+-- `choose_reply` meets its contract: the code's words are those of `reply_words`, and its choices are numbered in order.
+use mathlib.Core.Path.{refl, ap, ◌∙◌}
+use Rattle.script.proofs.Laws.Choice.{numbered}
+use Rattle.script.specs.Choice.{reply_said}
 use Rattle.script.proofs.choices.choose_reply.Goals as goal
 
-pub returns-in-0 : goal.returns-in-0
-unfolding words before
-returns-in-0 c = sym c.in-0.is ∙ c.find_word-k.ensures
-
-pub returns-in-1 : goal.returns-in-1
-unfolding words before
-returns-in-1 c = sym c.in-1.is ∙ c.find_word-k.ensures
-
-pub returns-in-2 : goal.returns-in-2
-unfolding words before
-returns-in-2 c = sym c.in-2.is ∙ c.find_word-k.ensures
-
-pub returns-in-3 : goal.returns-in-3
-unfolding words before
-returns-in-3 c = sym c.in-3.is ∙ c.find_word-k.ensures
-
-pub returns-in-4 : goal.returns-in-4
-unfolding words before
-returns-in-4 c = sym c.in-4.is ∙ c.find_word-k.ensures
-
-pub returns-in_default : goal.returns-in_default
-unfolding words before
-returns-in_default c = place_other c.args.word.now reply_words c.find_word-k.ensures (none_below c.find_word-k.result 5 c.in_default.in_default-own.rest)
+pub returns : goal.returns
+returns c = ap reply_said c.choose.ensures ∙ numbered reply_said c.args.word.now _ refl

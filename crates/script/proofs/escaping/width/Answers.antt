@@ -1,16 +1,13 @@
 -- `width` meets its contract.
-use native.Mathlib.Omega.{arith}
-use Rattle.refusal.specs.Run.{is_graphic}
-use Rattle.script.proofs.Laws.Escape.{printed_letter, printed_self, printed_hex}
+use Rattle.std.proofs.Common.{sym, ◌∙◌}
+use Rattle.script.proofs.Laws.Escape.{letter_some, letter_none, printed_self, printed_hex}
 use Rattle.script.proofs.escaping.width.Goals as goal
 
-pub returns-then-letter_of-gt0 : goal.returns-then-letter_of-gt0
-returns-then-letter_of-gt0 c = rw (printed_letter c.args.b (omega (arith, c.letter_of.ensures)))
+pub returns-in-Some : goal.returns-in-Some
+returns-in-Some c = rw (letter_some c.args.b c.in-Some.field-0 c.in-Some.ensures)
 
-pub returns-then-b : goal.returns-then-b
-unfolding is_graphic
-returns-then-b c = rw (printed_self c.args.b (omega (arith, c.letter_of.ensures)) c.if-b.true)
+pub returns-in-None : goal.returns-in-None
+returns-in-None c = rw (printed_self c.args.b (letter_none c.args.b c.in-None.ensures) (sym c.is_graphic.ensures ∙ c.if-is_graphic.true))
 
-pub returns : goal.returns
-unfolding is_graphic
-returns c = rw (printed_hex c.args.b (omega (arith, c.letter_of.ensures)) c.if-b.false)
+pub returns-in-None-2 : goal.returns-in-None-2
+returns-in-None-2 c = rw (printed_hex c.args.b (letter_none c.args.b c.in-None.ensures) (sym c.is_graphic.ensures ∙ c.if-is_graphic.false))

@@ -1,69 +1,72 @@
--- `unescape_into` meets its contract. Invariant: the word stands for the n bytes that are stored and what the rest stands for in this state; behind them the buffer is as it was.
-use Rattle.script.proofs.Laws.Escape.{rest_ends, rest_moves, rest_gives, rest_stops, behind_none, fits_rest, fits_one, more, kept, stored}
-use Prim.Native.Nat.{ℕ, ◌+◌, ◌<◌, ◌≤◌}
-use mathlib.Core.Path.{◌≡◌, refl, sym, ap, ◌∙◌}
-use mathlib.Core.Bool.{true}
-use mathlib.Core.List.{List, [], ◌∷◌}
-use lib.ListN.{length, take, drop, get_or, length-set}
-use lib.Seq.{length-take-le}
-use native.Mathlib.Omega.{arith}
-use borrow.Author.Rules.{rules}
-use Rattle.script.specs.Escape.{rest, unescaped, step_said, behind, fits, gives, effect}
+-- `unescape_into` meets its contract. Invariant: the word stands for n bytes and what the rest stands for in this state. Where all of it fits, the n bytes are stored, and
+-- behind them the buffer is as it was.
+use Rattle.std.proofs.Common.{ℕ, ◌+◌, List, Some, sym, ap, ◌∙◌, subst, drop, arith}
+use Rattle.script.specs.Escape.{Meaning, word, rest, unescaped, measured, state_said, step_said, size_said}
+use Rattle.script.proofs.Laws.Escape.{plus, plus_one, rest_ends, rest_moves, rest_gives, rest_stops, state_plain, Stored, stored_space, stored_one, stored_bad, stored_whole}
 use Rattle.script.proofs.unescaping.unescape_into.Goals as goal
+use Rattle.script.proofs.unescaping.unescape_into.Goals.{in-Moves, in-Gives, then-n-out, else-n-out}
 
--- what the word stands for, where the byte at i completes a byte
-one_more : (t s : List ℕ) (n state i b : ℕ) →
-    unescaped t ≡ behind (take n s) (rest state (drop i t)) → i < length t → gives b ≡ effect state (get_or t i 0) →
-    unescaped t ≡ behind (take n s) (behind (b ∷ []) (rest 0 (drop (i + 1) t)))
-one_more t s n state i b e h g = e ∙ ap (behind (take n s)) (rest_gives t state i b h g)
+-- n bytes more
+more : ℕ → Meaning (List ℕ) → Meaning ℕ
+more n m = plus n (measured m)
 
--- there is space for one more byte
-space : (t out s : List ℕ) (n i b : ℕ) → fits (unescaped t) out ≡ true → n ≤ length s → length s ≡ length out →
-    unescaped t ≡ behind (take n s) (behind (b ∷ []) (rest 0 (drop (i + 1) t))) → n < length s
-space t out s n i b f h l e = omega (arith, fits_one (unescaped t) out (take n s) b (rest 0 (drop (i + 1) t)) f e, length-take-le n s h)
+pub returns-in_err-step : goal.returns-in_err-step
+unfolding more
+returns-in_err-step c =
+    let t = c.args.word.now in
+    let s = rest_stops t (state_said c.loop-b.state) c.loop-b.b-index c.loop-b-test.true c.in_err-step.ensures in
+    record {
+      size = ap size_said c.from_residual.ensures ∙ sym (c.loop-b.invariant.1 ∙ ap (more c.loop-b.n) s);
+      buffer = λ f. absurd (stored_bad (unescaped t) c.loop-b.out c.args.out.now c.loop-b.n f (subst (Stored (unescaped t) c.loop-b.out c.args.out.now c.loop-b.n) s (c.loop-b.invariant.2 f)));
+    }
 
-pub loop-i-init : goal.loop-i-init
-loop-i-init c = (search rules, search rules, refl, refl, behind_none _)
+pub loop-b-preserved : goal.loop-b-preserved
+unfolding more
+loop-b-preserved c =
+    let t = c.args.word.now in
+    let o = c.loop-b.out in
+    let p = c.args.out.now in
+    let n = c.loop-b.n in
+    let state = state_said c.loop-b.state in
+    let i = c.loop-b.b-index in
+    elim c.match-step.branch [
+      | in-Moves w ↦
+          let s = rest_moves t state i (state_said w.in-Moves.next) c.loop-b-test.true (sym (ap (λ s. step_said (Some s)) w.in-Moves.is) ∙ c.in_ok-step.ensures) in (
+            omega arith,
+            rw (w.n-is, w.state-is) (c.loop-b.invariant.1 ∙ ap (more n) s),
+            λ f. rw (w.n-is, w.state-is, w.out-is) (subst (Stored (unescaped t) o p n) s (c.loop-b.invariant.2 f)),
+          )
+      | in-Gives w ↦
+          let b = w.in-Gives.byte in
+          let m = rest 0 (drop (i + 1) t) in
+          let s = rest_gives t state i b c.loop-b-test.true (sym (ap (λ s. step_said (Some s)) w.in-Gives.is) ∙ c.in_ok-step.ensures) in (
+            omega arith,
+            rw (w.n-is, w.state-is) (c.loop-b.invariant.1 ∙ ap (more n) s ∙ plus_one n b m),
+            λ f.
+                let r = subst (Stored (unescaped t) o p n) s (c.loop-b.invariant.2 f) in
+                rw (w.n-is, w.state-is, w.out-is) (elim w.if-n-out.branch [
+                  | then-n-out v ↦ rw v.out-is (stored_one (unescaped t) o p n f b m r)
+                  | else-n-out v ↦ (let h = stored_space (unescaped t) o p n f b m r in absurd (omega arith))
+                ]),
+          )
+    ]
 
-pub loop-i-preserved-in-Moves : goal.loop-i-preserved-in-Moves
-loop-i-preserved-in-Moves c =
-    let word = c.args.word.now in (
-      search rules,
-      search rules,
-      c.loop-i.invariant.2,
-      c.loop-i.invariant.3,
-      c.loop-i.invariant.4 ∙ ap (behind (take c.loop-i.n c.loop-i.out)) (rest_moves word c.loop-i.state c.loop-i.i c.in-Moves.next c.loop-i-test.true (sym (ap step_said c.in-Moves.is) ∙ c.read_byte-s.ensures)),
-    )
+pub returns-in-Plain : goal.returns-in-Plain
+unfolding more
+returns-in-Plain c =
+    let t = c.args.word.now in
+    let e = rest_ends t (state_said c.loop-b.state) c.loop-b.b-index c.loop-b-test.false ∙ rw c.in-Plain.is in
+    record {
+      size = sym (c.loop-b.invariant.1 ∙ ap (more c.loop-b.n) e ∙ ap word (omega arith));
+      buffer = λ f. stored_whole (unescaped t) c.loop-b.out c.args.out.now c.loop-b.n f (subst (Stored (unescaped t) c.loop-b.out c.args.out.now c.loop-b.n) e (c.loop-b.invariant.2 f));
+    }
 
-pub bounds-out-n : goal.bounds-out-n
-bounds-out-n c =
-    let word = c.args.word.now in
-    let e = one_more word c.loop-i.out c.loop-i.n c.loop-i.state c.loop-i.i c.in-Gives.b c.loop-i.invariant.4 c.loop-i-test.true (sym (ap step_said c.in-Gives.is) ∙ c.read_byte-s.ensures) in
-    space word c.args.out.now c.loop-i.out c.loop-i.n c.loop-i.i c.in-Gives.b c.requires c.loop-i.invariant.1 c.loop-i.invariant.2 e
-
-pub loop-i-preserved : goal.loop-i-preserved
-loop-i-preserved c =
-    let word = c.args.word.now in
-    let n = c.loop-i.n in
-    let b = c.in-Gives.b in
-    let e = one_more word c.loop-i.out n c.loop-i.state c.loop-i.i b c.loop-i.invariant.4 c.loop-i-test.true (sym (ap step_said c.in-Gives.is) ∙ c.read_byte-s.ensures) in
-    let h = space word c.args.out.now c.loop-i.out n c.loop-i.i b c.requires c.loop-i.invariant.1 c.loop-i.invariant.2 e in (
-      search rules,
-      simp length-set (omega (arith, h)),
-      simp length-set c.loop-i.invariant.2,
-      kept c.loop-i.out c.args.out.now n b c.loop-i.invariant.3,
-      more (unescaped word) c.loop-i.out n b (rest 0 (drop (c.loop-i.i + 1) word)) h e,
-    )
-
-pub returns-in-Stops : goal.returns-in-Stops
-returns-in-Stops c =
-    let word = c.args.word.now in
-    let said = sym (ap step_said c.in-Stops.is) ∙ c.read_byte-s.ensures in
-    absurd (fits_rest (unescaped word) c.args.out.now (take c.loop-i.n c.loop-i.out) c.requires (c.loop-i.invariant.4 ∙ ap (behind (take c.loop-i.n c.loop-i.out)) (rest_stops word c.loop-i.state c.loop-i.i c.loop-i-test.true said)))
-
-pub returns : goal.returns
-returns c =
-    let word = c.args.word.now in
-    let out = c.loop-i.out in
-    let n = c.loop-i.n in
-    stored (unescaped word) out c.args.out.now c.loop-i.state n c.requires c.loop-i.invariant.2 c.loop-i.invariant.1 c.loop-i.invariant.3 (c.loop-i.invariant.4 ∙ ap (behind (take n out)) (rest_ends word c.loop-i.state c.loop-i.i c.loop-i-test.false))
+pub returns-in_default : goal.returns-in_default
+unfolding more
+returns-in_default c =
+    let t = c.args.word.now in
+    let e = rest_ends t (state_said c.loop-b.state) c.loop-b.b-index c.loop-b-test.false ∙ rw (state_plain c.loop-b.state c.in_default.not-Plain) in
+    record {
+      size = sym (c.loop-b.invariant.1 ∙ ap (more c.loop-b.n) e);
+      buffer = λ f. absurd (stored_bad (unescaped t) c.loop-b.out c.args.out.now c.loop-b.n f (subst (Stored (unescaped t) c.loop-b.out c.args.out.now c.loop-b.n) e (c.loop-b.invariant.2 f)));
+    }

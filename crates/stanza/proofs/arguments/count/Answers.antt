@@ -1,11 +1,7 @@
 -- `count` meets its contract. Invariant: n counts the words that have begun, the one at `at` among them.
 use native.Mathlib.Omega.{arith}
-use borrow.Author.Rules.{rules}
 use Rattle.stanza.proofs.Laws.Arguments.{count_last, count_next}
 use Rattle.stanza.proofs.arguments.count.Goals as goal
-
-pub loop-n-init : goal.loop-n-init
-loop-n-init c = (search rules, search rules, omega arith)
 
 pub returns-then-line-end : goal.returns-then-line-end
 returns-then-line-end c = let line = c.args.line.now in

@@ -1,45 +1,33 @@
--- `read_digits` meets its contract. Invariant: v is what the digits before i stand for, at most 4,294,967,295.
+-- A turn reads one digit: the tests are the definition's.
 use Prim.Native.Nat.{◌+◌, ◌-◌, ◌*◌}
-use mathlib.Core.Path.{refl, sym, ◌∙◌}
+use mathlib.Core.Path.{◌≡◌, sym, ◌∙◌}
+use mathlib.Core.Bool.{true, false}
 use lib.ListN.{get_or}
 use native.Mathlib.Omega.{arith}
-use borrow.Author.Rules.{rules}
 use borrow.Author.Tests.{le-leb, lt-leb}
+use Rattle.stanza.specs.Index.{is_digit}
 use Rattle.stanza.proofs.Laws.Index.{digits_none, digits_one}
 use Rattle.stanza.proofs.indices.read_digits.Goals as goal
 
-pub loop-i-init : goal.loop-i-init
-loop-i-init c = (search rules, search rules, refl)
-
-pub returns-then-b-lt48 : goal.returns-then-b-lt48
-returns-then-b-lt48 c = let text = c.args.text.now in
-    let v = c.loop-i.v in
-    let i = c.loop-i.i in
-    sym (c.loop-i.invariant.2 ∙ digits_one text v i (omega arith) ∙ rw (lt-leb 48 (get_or text i 0) (omega arith)))
-
-pub returns-then-b-gt57 : goal.returns-then-b-gt57
-returns-then-b-gt57 c = let text = c.args.text.now in
-    let v = c.loop-i.v in
-    let i = c.loop-i.i in
-    sym (c.loop-i.invariant.2 ∙ digits_one text v i (omega arith) ∙ rw (le-leb 48 (get_or text i 0) (omega arith), lt-leb (get_or text i 0) 57 (omega arith)))
+pub returns-then-not-is_ascii_digit : goal.returns-then-not-is_ascii_digit
+returns-then-not-is_ascii_digit c = let text = c.args.text.now in
+    let i = c.loop-b.b-index in
+    let d : is_digit (get_or text i 0) ≡ false = sym c.is_ascii_digit.ensures.value ∙ c.if-not-is_ascii_digit.true in
+    sym (c.loop-b.invariant.1 ∙ digits_one text c.loop-b.v i (omega arith) ∙ rw d)
 
 pub returns-then-v-gt-LARGEST : goal.returns-then-v-gt-LARGEST
 returns-then-v-gt-LARGEST c = let text = c.args.text.now in
-    let v = c.loop-i.v in
-    let i = c.loop-i.i in
-    sym (c.loop-i.invariant.2 ∙ digits_one text v i (omega arith) ∙ rw (le-leb 48 (get_or text i 0) (omega arith), le-leb (get_or text i 0) 57 (omega arith), lt-leb (c.loop-i.v * 10 + (get_or text i 0 - 48)) 4294967295 (omega arith)))
+    let v = c.loop-b.v in
+    let i = c.loop-b.b-index in
+    let d : is_digit (get_or text i 0) ≡ true = sym c.is_ascii_digit.ensures.value ∙ c.if-not-is_ascii_digit.false in
+    sym (c.loop-b.invariant.1 ∙ digits_one text v i (omega arith) ∙ rw (d, lt-leb (v * 10 + (get_or text i 0 - 48)) 4294967295 (omega arith)))
 
-pub loop-i-preserved : goal.loop-i-preserved
-loop-i-preserved c = let text = c.args.text.now in
-    let v = c.loop-i.v in
-    let i = c.loop-i.i in (
-      omega arith,
-      omega arith,
-      c.loop-i.invariant.2 ∙ digits_one text v i (omega arith) ∙ rw (le-leb 48 (get_or text i 0) (omega arith), le-leb (get_or text i 0) 57 (omega arith), le-leb (c.loop-i.v * 10 + (get_or text i 0 - 48)) 4294967295 (omega arith), c.wide.ensures),
-    )
+pub loop-b-preserved : goal.loop-b-preserved
+loop-b-preserved c = let text = c.args.text.now in
+    let v = c.loop-b.v in
+    let i = c.loop-b.b-index in
+    let d : is_digit (get_or text i 0) ≡ true = sym c.is_ascii_digit.ensures.value ∙ c.if-not-is_ascii_digit.false in
+    (omega arith, c.loop-b.invariant.1 ∙ digits_one text v i (omega arith) ∙ rw (d, le-leb (v * 10 + (get_or text i 0 - 48)) 4294967295 (omega arith), c.from.ensures))
 
 pub returns : goal.returns
-returns c = let text = c.args.text.now in
-    let v = c.loop-i.v in
-    let i = c.loop-i.i in
-    sym (c.loop-i.invariant.2 ∙ digits_none text v i c.loop-i-test.false)
+returns c = sym (c.loop-b.invariant.1 ∙ digits_none c.args.text.now c.loop-b.v c.loop-b.b-index c.loop-b-test.false)

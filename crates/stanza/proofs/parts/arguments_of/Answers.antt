@@ -6,6 +6,7 @@ use lib.ListN.{length, take, drop}
 use native.Mathlib.Nat.{sub_self}
 use native.Mathlib.Decide.{dec_le}
 use native.Mathlib.Omega.{arith}
+use borrow.Author.Rules.{rules}
 use Rattle.refusal.proofs.Laws.Lists.{part_of, part_none}
 use Rattle.stanza.proofs.parts.arguments_of.Goals as goal
 
@@ -18,4 +19,4 @@ args_part t l m f p q =
     ]
 
 pub returns : goal.returns
-returns c = args_part c.args.text.now c.args.s.line c.least-end.result c.least-from.result c.least-end.ensures c.least-from.ensures
+returns c = args_part c.args.text.now c.args.s.line c.min-end.result c.min-from.result (search rules) (search rules)

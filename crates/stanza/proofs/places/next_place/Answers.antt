@@ -18,12 +18,6 @@ pub returns-in-Gap : goal.returns-in-Gap
 unfolding next
 returns-in-Gap c = rw (c.in-Gap.is, ← c.is_graphic.ensures) c.place_if-in-Gap.ensures
 
-pub returns-in-Word : goal.returns-in-Word
-returns-in-Word c = rw c.in-Word.is c.next_in_word.ensures
-
-pub returns-in-Line : goal.returns-in-Line
-returns-in-Line c = rw c.in-Line.is c.next_in_line.ensures
-
 pub returns-in-Ended : goal.returns-in-Ended
 unfolding next
 returns-in-Ended c = rw c.in-Ended.is

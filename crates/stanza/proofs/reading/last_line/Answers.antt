@@ -28,9 +28,6 @@ returns-then-k-eq0 c = let l : c.characters-e.result < length c.args.text.now = 
     let m : c.characters-e.result < c.args.from + 64 = omega (arith, n) in
     line_lf c.args.text.now c.args.from c.characters-e.result c.characters-e.ensures c.requires.from_in_bounds m l c.if-text-e-ne10.false ∙ rw c.if-k-eq0.true
 
-pub bounds-text-e-2 : goal.bounds-text-e-2
-bounds-text-e-2 c = omega (arith, c.characters-e.ensures, end_le is_character c.args.text.now c.args.from c.requires.from_in_bounds, c.if-e-text.false)
-
 pub returns-then-ends_well : goal.returns-then-ends_well
 returns-then-ends_well c = let l : c.characters-e.result < length c.args.text.now = omega (arith, c.characters-e.ensures, end_le is_character c.args.text.now c.args.from c.requires.from_in_bounds, c.if-e-text.false) in
     let n = line_not_full c.args.text.now c.args.from c.characters-e.result c.characters-e.ensures c.requires.from_in_bounds c.requires.text_value l c.if-text-e-ne10.false in

@@ -1,20 +1,16 @@
 -- The window is all that the definition looks at; in it the first line decides, then the body.
-use mathlib.Core.Path.{sym, ◌∙◌}
-use lib.Seq.{length-take-le}
-use native.Mathlib.Omega.{arith}
+use Prim.Native.Nat.{min}
+use mathlib.Core.Path.{◌≡◌, ◌∙◌}
+use lib.ListN.{length}
+use borrow.Author.Rules.{rules}
 use Rattle.stanza.specs.Reading.{found}
 use Rattle.stanza.proofs.Laws.Reading.{window_is, short_is, found_window}
 use Rattle.stanza.proofs.reading.read.Goals as goal
 
-pub slice_bounds-w-end : goal.slice_bounds-w-end
-slice_bounds-w-end c = sym (length-take-le _ c.args.text.now (omega (arith, c.window-n.ensures)))
-
-pub read_body-requires : goal.read_body-requires
-read_body-requires c = let whole = rw c.in-Ok.is at c.first_line-l.ensures.ends_at in
-    record { w_value = whole.0; e_in_bounds = whole.1 }
-
 pub returns-in-Err : goal.returns-in-Err
-returns-in-Err c = rw (window_is c.args.text.now c.window-n.result c.window-n.ensures, rw c.in-Err.is at c.first_line-l.ensures.text_value) (c.refusal_of.ensures _ ∙ found_window c.args.text.now c.window-n.result c.window-n.ensures _)
+returns-in-Err c = let w : c.min-n.result ≡ min 8192 (length c.args.text.now) = search rules in
+    rw (window_is c.args.text.now c.min-n.result w, rw c.in-Err.is at c.first_line-l.ensures.text_value) (c.refusal_of.ensures _ ∙ found_window c.args.text.now c.min-n.result w _)
 
 pub returns-in-Ok : goal.returns-in-Ok
-returns-in-Ok c = rw (window_is c.args.text.now c.window-n.result c.window-n.ensures, rw c.in-Ok.is at c.first_line-l.ensures.text_value) (c.read_body.ensures ∙ found_window c.args.text.now c.window-n.result c.window-n.ensures _)
+returns-in-Ok c = let w : c.min-n.result ≡ min 8192 (length c.args.text.now) = search rules in
+    rw (window_is c.args.text.now c.min-n.result w, rw c.in-Ok.is at c.first_line-l.ensures.text_value) (c.read_body.ensures ∙ found_window c.args.text.now c.min-n.result w _)

@@ -1,6 +1,6 @@
 -- Invariant: the automaton comes to the same from `from` and from i, and so does the search for the line's end.
 use Prim.Native.Nat.{◌<◌}
-use mathlib.Core.Path.{refl, ◌∙◌}
+use mathlib.Core.Path.{◌∙◌}
 use lib.ListN.{length}
 use native.Mathlib.Omega.{arith}
 use Rattle.refusal.specs.Run.{is_graphic}
@@ -8,11 +8,7 @@ use Rattle.refusal.proofs.Laws.Run.{run_in, run_out, end_le, run_first, run_stop
 use Rattle.stanza.specs.Automaton.{gap, word}
 use Rattle.stanza.specs.Reading.{is_not_lf}
 use Rattle.stanza.proofs.Laws.Automaton.{scan_end, gap_bad, gap_word, word_run, word_lf, word_space, word_bad, graphic_line_end}
-use borrow.Author.Rules.{rules}
 use Rattle.stanza.proofs.reading.words.Goals as goal
-
-pub loop-i-init : goal.loop-i-init
-loop-i-init c = (search rules, c.requires, refl, refl)
 
 pub returns-then-e-i : goal.returns-then-e-i
 returns-then-e-i c = let t = c.args.text.now in
@@ -44,14 +40,6 @@ returns-then-b-ne32 c = let l : c.graphic_end-e.result < length c.args.text.now 
       text_value = c.loop-i.invariant.2 ∙ gap_word c.args.text.now c.loop-i.i c.loop-i-test.true (run_first is_graphic c.args.text.now c.loop-i.i c.graphic_end-e.result c.graphic_end-e.ensures c.if-e-i.false) ∙ word_run c.args.text.now c.loop-i.i c.graphic_end-e.result c.graphic_end-e.ensures ∙ word_bad c.args.text.now c.graphic_end-e.result l (run_stop is_graphic c.args.text.now c.loop-i.i c.graphic_end-e.result c.graphic_end-e.ensures l) c.if-b-ne32.true c.if-b-eq10.false;
       ends_at = tt;
     }
-
-pub overflow_add-i : goal.overflow_add-i
-overflow_add-i c = let l : c.graphic_end-e.result < length c.args.text.now = omega (arith, c.graphic_end-e.ensures, end_le is_graphic c.args.text.now c.loop-i.i (omega arith), c.if-e-text.false) in
-    omega arith
-
-pub loop-i-smaller : goal.loop-i-smaller
-loop-i-smaller c = let l : c.graphic_end-e.result < length c.args.text.now = omega (arith, c.graphic_end-e.ensures, end_le is_graphic c.args.text.now c.loop-i.i (omega arith), c.if-e-text.false) in
-    omega (arith, c.graphic_end-e.ensures)
 
 pub loop-i-preserved : goal.loop-i-preserved
 loop-i-preserved c = let l : c.graphic_end-e.result < length c.args.text.now = omega (arith, c.graphic_end-e.ensures, end_le is_graphic c.args.text.now c.loop-i.i (omega arith), c.if-e-text.false) in (

@@ -1,23 +1,10 @@
 -- Command, space and arguments, one behind the other, are the text.
 use Prim.Native.Nat.{◌+◌, ◌-◌, ◌≤◌}
-use mathlib.Core.Path.{◌∙◌}
 use lib.ListN.{length, take, drop, set, length-set, length-drop}
 use native.Mathlib.Omega.{arith}
 use borrow.Author.Tests.{le-ltb}
-use borrow.Rule.Slice.PartMut.{same_len_mid}
 use Rattle.refusal.proofs.Laws.Lists.{part_rest, parts_joined}
 use Rattle.stanza.proofs.writing.join_into.Goals as goal
-
-pub slice_bounds-copy-count : goal.slice_bounds-copy-count
-slice_bounds-copy-count c = simp length-set (omega (arith, c.copy.auto.out, c.requires))
-
-pub slice_bounds-copy-start : goal.slice_bounds-copy-start
-slice_bounds-copy-start c = simp length-set (omega (arith, c.copy.auto.out, c.requires))
-
-pub shape_of-out : goal.shape_of-out
-shape_of-out c = let n = length c.args.command.now in
-    let a = c.copy.new.out in
-    same_len_mid (n + 1) (length (set a n 32) - (n + 1)) (set a n 32) c.copy-2.new.out c.copy-2.auto.out ∙ length-set a n 32 ∙ c.copy.auto.out
 
 pub returns : goal.returns
 returns c = let command = c.args.command.now in

@@ -1,16 +1,6 @@
 -- The first line and the body's lines, one behind the other, are the stanza, and there is space for both.
-use native.Mathlib.Omega.{arith}
-use Rattle.stanza.proofs.Laws.Writing.{text_length, text_done}
+use Rattle.stanza.proofs.Laws.Writing.{text_done}
 use Rattle.stanza.proofs.writing.write_into.Goals as goal
-
-pub write_line-requires : goal.write_line-requires
-write_line-requires c = omega (arith, text_length c.args.line.now c.args.body.now, c.requires)
-
-pub slice_bounds-encode_lines-count : goal.slice_bounds-encode_lines-count
-slice_bounds-encode_lines-count c = omega (arith, text_length c.args.line.now c.args.body.now, c.requires, c.write_line.auto.out)
-
-pub slice_bounds-encode_lines-start : goal.slice_bounds-encode_lines-start
-slice_bounds-encode_lines-start c = omega (arith, text_length c.args.line.now c.args.body.now, c.requires, c.write_line.auto.out)
 
 pub returns : goal.returns
 returns c = text_done c.args.line.now c.args.body.now c.write_line.new.out c.args.out.now c.encode_lines.new.out c.requires c.write_line.ensures c.encode_lines.ensures.buffer

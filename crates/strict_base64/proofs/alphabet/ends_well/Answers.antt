@@ -1,20 +1,20 @@
--- By what n leaves modulo 4, in the definition's order; the last character's value is what `value` ensures.
+-- By what n leaves modulo 4; the last character's value is what `value` ensures.
 use Rattle.strict_base64.specs.Code.{ends_well}
-use borrow.Author.Tests.{eq-eqb, ne_eqb}
+use Rattle.std.proofs.Common.{◌≡◌, ◌%◌, arith}
 use Rattle.strict_base64.proofs.alphabet.ends_well.Goals as goal
 
-pub returns-then-left-eq0 : goal.returns-then-left-eq0
+pub returns-in-0 : goal.returns-in-0
 unfolding ends_well
-returns-then-left-eq0 c = simp (eq-eqb _ _ c.if-left-eq0.true)
+returns-in-0 c = simp c.in-0.is
 
-pub returns-then-left-eq2 : goal.returns-then-left-eq2
+pub returns-in-2 : goal.returns-in-2
 unfolding ends_well
-returns-then-left-eq2 c = simp (ne_eqb _ _ c.if-left-eq0.false, eq-eqb _ _ c.if-left-eq2.true, c.value-v.ensures)
+returns-in-2 c = simp (c.in-2.is, c.value.ensures.value)
 
-pub returns-then-left-eq3 : goal.returns-then-left-eq3
+pub returns-in-3 : goal.returns-in-3
 unfolding ends_well
-returns-then-left-eq3 c = simp (ne_eqb _ _ c.if-left-eq0.false, ne_eqb _ _ c.if-left-eq2.false, eq-eqb _ _ c.if-left-eq3.true, c.value-v.ensures)
+returns-in-3 c = simp (c.in-3.is, c.value-in-3.ensures.value)
 
-pub returns : goal.returns
+pub returns-in_default : goal.returns-in_default
 unfolding ends_well
-returns c = simp (ne_eqb _ _ c.if-left-eq0.false, ne_eqb _ _ c.if-left-eq2.false, ne_eqb _ _ c.if-left-eq3.false)
+returns-in_default c = let e : c.args.n % 4 ≡ 1 = omega arith in simp e

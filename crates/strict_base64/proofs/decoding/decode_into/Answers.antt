@@ -3,12 +3,11 @@ use Rattle.strict_base64.specs.Alphabet.{value_of}
 use Prim.Native.Nat.{ℕ, ◌+◌, ◌*◌, ◌/◌, ◌%◌, ◌≤◌}
 use mathlib.Core.Path.{◌≡◌, refl}
 use mathlib.Core.List.{List, [], ◌∷◌, ◌++◌}
-use lib.ListN.{length, take, drop, get_or, set, length-set, length-drop}
+use lib.ListN.{length, take, drop, get_or, set, length-set}
 use native.Mathlib.Omega.{arith}
 use Rattle.strict_base64.specs.Code.{decoded}
 use Rattle.strict_base64.proofs.Laws.Code.{decoded_end, decoded_turn, decoded_groups}
-use Rattle.refusal.proofs.Laws.Lists.{part_rest, store_three, overwrite}
-use borrow.Author.Rules.{rules}
+use Rattle.refusal.proofs.Laws.Lists.{store_three, overwrite}
 use Rattle.strict_base64.proofs.decoding.decode_into.Goals as goal
 
 -- a turn: one group more
@@ -23,32 +22,19 @@ turn t o o₀ i a b c d ht ho e ea eb ec ed =
 
 pub loop-i-init : goal.loop-i-init
 unfolding decoded
-loop-i-init c = (search rules, refl, refl)
-
-pub bounds-out-i-in-loop-i : goal.bounds-out-i-in-loop-i
-bounds-out-i-in-loop-i c = simp length-set (omega arith)
-
-pub bounds-out-i-in-loop-i-2 : goal.bounds-out-i-in-loop-i-2
-bounds-out-i-in-loop-i-2 c = simp length-set (omega arith)
+loop-i-init c = (refl, refl)
 
 pub loop-i-preserved : goal.loop-i-preserved
 loop-i-preserved c = let i = c.loop-i.i in
     let out = c.loop-i.out in
     let out₀ = c.args.out.now in
     let text = c.args.text.now in
-    let a = c.look_up-a.result in
-    let b = c.look_up-b.result in
-    let d = c.look_up-c.result in
-    let e = c.look_up-d.result in
-    (search rules, simp length-set c.loop-i.invariant.1, turn text out out₀ i a b d e (omega arith) (omega arith) c.loop-i.invariant.2 c.look_up-a.ensures.value c.look_up-b.ensures.value c.look_up-c.ensures.value c.look_up-d.ensures.value)
-
-pub decode_rest-requires : goal.decode_rest-requires
-decode_rest-requires c = record {
-  values = c.requires.values;
-  text_len_bound = rw (part_rest (4 * (length c.args.text.now / 4)) c.args.text.now) (simp length-drop (omega arith));
-  text_in_bounds = rw (part_rest (4 * (length c.args.text.now / 4)) c.args.text.now, part_rest (3 * (length c.args.text.now / 4)) c.loop-i.out) (simp length-drop (omega arith));
-}
+    let a = c.value-a.result in
+    let b = c.value-b.result in
+    let d = c.value-c.result in
+    let e = c.value-d.result in
+    (simp length-set c.loop-i.invariant.0, turn text out out₀ i a b d e (omega arith) (omega arith) c.loop-i.invariant.1 c.value-a.ensures.value c.value-b.ensures.value c.value-c.ensures.value c.value-d.ensures.value)
 
 pub returns : goal.returns
 returns c = let n : c.loop-i.i ≡ length c.args.text.now / 4 = omega arith in
-    decoded_end c.args.text.now c.loop-i.out c.args.out.now c.decode_rest.new.out (length c.args.text.now / 4) (omega arith) (rw n at c.loop-i.invariant.2) c.decode_rest.ensures
+    decoded_end c.args.text.now c.loop-i.out c.args.out.now c.decode_rest.new.out (length c.args.text.now / 4) (omega arith) (rw n at c.loop-i.invariant.1) c.decode_rest.ensures

@@ -26,7 +26,7 @@ returns-then-characters-n c = simp (run_part is_character c.args.text.now (omega
 
 pub returns-then-ends_well : goal.returns-then-ends_well
 unfolding is_base64
-returns-then-ends_well c = simp (run_whole is_character c.args.text.now (omega (arith, c.characters.ensures)), ← c.ends_well.ensures, c.if-ends_well.true, decoded_length c.args.text.now)
+returns-then-ends_well c = simp (run_whole is_character c.args.text.now (omega (arith, c.characters.ensures)), ← c.ends_well.ensures, c.if-ends_well.true, c.decoded_length.ensures, decoded_length c.args.text.now)
 
 pub returns : goal.returns
 unfolding is_base64

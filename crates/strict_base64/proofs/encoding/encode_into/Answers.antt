@@ -1,14 +1,13 @@
 -- Invariant: the first i groups' characters stand at the front of `out`, 4 of each, and behind them `out` is as it was.
-use borrow.Author.Rules.{rules}
 use Prim.Native.Nat.{ℕ, ◌+◌, ◌*◌, ◌/◌, ◌%◌, ◌≤◌}
 use mathlib.Core.Path.{◌≡◌, refl}
 use mathlib.Core.List.{List, [], ◌∷◌, ◌++◌}
-use lib.ListN.{length, take, drop, get_or, set, length-set, length-drop}
+use lib.ListN.{length, take, drop, get_or, set, length-set}
 use native.Mathlib.Omega.{arith}
 use Rattle.strict_base64.specs.Alphabet.{character_of}
 use Rattle.strict_base64.specs.Code.{encoded}
 use Rattle.strict_base64.proofs.Laws.Code.{encoded_end, encoded_turn, encoded_groups}
-use Rattle.refusal.proofs.Laws.Lists.{part_rest, store_four, overwrite}
+use Rattle.refusal.proofs.Laws.Lists.{store_four, overwrite}
 use Rattle.strict_base64.proofs.encoding.encode_into.Goals as goal
 
 -- a turn: one group more
@@ -23,31 +22,15 @@ turn t o o₀ i ht ho e =
 
 pub loop-i-init : goal.loop-i-init
 unfolding encoded
-loop-i-init c = (search rules, refl, refl)
-
-pub bounds-out-i-in-loop-i : goal.bounds-out-i-in-loop-i
-bounds-out-i-in-loop-i c = simp length-set (omega arith)
-
-pub bounds-out-i-in-loop-i-2 : goal.bounds-out-i-in-loop-i-2
-bounds-out-i-in-loop-i-2 c = simp length-set (omega arith)
-
-pub bounds-out-i-in-loop-i-3 : goal.bounds-out-i-in-loop-i-3
-bounds-out-i-in-loop-i-3 c = simp length-set (omega arith)
+loop-i-init c = (refl, refl)
 
 pub loop-i-preserved : goal.loop-i-preserved
 loop-i-preserved c = let i = c.loop-i.i in
     let out = c.loop-i.out in
     let out₀ = c.args.out.now in
     let bytes = c.args.bytes.now in
-    (search rules, simp length-set c.loop-i.invariant.1, rw (c.first.ensures, c.second.ensures, c.third.ensures, c.fourth.ensures) (turn bytes out out₀ i (omega arith) (omega arith) c.loop-i.invariant.2))
-
-pub encode_rest-requires : goal.encode_rest-requires
-encode_rest-requires c = record {
-  characters = c.requires.characters;
-  bytes_len_bound = rw (part_rest (3 * (length c.args.bytes.now / 3)) c.args.bytes.now) (simp length-drop (omega arith));
-  bytes_in_bounds = rw (part_rest (3 * (length c.args.bytes.now / 3)) c.args.bytes.now, part_rest (4 * (length c.args.bytes.now / 3)) c.loop-i.out) (simp length-drop (omega arith));
-}
+    (simp length-set c.loop-i.invariant.0, rw (c.character.ensures, c.character-in-loop-i.ensures, c.character-in-loop-i-2.ensures, c.character-in-loop-i-3.ensures) (turn bytes out out₀ i (omega arith) (omega arith) c.loop-i.invariant.1))
 
 pub returns : goal.returns
 returns c = let n : c.loop-i.i ≡ length c.args.bytes.now / 3 = omega arith in
-    encoded_end c.args.bytes.now c.loop-i.out c.args.out.now c.encode_rest.new.out (length c.args.bytes.now / 3) (omega arith) (rw n at c.loop-i.invariant.2) c.encode_rest.ensures
+    encoded_end c.args.bytes.now c.loop-i.out c.args.out.now c.encode_rest.new.out (length c.args.bytes.now / 3) (omega arith) (rw n at c.loop-i.invariant.1) c.encode_rest.ensures

@@ -1,5 +1,5 @@
 -- Invariant: the first i groups' characters stand at the front of `out`, 4 of each, and behind them `out` is as it was.
-use Prim.Native.Nat.{◌-◌, ◌*◌, ◌≤◌}
+use Prim.Native.Nat.{◌*◌}
 use mathlib.Core.Path.{◌≡◌}
 use mathlib.Core.List.{◌++◌}
 use lib.ListN.{length, take, drop}
@@ -7,7 +7,4 @@ use Rattle.strict_base64.specs.Code.{encoded}
 use Rattle.strict_base64.proofs.encoding.encode_into.Given as goal
 
 abbrev pub invariant-loop-i : goal.invariant-loop-i
-invariant-loop-i l = (l.i ≤ l.n) × (length l.out ≡ length l.initial.out) × (l.out ≡ encoded (take (3 * l.i) l.bytes) ++ drop (4 * l.i) l.initial.out)
-
-abbrev pub decreases-loop-i : goal.decreases-loop-i
-decreases-loop-i l = l.n - l.i
+invariant-loop-i l = (length l.out ≡ length l.initial.out) × (l.out ≡ encoded (take (3 * l.i) l.bytes) ++ drop (4 * l.i) l.initial.out)

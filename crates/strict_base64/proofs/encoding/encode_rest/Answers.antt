@@ -1,7 +1,5 @@
 -- By the number of bytes: one makes two characters, two make three, with zero for the byte that is missing.
-use native.Mathlib.Nat.{add-zero}
 use mathlib.Core.List.{[], ◌∷◌}
-use lib.ListN.{length-set}
 use lib.Seq.{sets-eq}
 use native.Mathlib.Omega.{arith}
 use Rattle.strict_base64.proofs.Laws.Code.{encoded_none, encoded_one, encoded_two}
@@ -10,17 +8,8 @@ use Rattle.strict_base64.proofs.encoding.encode_rest.Goals as goal
 pub returns-then-n-eq0 : goal.returns-then-n-eq0
 returns-then-n-eq0 c = rw (encoded_none c.args.bytes.now c.if-n-eq0.true)
 
-pub bounds-out-1 : goal.bounds-out-1
-bounds-out-1 c = simp length-set (omega arith)
-
 pub returns-then-n-eq1 : goal.returns-then-n-eq1
-returns-then-n-eq1 c = rw (encoded_one c.args.bytes.now c.if-n-eq1.true, ← c.first.ensures, ← (rw add-zero at c.second.ensures)) (sets-eq (_ ∷ _ ∷ []) c.args.out.now 0 (omega arith))
-
-pub bounds-out-1-2 : goal.bounds-out-1-2
-bounds-out-1-2 c = simp length-set (omega arith)
-
-pub bounds-out-2 : goal.bounds-out-2
-bounds-out-2 c = simp length-set (omega arith)
+returns-then-n-eq1 c = rw (encoded_one c.args.bytes.now c.if-n-eq1.true, ← c.character.ensures, ← c.character-then-n-eq1.ensures) (sets-eq (_ ∷ _ ∷ []) c.args.out.now 0 (omega arith))
 
 pub returns : goal.returns
-returns c = rw (encoded_two c.args.bytes.now (omega arith), ← c.first.ensures, ← c.second-2.ensures, ← (rw add-zero at c.third.ensures)) (sets-eq (_ ∷ _ ∷ _ ∷ []) c.args.out.now 0 (omega arith))
+returns c = rw (encoded_two c.args.bytes.now (omega arith), ← c.character.ensures, ← c.character-2.ensures, ← c.character-3.ensures) (sets-eq (_ ∷ _ ∷ _ ∷ []) c.args.out.now 0 (omega arith))

@@ -1,5 +1,4 @@
 -- Invariant: the first i lines' bytes stand at the front of `out`, 48 of each, and behind them `out` is as it was.
-use borrow.Author.Rules.{rules}
 use Prim.Native.Nat.{ℕ, ◌-◌, ◌*◌, ◌/◌}
 use mathlib.Core.Path.{◌≡◌, refl, ◌∙◌}
 use mathlib.Core.List.{List, [], ◌∷◌}
@@ -8,7 +7,7 @@ use native.Mathlib.Omega.{arith}
 use borrow.Rule.Slice.PartMut.{same_len_mid}
 use Rattle.strict_base64.specs.Code.{decoded}
 use Rattle.strict_base64.specs.Lines.{unwrapped, body_of}
-use Rattle.strict_base64.proofs.Laws.Lines.{body_fits, body_fits_last, body_turn, body_end}
+use Rattle.strict_base64.proofs.Laws.Lines.{body_turn, body_end}
 use Rattle.strict_base64.proofs.lines.body_into.Goals as goal
 
 empty : (l : List ℕ) → length l ≡ 0 → body_of l ≡ []
@@ -19,34 +18,15 @@ empty (c ∷ l) h = absurd (omega arith)
 pub returns-then-n-eq0 : goal.returns-then-n-eq0
 returns-then-n-eq0 c = rw (empty c.args.lines.now c.if-n-eq0.true)
 
-pub loop-i-init : goal.loop-i-init
-loop-i-init c = (search rules, refl, refl)
-
-pub decode_into-requires : goal.decode_into-requires
-decode_into-requires c = record {
-  values = c.requires.values;
-  text_in_bounds = body_fits c.args.lines.now c.loop-i.out c.loop-i.i (omega arith) (omega (arith, c.requires.lines_in_bounds));
-}
-
-pub loop-i-smaller : goal.loop-i-smaller
-loop-i-smaller c = omega (arith, c.loop-i-test.true)
-
 pub loop-i-preserved : goal.loop-i-preserved
 loop-i-preserved c = let l = c.args.lines.now in
     let out = c.loop-i.out in
     let i = c.loop-i.i in (
-      search rules,
-      same_len_mid (48 * i) (length out - 48 * i) out c.decode_into.new.out c.decode_into.auto.out ∙ c.loop-i.invariant.1,
-      body_turn l out c.args.out.now c.decode_into.new.out i (omega arith) c.loop-i.invariant.2 c.decode_into.ensures,
+      same_len_mid (48 * i) (length out - 48 * i) out c.decode_into.new.out c.decode_into.auto.out ∙ c.loop-i.invariant.0,
+      body_turn l out c.args.out.now c.decode_into.new.out i (omega arith) c.loop-i.invariant.1 c.decode_into.ensures,
     )
-
-pub decode_into-requires-2 : goal.decode_into-requires-2
-decode_into-requires-2 c = record {
-  values = c.requires.values;
-  text_in_bounds = body_fits_last c.args.lines.now c.loop-i.out ((length c.args.lines.now - 1) / 65) (omega arith) (omega arith) (omega (arith, c.requires.lines_in_bounds));
-}
 
 pub returns : goal.returns
 returns c = let l = c.args.lines.now in
     let n : c.loop-i.i ≡ (length l - 1) / 65 = omega arith in
-    body_end l c.loop-i.out c.args.out.now c.decode_into-2.new.out ((length l - 1) / 65) (omega arith) (omega arith) (rw n at c.loop-i.invariant.2) c.decode_into-2.ensures
+    body_end l c.loop-i.out c.args.out.now c.decode_into-2.new.out ((length l - 1) / 65) (omega arith) (omega arith) (rw n at c.loop-i.invariant.1) c.decode_into-2.ensures

@@ -11,9 +11,6 @@ returns-then-out-n c = let e = c.body_length-n.ensures ∙ sym (body_length c.ar
       buffer = rw (lt-ltb _ _ (rw e at c.if-out-n.true)) refl;
     }
 
-pub returns : goal.returns
-returns c = let e = c.body_length-n.ensures ∙ sym (body_length c.args.lines.now) in
-    record {
-      answer = rw (e, le-ltb _ _ (rw e at c.if-out-n.false)) refl;
-      buffer = rw (le-ltb _ _ (rw e at c.if-out-n.false)) c.body_into.ensures;
-    }
+pub returns-clause-answer : goal.returns-clause-answer
+returns-clause-answer c = let e = c.body_length-n.ensures ∙ sym (body_length c.args.lines.now) in
+    rw (e, le-ltb _ _ (rw e at c.if-out-n.false)) refl

@@ -1,20 +1,13 @@
--- Invariant: the fold over all symbols is the fold over those from i on, from the state reached.
-use mathlib.Core.Path.{refl, sym, ap, ◌∙◌}
-use native.Mathlib.Omega.{arith}
+-- The fold is the state after the symbols.
+use mathlib.Core.Path.{◌≡◌, ap, ◌∙◌}
 use borrow.Author.Rules.{rules}
-use Rattle.symbols.specs.Checksum.{polymod}
-use Rattle.symbols.proofs.Laws.Folds.{polymod_at, polymod_end}
+use Rattle.std.specs.List.{fold}
+use Rattle.symbols.specs.Checksum.{polymod, stepped}
+use Rattle.symbols.proofs.Laws.Folds.{polymod_fold}
 use Rattle.symbols.proofs.Laws.Maps.{map_id}
 use Rattle.symbols.proofs.checksum.fold_symbols.Goals as goal
 
-pub loop-i-init : goal.loop-i-init
-loop-i-init c = (search rules, refl)
-
-pub step-state-requires : goal.step-state-requires
-step-state-requires c = c.folds-folds.ensures
-
-pub loop-i-preserved : goal.loop-i-preserved
-loop-i-preserved c = (search rules, rw (c.step-state.ensures, c.wide.ensures) (c.loop-i.invariant.1 ∙ polymod_at (λ b. b) c.args.symbols.now c.loop-i.i c.loop-i.state (omega arith)))
-
 pub returns : goal.returns
-returns c = sym (ap (polymod c.args.from) (sym (map_id c.args.symbols.now)) ∙ c.loop-i.invariant.1 ∙ polymod_end (λ b. b) c.args.symbols.now c.loop-i.i c.loop-i.state (omega arith))
+returns c = let l = c.args.symbols.now in
+    let e : c.fold.result ≡ fold (λ s b. stepped s b) c.args.from l = search rules in
+    e ∙ polymod_fold (λ b. b) l c.args.from ∙ ap (polymod c.args.from) (map_id l)

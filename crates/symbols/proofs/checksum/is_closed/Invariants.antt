@@ -1,5 +1,5 @@
 -- The loop's invariant: the whole closes from the first state as what was seen is a symbol's and the rest of the text closes from the state reached.
-use Prim.Native.Nat.{◌-◌, ◌≤◌}
+use Prim.Native.Nat.{◌≤◌}
 use mathlib.Core.Path.{◌≡◌}
 use mathlib.Core.Bool.{◌&&◌}
 use mathlib.Core.List.{map}
@@ -9,8 +9,5 @@ use Rattle.symbols.specs.Calls.{closes}
 use Rattle.symbols.specs.Steps.{value_in}
 use Rattle.symbols.proofs.checksum.is_closed.Given as goal
 
-abbrev pub invariant-loop-i : goal.invariant-loop-i
-invariant-loop-i l = (l.i ≤ length l.text) × (closes l.from (map (value_in l.table) l.text) ≡ (ltb l.seen 32 && closes l.state (map (value_in l.table) (drop l.i l.text))))
-
-abbrev pub decreases-loop-i : goal.decreases-loop-i
-decreases-loop-i l = length l.text - l.i
+abbrev pub invariant-loop-b : goal.invariant-loop-b
+invariant-loop-b l = (l.b-index ≤ length l.text) × (closes l.from (map (value_in l.table) l.text) ≡ (ltb l.seen 32 && closes l.state (map (value_in l.table) (drop l.b-index l.text))))

@@ -2,7 +2,7 @@
 use mathlib.Core.List.{map}
 use lib.ListN.{length, length-map}
 use native.Mathlib.Omega.{arith}
-use borrow.Author.Tests.{lt-ltb, le-ltb}
+use borrow.Author.Tests.{lt-ltb}
 use Rattle.symbols.specs.Regroup.{bytes}
 use Rattle.symbols.specs.Steps.{symbol_in}
 use Rattle.symbols.proofs.Laws.Groups.{bytes_length}
@@ -13,9 +13,3 @@ returns-then-out-bytes_length c = let t = c.args.text.now in
     let f = symbol_in c.args.table.now in
     let o = c.args.out.now in
     rw (lt-ltb (length o) (length (bytes (map f t))) (omega (arith, bytes_length (map f t), length-map t f, c.bytes_length.ensures)))
-
-pub returns : goal.returns
-returns c = let t = c.args.text.now in
-    let f = symbol_in c.args.table.now in
-    let o = c.args.out.now in
-    rw (le-ltb (length o) (length (bytes (map f t))) (omega (arith, bytes_length (map f t), length-map t f, c.bytes_length.ensures))) c.decode_into.ensures

@@ -1,32 +1,17 @@
--- As many bytes as the characters make, one store each.
-use native.Mathlib.Omega.{arith}
-use lib.ListN.{length-set}
-use lib.Seq.{sets-eq}
-use mathlib.Core.List.{[], ◌∷◌}
+-- The first bytes of the group are those of the characters.
+use mathlib.Core.Path.{◌≡◌, sym, ap, ap₂, ◌∙◌}
+use mathlib.Core.List.{[], ◌++◌, map, append-nil}
+use lib.ListN.{length, replicate, take, drop, length-map}
+use Rattle.symbols.specs.Regroup.{bytes}
+use Rattle.symbols.specs.Calls.{bytes_size}
 use Rattle.symbols.specs.Steps.{symbol_in}
-use Rattle.symbols.proofs.Laws.Groups.{bytes_none, bytes_two, bytes_four, bytes_five, bytes_seven}
+use Rattle.symbols.proofs.Laws.Groups.{bytes_front, bytes_length}
 use Rattle.symbols.proofs.regroup.decode_rest.Goals as goal
 
-pub returns-then-n-lt2 : goal.returns-then-n-lt2
-returns-then-n-lt2 c = rw (bytes_none (symbol_in c.args.table.now) c.args.text.now c.if-n-lt2.true)
-
-pub returns-then-n-lt4 : goal.returns-then-n-lt4
-returns-then-n-lt4 c = rw (bytes_two (symbol_in c.args.table.now) c.args.text.now (omega arith) (omega arith), ← c.symbol-p.ensures.value, ← c.symbol-q.ensures.value, ← c.first.ensures) (sets-eq (_ ∷ []) c.args.out.now 0 (omega arith))
-
-pub bounds-out-1 : goal.bounds-out-1
-bounds-out-1 c = simp length-set (omega arith)
-
-pub returns-then-n-lt5 : goal.returns-then-n-lt5
-returns-then-n-lt5 c = rw (bytes_four (symbol_in c.args.table.now) c.args.text.now (omega arith), ← c.symbol-p.ensures.value, ← c.symbol-q.ensures.value, ← c.symbol-r.ensures.value, ← c.symbol-s.ensures.value, ← c.first.ensures, ← c.second.ensures) (sets-eq (_ ∷ _ ∷ []) c.args.out.now 0 (omega arith))
-
-pub bounds-out-2 : goal.bounds-out-2
-bounds-out-2 c = simp length-set (omega arith)
-
-pub returns-then-n-lt7 : goal.returns-then-n-lt7
-returns-then-n-lt7 c = rw (bytes_five (symbol_in c.args.table.now) c.args.text.now (omega arith) (omega arith), ← c.symbol-p.ensures.value, ← c.symbol-q.ensures.value, ← c.symbol-r.ensures.value, ← c.symbol-s.ensures.value, ← c.symbol-t.ensures.value, ← c.first.ensures, ← c.second.ensures, ← c.third.ensures) (sets-eq (_ ∷ _ ∷ _ ∷ []) c.args.out.now 0 (omega arith))
-
-pub bounds-out-3 : goal.bounds-out-3
-bounds-out-3 c = simp length-set (omega (arith, c.requires.text_len_bound, c.requires.text_in_bounds, c.if-n-lt7.false))
-
 pub returns : goal.returns
-returns c = rw (bytes_seven (symbol_in c.args.table.now) c.args.text.now (omega (arith, c.requires.text_len_bound, c.requires.text_in_bounds, c.if-n-lt7.false)), ← c.symbol-p.ensures.value, ← c.symbol-q.ensures.value, ← c.symbol-r.ensures.value, ← c.symbol-s.ensures.value, ← c.symbol-t.ensures.value, ← c.symbol-u.ensures.value, ← c.symbol-v.ensures.value, ← c.first.ensures, ← c.second.ensures, ← c.third.ensures, ← c.fourth.ensures) (sets-eq (_ ∷ _ ∷ _ ∷ _ ∷ []) c.args.out.now 0 (omega (arith, c.requires.text_len_bound, c.requires.text_in_bounds, c.if-n-lt7.false)))
+returns c = let t = c.args.text.now in
+    let f = symbol_in c.args.table.now in
+    let w : c.decode_group.new.out ≡ bytes (map f (t ++ drop (length t) (replicate 8 0))) =
+    c.decode_group.ensures ∙ ap (λ l. bytes (map f (l ++ drop (length t) (replicate 8 0))) ++ []) c.copy_from_slice.ensures.after ∙ append-nil (bytes (map f (t ++ drop (length t) (replicate 8 0)))) in
+    let e : c.copy_from_slice-2.new.self ≡ bytes (map f t) = c.copy_from_slice-2.ensures.after ∙ ap₂ take c.bytes_length-n.ensures w ∙ bytes_front f t c.requires.text_len_bound in
+    ap₂ (λ x n. x ++ drop n c.args.out.now) e (c.bytes_length-n.ensures ∙ sym (bytes_length (map f t) ∙ ap bytes_size (length-map t f)))

@@ -1,15 +1,10 @@
--- How many bytes a body has: as many as are given, or what the lines decode to, which are fewer.
-use mathlib.Core.Path.{subst}
+-- What the lines decode to is fewer bytes than they are.
 use Prim.Native.Nat.{◌≤◌}
+use mathlib.Core.Path.{sym, subst, ◌∙◌}
 use lib.ListN.{length}
-use Rattle.tables.proofs.Laws.Copying.{body_less}
-use mathlib.Core.Path.{refl, sym, ◌∙◌}
-use native.Mathlib.Omega.{arith}
 use Rattle.strict_base64.proofs.Laws.Lines.{body_length}
+use Rattle.tables.proofs.Laws.Copying.{body_less}
 use Rattle.tables.proofs.copying.body_size.Goals as goal
-
-pub returns-in-Bytes : goal.returns-in-Bytes
-returns-in-Bytes c = rw c.in-Bytes.is (refl, omega arith)
 
 pub returns-in-Lines : goal.returns-in-Lines
 returns-in-Lines c = let e = c.body_length.ensures in

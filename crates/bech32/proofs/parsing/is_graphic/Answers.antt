@@ -1,8 +1,0 @@
--- `is_graphic` meets its contract.
-use mathlib.Core.Path.{refl}
-use Rattle.refusal.specs.Run.{is_graphic}
-use Rattle.bech32.proofs.parsing.is_graphic.Goals as goal
-
-pub returns : goal.returns
-unfolding is_graphic
-returns c = refl

@@ -1,9 +1,0 @@
--- Each turn takes another fault.
-use Rattle.std.proofs.Common.{◌-◌, ◌≤◌}
-use Rattle.identities.proofs.report.report.Given as goal
-
-abbrev pub invariant-loop-i : goal.invariant-loop-i
-invariant-loop-i g l = l.i ≤ 64
-
-abbrev pub decreases-loop-i : goal.decreases-loop-i
-decreases-loop-i g l = 64 - l.i

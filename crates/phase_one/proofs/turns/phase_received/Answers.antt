@@ -1,9 +1,0 @@
--- An accepted command leads on, a refusal may close.
-use Rattle.refusal.proofs.Laws.Number.{number_not_zero}
-use Rattle.phase_one.proofs.turns.phase_received.Goals as goal
-
-pub returns-in-Ok : goal.returns-in-Ok
-returns-in-Ok c = rw c.in-Ok.is c.phase_after.ensures
-
-pub returns-in-Err : goal.returns-in-Err
-returns-in-Err c = rw (c.in-Err.is, number_not_zero c.in-Err.r) (λ plugin line n. c.phase_refused.ensures)

@@ -1,7 +1,0 @@
--- Six bits are below 64, where the table holds the character.
-use Prim.Native.Nat.{◌+◌, ◌*◌, ◌/◌, ◌%◌}
-use borrow.Author.Rules.{rules}
-use Rattle.strict_base64.proofs.encoding.third.Goals as goal
-
-pub returns : goal.returns
-returns c = rw c.wide.ensures (c.requires (c.args.b % 16 * 4 + c.args.c / 64) (search rules))
