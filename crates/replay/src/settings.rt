@@ -28,17 +28,17 @@ pub fn open_session(
 ) -> Result<Open, Refusal> {
     let machine = words.get(2);
     let name = words.get(3);
-    let end = match opened {
-        Opened::Client(_) => End::Client,
-        Opened::Plugin => End::Plugin,
-    };
-    let opening = match opened {
-        Opened::Client(ScreenChoice::Shown) => { Session::open_with(machine, name, Screen::Shown) }
-        Opened::Client(ScreenChoice::Missing) => {
-            Session::open_with(machine, name, Screen::Absent)
-        }
-        Opened::Client(ScreenChoice::Default) => Session::open(machine, name),
-        Opened::Plugin => Session::open_plugin(machine, name),
+    let (end, opening) = match opened {
+        Opened::Client(ScreenChoice::Shown) => (
+            End::Client,
+            Session::open_with(machine, name, Screen::Shown),
+        ),
+        Opened::Client(ScreenChoice::Missing) => (
+            End::Client,
+            Session::open_with(machine, name, Screen::Absent),
+        ),
+        Opened::Client(ScreenChoice::Default) => (End::Client, Session::open(machine, name)),
+        Opened::Plugin => (End::Plugin, Session::open_plugin(machine, name)),
     };
     opening.verdict?;
     memory.open(lengths);

@@ -2,14 +2,16 @@
 // replies. Each is lent the session's buffers, and an output buffer of the length that the line names.
 use crate::settings::{End, Open, open_session};
 use intake::Received;
+use phase_one::WordOne;
 use refusal::Refusal;
 use replay_answers::{Answer, Memory, Output, answer_received, look};
 use replay_calls::call_plain;
 use replay_lines::{
-    Failure, Look, Request, SessionCall, Words, arguments_one, arguments_two, command_one,
-    command_two, front, front_mut, read_request,
+    Failure, Look, Request, SessionCall, Words, arguments, command_one, command_two, front,
+    front_mut, read_request,
 };
 use responses::Response;
+use session::WordTwo;
 
 // Makes the call of a line.
 pub fn make_call<'a>(
@@ -83,7 +85,7 @@ fn send(
             let sent = client_sending::send(
                 open.session,
                 command,
-                arguments_one(command, words),
+                arguments(matches!(command, WordOne::Other), words),
                 words.get(3),
                 &mut memory.slots,
                 &mut memory.header_slots,
@@ -101,7 +103,7 @@ fn send(
             let sent = plugin_sending::send(
                 open.session,
                 command,
-                arguments_two(command, words),
+                arguments(matches!(command, WordTwo::Other), words),
                 words.get(3),
                 &mut memory.slots,
                 &memory.header_slots,

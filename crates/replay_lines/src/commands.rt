@@ -33,17 +33,11 @@ pub fn command_two(name: &[u8]) -> WordTwo {
     }
 }
 
-// The arguments' text of a command; any other word stands first in it.
-pub fn arguments_one<'a>(command: WordOne, words: &Words<'a>) -> &'a [u8] {
-    match command {
-        WordOne::Other => words.joined(),
-        _ => words.get(2),
-    }
-}
-
-pub fn arguments_two<'a>(command: WordTwo, words: &Words<'a>) -> &'a [u8] {
-    match command {
-        WordTwo::Other => words.joined(),
-        _ => words.get(2),
+// The arguments' text of a command; a word that names none stands first in it.
+pub fn arguments<'a>(is_other: bool, words: &Words<'a>) -> &'a [u8] {
+    if is_other {
+        words.joined()
+    } else {
+        words.get(2)
     }
 }

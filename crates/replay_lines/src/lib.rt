@@ -8,7 +8,7 @@ mod parts;
 mod requests;
 mod words;
 
-pub use commands::{arguments_one, arguments_two, command_one, command_two};
+pub use commands::{arguments, command_one, command_two};
 pub use failure::Failure;
 pub use lengths::Lengths;
 pub use parts::{append, front, front_mut, part};
