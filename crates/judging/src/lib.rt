@@ -16,6 +16,7 @@ use refusal::Refusal;
 use session::{Phase, Session, Tables};
 
 // What the judging program writes: how many entries each kind has, and the answer, 0 behind done, else the number of the refusal.
+// A number and no Result: the program prints it, and specs/Judging `Judged` says it.
 #[derive(Clone, Copy)]
 pub struct Judged {
     pub recipients: usize,

@@ -1,106 +1,77 @@
 // The lines of standard input, read in chunks. Answers are written before more input is read.
-use replay_answers::{Output, flush};
-use replay_lines::{Buffer, append, front, part};
+use replay_answers::Output;
+use replay_lines::{append, front, part};
 use std::io::Read;
 
-// The line buffer takes a byte more than the longest line, so that a longer one shows.
-pub type Line = [u8; 65537];
-
-// Where the run stands: whether more input may come, the part of the chunk that is not taken yet, how many bytes of the current line have
-// come, as far as the line buffer takes them, whether it has ended, how many lines have, and how many bytes of the output buffer are in use.
-#[derive(Clone, Copy)]
-pub struct State {
-    pub more: bool,
-    pub from: usize,
-    pub to: usize,
-    pub length: usize,
-    pub ended: bool,
-    pub lines: u64,
-    pub at: usize,
+// The chunk and the part of it that is not taken yet; the current line, as far as its buffer takes it; whether it has ended; and how many lines have.
+// A line buffer takes a byte more than the longest line, so that a longer one shows.
+#[derive(Drop)]
+pub struct Lines {
+    chunk: [u8; 65536],
+    from: usize,
+    to: usize,
+    line: [u8; 65537],
+    length: usize,
+    ended: bool,
+    pub count: usize,
 }
 
-// Nothing read yet.
-pub fn start() -> State {
-    State {
-        more: true,
-        from: 0,
-        to: 0,
-        length: 0,
-        ended: false,
-        lines: 0,
-        at: 0,
-    }
-}
-
-// One step: more bytes of the current line, which may end it; or, where the chunk is taken, another chunk.
-pub fn advance(
-    stdin: &mut impl Read,
-    chunk: &mut Buffer,
-    line: &mut Line,
-    out: &Output,
-    s: State,
-) -> State {
-    let kept = kept_length(s.ended, s.length);
-    if s.from < s.to {
-        return take_piece(front(chunk, s.to), line, kept, s);
-    }
-    flush(out, s.at);
-    let n = read_some(stdin, &out.stderr, chunk);
-    next_chunk(n, kept, s)
-}
-
-// How many bytes of the line buffer are in use: a line that had ended was answered.
-fn kept_length(ended: bool, length: usize) -> usize {
-    if ended { 0 } else { length }
-}
-
-// The bytes of a chunk up to the next LF, or all that are left.
-fn take_piece(chunk: &[u8], line: &mut [u8], kept: usize, s: State) -> State {
-    let end = script::find_lf(chunk, s.from);
-    let length = append(part(chunk, s.from, end), line, kept);
-    if end < chunk.len() {
-        return State {
-            more: true,
-            from: end + 1,
-            to: s.to,
-            length: length,
-            ended: true,
-            lines: std::num::wrapping_add_u64(s.lines, 1),
-            at: s.at,
-        };
-    }
-    State {
-        more: true,
-        from: s.to,
-        to: s.to,
-        length: length,
-        ended: false,
-        lines: s.lines,
-        at: s.at,
-    }
-}
-
-// A chunk of n bytes was read; 0 at the end of the input, where a last line that lacks its LF is a line.
-fn next_chunk(n: usize, kept: usize, s: State) -> State {
-    if 0 < n {
-        return State {
-            more: true,
+impl Lines {
+    // Nothing read yet.
+    pub fn new() -> Lines {
+        Lines {
+            chunk: [0; 65536],
             from: 0,
-            to: n,
-            length: kept,
+            to: 0,
+            line: [0; 65537],
+            length: 0,
             ended: false,
-            lines: s.lines,
-            at: 0,
-        };
+            count: 0,
+        }
     }
-    State {
-        more: false,
-        from: 0,
-        to: 0,
-        length: kept,
-        ended: 0 < kept,
-        lines: std::num::wrapping_add_u64(s.lines, 1),
-        at: 0,
+
+    // The current line, if it has ended.
+    pub fn ended(&self) -> Option<&[u8]> {
+        if self.ended {
+            return Some(front(&self.line, self.length));
+        }
+        None
+    }
+
+    // One step: more bytes of the current line, which may end it; or, where the chunk is taken, another chunk. Whether more input may come.
+    pub fn advance(&mut self, stdin: &mut impl Read, out: &mut Output) -> bool {
+        if self.ended {
+            self.length = 0;
+        }
+        if self.from < self.to {
+            self.take_piece();
+            return true;
+        }
+        out.flush();
+        self.from = 0;
+        self.to = read_some(stdin, &out.stderr, &mut self.chunk);
+        if 0 < self.to {
+            self.ended = false;
+            return true;
+        }
+        // The input has ended: what is left of it is a line that lacks its LF.
+        self.ended = 0 < self.length;
+        self.count = self.count.wrapping_add(1);
+        false
+    }
+
+    // The bytes of the chunk up to the next LF, or all that are left.
+    fn take_piece(&mut self) {
+        let chunk = front(&self.chunk, self.to);
+        let end = script::find_lf(chunk, self.from);
+        self.length = append(part(chunk, self.from, end), &mut self.line, self.length);
+        self.ended = end < chunk.len();
+        if self.ended {
+            self.from = end + 1;
+            self.count = self.count.wrapping_add(1);
+        } else {
+            self.from = self.to;
+        }
     }
 }
 

@@ -1,360 +1,174 @@
 // The call of a line; and those that keep what a session says: each end sends in its phase and receives in the other's, and the client's host
-// replies. Each buffer is cut to the length that the host keeps.
-use crate::host::{Host, PluginInput, Turn, answered};
-use crate::settings::set;
+// replies. Each is lent the session's buffers, and an output buffer of the length that the line names.
+use crate::settings::{End, Open, open_session};
 use intake::Received;
+use phase_one::WordOne;
 use refusal::Refusal;
-use replay_answers::{ClientInput, HeaderSlots, Output, Slots, answer_of, answer_received, look};
+use replay_answers::{Answer, Memory, Output, answer_received, look};
 use replay_calls::call_plain;
 use replay_lines::{
-    Buffer, Change, Request, Store, TalkOne, TalkTwo, Words, arguments_one, arguments_two,
-    command_one, command_two, cut, cut_rear, read_request, word,
+    Failure, Look, Request, SessionCall, Words, arguments, command_one, command_two, front,
+    front_mut, read_request,
 };
 use responses::Response;
-use session::Session;
+use session::WordTwo;
 
-// Makes the call of a line. Each store has the name of its first buffer.
-pub fn make_call(
-    w: Words,
-    text: &[u8],
-    buffer: &mut Buffer,
+// Makes the call of a line.
+pub fn make_call<'a>(
+    words: &Words,
+    host: &mut Option<Open>,
+    memory: &'a mut Memory,
+    buffer: &'a mut [u8; 65536],
     out: &mut Output,
-    at: usize,
-    host: Host,
-    client_input: &mut ClientInput,
-    plugin_input: &mut PluginInput,
-    slots: &mut Slots,
-    header_slots: &mut HeaderSlots,
-    recipients: &mut Store,
-    identities: &mut Store,
-    keys: &mut Store,
-    headers: &mut Store,
-) -> Turn {
-    let end = host.end;
-    let request = read_request(end, text, w);
+) -> Result<Answer<'a>, Failure> {
+    let request = read_request(words)?;
     match request {
-        Request::Change(change) => make_change(
-            change,
-            text,
-            w,
-            host,
-            buffer,
-            client_input,
-            plugin_input,
-            slots,
-            header_slots,
-            recipients,
-            identities,
-            keys,
-            headers,
-        ),
-        Request::Look(what) => {
-            let session = host.session;
-            let lengths = host.lengths;
-            let answer = look(
-                what,
-                session,
-                lengths,
-                client_input,
-                slots,
-                header_slots,
-                recipients,
-                identities,
-                keys,
-                headers,
+        Request::Plain(call) => call_plain(call, words, buffer, out),
+        Request::Open(opened, lengths) => {
+            *host = Some(open_session(opened, lengths, words, memory)?);
+            Ok(Answer::Accepted)
+        }
+        Request::Session(call) => match host {
+            Some(open) => call_session(call, words, open, memory, buffer, out),
+            None => Err(Failure::NoSession),
+        },
+    }
+}
+
+// Makes a call of the session that is open. The client alone has replies, and a command that awaits one.
+fn call_session<'a>(
+    call: SessionCall,
+    words: &Words,
+    open: &mut Open,
+    memory: &'a mut Memory,
+    buffer: &'a mut [u8; 65536],
+    out: &mut Output,
+) -> Result<Answer<'a>, Failure> {
+    match call {
+        SessionCall::Buffers(lengths) => {
+            memory.set_lengths(lengths);
+            Ok(Answer::Accepted)
+        }
+        SessionCall::Send(n) => {
+            let written = send(words, open, memory, front_mut(buffer, n))?;
+            Ok(Answer::Word(front(buffer, written)))
+        }
+        SessionCall::Receive(n) => {
+            let received = receive(words, open, memory, front_mut(buffer, n));
+            Ok(answer_received(received, buffer))
+        }
+        SessionCall::Reply(response, n) => match open.end {
+            End::Client => {
+                let received = reply(response, words, open, memory, front_mut(buffer, n));
+                Ok(answer_received(received, buffer))
+            }
+            End::Plugin => Err(Failure::NoSession),
+        },
+        SessionCall::Look(Look::Awaited) => match open.end {
+            End::Client => look(Look::Awaited, open.session, memory, out),
+            End::Plugin => Err(Failure::NoSession),
+        },
+        SessionCall::Look(what) => look(what, open.session, memory, out),
+    }
+}
+
+// send COMMAND ARGS BODY OUT: how many bytes were written.
+fn send(
+    words: &Words,
+    open: &mut Open,
+    memory: &mut Memory,
+    out: &mut [u8],
+) -> Result<usize, Refusal> {
+    match open.end {
+        End::Client => {
+            let command = command_one(words.get(1));
+            let sent = client_sending::send(
+                open.session,
+                command,
+                arguments(matches!(command, WordOne::Other), words),
+                words.get(3),
+                &mut memory.slots,
+                &mut memory.header_slots,
+                memory.recipients.lend_mut(),
+                memory.identities.lend_mut(),
+                memory.keys.lend_mut(),
+                memory.headers.lend_mut(),
                 out,
-                at,
             );
-            answered(answer, host)
+            open.session = sent.session;
+            sent.answer
         }
-        _ => answered(call_plain(request, text, w, buffer, out, at), host),
-    }
-}
-
-// Makes a call that may change the session.
-fn make_change(
-    change: Change,
-    text: &[u8],
-    w: Words,
-    host: Host,
-    buffer: &mut Buffer,
-    client_input: &mut ClientInput,
-    plugin_input: &mut PluginInput,
-    slots: &mut Slots,
-    header_slots: &mut HeaderSlots,
-    recipients: &mut Store,
-    identities: &mut Store,
-    keys: &mut Store,
-    headers: &mut Store,
-) -> Turn {
-    match change {
-        Change::Setting(setting, given) => set(
-            setting, given, text, w, host, recipients, identities, keys, headers,
-        ),
-        Change::PhaseOne(talk, n) => talk_one(
-            talk,
-            n,
-            text,
-            w,
-            host,
-            buffer,
-            plugin_input,
-            slots,
-            header_slots,
-            recipients,
-            identities,
-            keys,
-            headers,
-        ),
-        Change::PhaseTwo(talk, n) => talk_two(
-            talk,
-            n,
-            text,
-            w,
-            host,
-            buffer,
-            client_input,
-            slots,
-            header_slots,
-            recipients,
-            identities,
-            keys,
-        ),
-    }
-}
-
-// send COMMAND ARGS BODY OUT at the client end, chunk BYTES OUT at the plugin end
-fn talk_one(
-    talk: TalkOne,
-    n: usize,
-    text: &[u8],
-    w: Words,
-    host: Host,
-    buffer: &mut [u8],
-    input: &mut PluginInput,
-    slots: &mut Slots,
-    header_slots: &mut HeaderSlots,
-    recipients: &mut [u8],
-    identities: &mut [u8],
-    keys: &mut [u8],
-    headers: &mut [u8],
-) -> Turn {
-    let lengths = host.lengths;
-    let r = cut(recipients, lengths.recipients);
-    let i = cut(identities, lengths.identities);
-    let k = cut(keys, lengths.keys);
-    let h = cut(headers, lengths.headers);
-    let out = cut(buffer, n);
-    match talk {
-        TalkOne::Send => send_one(text, w, host, slots, header_slots, r, i, k, h, out),
-        TalkOne::Receive => {
-            let chunk = word(text, w, 1);
-            receive_one(chunk, host, input, slots, header_slots, r, i, k, h, out)
-        }
-    }
-}
-
-// send COMMAND ARGS BODY OUT at the client end
-fn send_one(
-    text: &[u8],
-    w: Words,
-    host: Host,
-    slots: &mut Slots,
-    header_slots: &mut HeaderSlots,
-    recipients: &mut [u8],
-    identities: &mut [u8],
-    keys: &mut [u8],
-    headers: &mut [u8],
-    out: &mut [u8],
-) -> Turn {
-    let command = command_one(word(text, w, 1));
-    let sent = client_sending::send(
-        host.session,
-        command,
-        arguments_one(command, text, w),
-        word(text, w, 3),
-        slots,
-        header_slots,
-        recipients,
-        identities,
-        keys,
-        headers,
-        out,
-    );
-    let written = sent.answer;
-    keep_written(written, sent.session, host)
-}
-
-// chunk BYTES OUT at the plugin end
-fn receive_one(
-    chunk: &[u8],
-    host: Host,
-    input: &mut PluginInput,
-    slots: &mut Slots,
-    header_slots: &mut HeaderSlots,
-    recipients: &mut [u8],
-    identities: &mut [u8],
-    keys: &mut [u8],
-    headers: &mut [u8],
-    out: &mut [u8],
-) -> Turn {
-    let received = plugin_receiving::receive(
-        host.session,
-        chunk,
-        input,
-        slots,
-        header_slots,
-        recipients,
-        identities,
-        keys,
-        headers,
-        out,
-    );
-    keep_received(received, host)
-}
-
-// send COMMAND ARGS BODY OUT at the plugin end, chunk BYTES OUT and reply ANSWER BODY OUT at the client end
-fn talk_two(
-    talk: TalkTwo,
-    n: usize,
-    text: &[u8],
-    w: Words,
-    host: Host,
-    buffer: &mut [u8],
-    input: &mut ClientInput,
-    slots: &mut Slots,
-    header_slots: &HeaderSlots,
-    errors: &mut [u8],
-    stanzas: &mut [u8],
-    returned: &mut [u8],
-) -> Turn {
-    let lengths = host.lengths;
-    let e = cut_rear(errors, lengths.errors);
-    let s = cut_rear(stanzas, lengths.stanzas);
-    let f = cut_rear(returned, lengths.returned);
-    let out = cut(buffer, n);
-    match talk {
-        TalkTwo::Send => send_two(text, w, host, slots, header_slots, e, s, f, out),
-        TalkTwo::Receive => {
-            let chunk = word(text, w, 1);
-            receive_two(chunk, host, input, slots, header_slots, e, s, f, out)
-        }
-        TalkTwo::Reply(response) => {
-            let body = word(text, w, 2);
-            reply(
-                response,
-                body,
-                host,
-                input,
-                slots,
-                header_slots,
-                e,
-                s,
-                f,
+        End::Plugin => {
+            let command = command_two(words.get(1));
+            let sent = plugin_sending::send(
+                open.session,
+                command,
+                arguments(matches!(command, WordTwo::Other), words),
+                words.get(3),
+                &mut memory.slots,
+                &memory.header_slots,
+                memory.errors.lend_mut(),
+                memory.stanzas.lend_mut(),
+                memory.returned.lend_mut(),
                 out,
-            )
+            );
+            open.session = sent.session;
+            sent.answer
         }
     }
 }
 
-// send COMMAND ARGS BODY OUT at the plugin end
-fn send_two(
-    text: &[u8],
-    w: Words,
-    host: Host,
-    slots: &mut Slots,
-    header_slots: &HeaderSlots,
-    errors: &mut [u8],
-    stanzas: &mut [u8],
-    returned: &mut [u8],
-    out: &mut [u8],
-) -> Turn {
-    let command = command_two(word(text, w, 1));
-    let sent = plugin_sending::send(
-        host.session,
-        command,
-        arguments_two(command, text, w),
-        word(text, w, 3),
-        slots,
-        header_slots,
-        errors,
-        stanzas,
-        returned,
-        out,
-    );
-    let written = sent.answer;
-    keep_written(written, sent.session, host)
+// chunk BYTES OUT
+fn receive(words: &Words, open: &mut Open, memory: &mut Memory, out: &mut [u8]) -> Received {
+    let received = match open.end {
+        End::Client => client_receiving::receive(
+            open.session,
+            words.get(1),
+            &mut memory.client_input,
+            &mut memory.slots,
+            &memory.header_slots,
+            memory.errors.lend_mut(),
+            memory.stanzas.lend_mut(),
+            memory.returned.lend_mut(),
+            out,
+        ),
+        End::Plugin => plugin_receiving::receive(
+            open.session,
+            words.get(1),
+            &mut memory.plugin_input,
+            &mut memory.slots,
+            &mut memory.header_slots,
+            memory.recipients.lend_mut(),
+            memory.identities.lend_mut(),
+            memory.keys.lend_mut(),
+            memory.headers.lend_mut(),
+            out,
+        ),
+    };
+    open.session = received.session;
+    received
 }
 
-// chunk BYTES OUT at the client end
-fn receive_two(
-    chunk: &[u8],
-    host: Host,
-    input: &mut ClientInput,
-    slots: &mut Slots,
-    header_slots: &HeaderSlots,
-    errors: &mut [u8],
-    stanzas: &mut [u8],
-    returned: &mut [u8],
-    out: &mut [u8],
-) -> Turn {
-    let received = client_receiving::receive(
-        host.session,
-        chunk,
-        input,
-        slots,
-        header_slots,
-        errors,
-        stanzas,
-        returned,
-        out,
-    );
-    keep_received(received, host)
-}
-
-// reply ANSWER BODY OUT
+// reply ANSWER BODY OUT, at the client end
 fn reply(
     response: Response,
-    body: &[u8],
-    host: Host,
-    input: &mut ClientInput,
-    slots: &mut Slots,
-    header_slots: &HeaderSlots,
-    errors: &mut [u8],
-    stanzas: &mut [u8],
-    returned: &mut [u8],
+    words: &Words,
+    open: &mut Open,
+    memory: &mut Memory,
     out: &mut [u8],
-) -> Turn {
+) -> Received {
     let received = client_receiving::reply(
-        host.session,
+        open.session,
         response,
-        body,
-        input,
-        slots,
-        header_slots,
-        errors,
-        stanzas,
-        returned,
+        words.get(2),
+        &mut memory.client_input,
+        &mut memory.slots,
+        &memory.header_slots,
+        memory.errors.lend_mut(),
+        memory.stanzas.lend_mut(),
+        memory.returned.lend_mut(),
         out,
     );
-    keep_received(received, host)
-}
-
-// What a sending came to.
-fn keep_written(written: Result<usize, Refusal>, session: Session, mut host: Host) -> Turn {
-    host.session = session;
-    Turn {
-        answer: answer_of(written),
-        host: host,
-    }
-}
-
-// What a receiving came to.
-fn keep_received(received: Received, mut host: Host) -> Turn {
-    let session = received.session;
-    host.session = session;
-    Turn {
-        answer: answer_received(received),
-        host: host,
-    }
+    open.session = received.session;
+    received
 }

@@ -3,10 +3,12 @@
 #![tactic(auto)]
 
 mod answers;
+mod memory;
 mod print;
 mod returned;
 mod show;
 
-pub use answers::{Answer, answer_of, answer_received, print_answer};
-pub use print::{Output, flush, print_bytes, print_numbers, print_row, print_word};
-pub use show::{ClientInput, HeaderSlots, Slots, look};
+pub use answers::{Answer, answer_received, print_answer};
+pub use memory::{Lent, Memory};
+pub use print::{Output, Page};
+pub use show::look;

@@ -1,80 +1,118 @@
-// The output buffer, of which the first `at` bytes are in use, written to standard output before a piece might not fit behind them.
+// Pages, and standard output, to which a page is written before a piece might not fit on it.
 use replay_lines::front;
 use std::io::{Stderr, Stdout};
 
-// The buffer, where it is written to, and where a failure is told. The longest piece, 65,536 bytes with four for each, fits behind the bytes that may be in
+// A buffer and how many of its bytes are in use. A piece that does not fit is left out.
+#[derive(Drop)]
+pub struct Page<const N: usize> {
+    bytes: [u8; N],
+    used: usize,
+}
+
+impl<const N: usize> Page<N> {
+    pub fn new() -> Page<N> {
+        Page {
+            bytes: [0; N],
+            used: 0,
+        }
+    }
+
+    pub fn text(&self) -> &[u8] {
+        front(&self.bytes, self.used)
+    }
+
+    // Some bytes as they are.
+    pub fn put(&mut self, bytes: &[u8]) {
+        self.used = printing::put(bytes, &mut self.bytes, self.used);
+    }
+
+    // A number in decimal.
+    pub fn put_decimal(&mut self, n: usize) {
+        self.used = printing::put_decimal(n as u64, &mut self.bytes, self.used);
+    }
+
+    // Some bytes, a space and a number.
+    pub fn put_number(&mut self, head: &[u8], n: usize) {
+        self.put(head);
+        self.used = printing::put_number(n as u64, &mut self.bytes, self.used);
+    }
+}
+
+// The page, where it is written to, and where a failure is told. The longest piece, 65,536 bytes with four for each, fits behind the bytes that may be in
 // use when its line is begun.
 #[derive(Drop)]
 pub struct Output {
-    pub bytes: [u8; 524288],
-    pub stdout: Stdout,
+    page: Page<524288>,
+    stdout: Stdout,
     pub stderr: Stderr,
 }
 
 const MOST_USED: usize = 131072;
 
-// Writes the first `at` bytes to standard output.
-pub fn flush(out: &Output, at: usize) {
-    if out.stdout.write_all(front(&out.bytes, at)).is_err() {
-        let _ = eprintln!(out.stderr; "replay: standard output failed");
+impl Output {
+    pub fn new(stdout: Stdout, stderr: Stderr) -> Output {
+        Output {
+            page: Page::new(),
+            stdout,
+            stderr,
+        }
     }
-}
 
-// Where the next piece goes.
-fn make_space(out: &Output, at: usize) -> usize {
-    if at <= MOST_USED {
-        return at;
+    // Writes the page to standard output.
+    pub fn flush(&mut self) {
+        if self.stdout.write_all(self.page.text()).is_err() {
+            let _ = eprintln!(self.stderr; "replay: standard output failed");
+        }
+        self.page.used = 0;
     }
-    flush(out, at);
-    0
-}
 
-// Some bytes as they are.
-pub fn print_bytes(bytes: &[u8], out: &mut Output, at: usize) -> usize {
-    let from = make_space(out, at);
-    printing::put(bytes, &mut out.bytes, from)
-}
-
-// Some bytes, and a number at the end of the line.
-pub fn print_number(head: &[u8], n: u64, out: &mut Output, at: usize) -> usize {
-    let from = make_space(out, at);
-    printing::print_number(head, n, &mut out.bytes, from)
-}
-
-// Some bytes, and a word at the end of the line.
-pub fn print_word(head: &[u8], word: &[u8], out: &mut Output, at: usize) -> usize {
-    let from = make_space(out, at);
-    printing::print_word(head, word, &mut out.bytes, from)
-}
-
-// A line that begins with some bytes and a number, as that of an entry of a table.
-pub fn print_row(
-    head: &[u8],
-    n: usize,
-    second: &[u8],
-    payload: &[u8],
-    tail: &[u8],
-    out: &mut Output,
-    at: usize,
-) -> usize {
-    let from = make_space(out, at);
-    printing::print_row(head, n as u64, second, payload, tail, &mut out.bytes, from)
-}
-
-// Some bytes, and numbers to the end of the line.
-pub fn print_numbers(head: &[u8], numbers: &[usize], out: &mut Output, at: usize) -> usize {
-    let from = make_space(out, at);
-    let mut next = printing::put(head, &mut out.bytes, from);
-    let mut k: usize = 0;
-    while k < numbers.len() {
-        next = printing::put_number(numbers[k] as u64, &mut out.bytes, next);
-        k += 1;
+    // The page, with room for the next piece.
+    pub fn room(&mut self) -> &mut Page<524288> {
+        if MOST_USED < self.page.used {
+            self.flush();
+        }
+        &mut self.page
     }
-    printing::put(b"\n", &mut out.bytes, next)
-}
 
-// Some bytes, a space and a number.
-pub fn put_number(head: &[u8], n: usize, out: &mut [u8], at: usize) -> usize {
-    let next = printing::put(head, out, at);
-    printing::put_number(n as u64, out, next)
+    // Some bytes as they are.
+    pub fn print(&mut self, bytes: &[u8]) {
+        self.room().put(bytes);
+    }
+
+    // Some bytes, and a number at the end of the line.
+    pub fn print_number(&mut self, head: &[u8], n: usize) {
+        let page = self.room();
+        page.put_number(head, n);
+        page.put(b"\n");
+    }
+
+    // Some bytes, and a word at the end of the line.
+    pub fn print_word(&mut self, head: &[u8], word: &[u8]) {
+        let page = self.room();
+        page.used = printing::print_word(head, word, &mut page.bytes, page.used);
+    }
+
+    // A line that begins with some bytes and a number, as that of an entry of a table.
+    pub fn print_row(&mut self, head: &[u8], n: usize, second: &[u8], payload: &[u8], tail: &[u8]) {
+        let page = self.room();
+        page.used = printing::print_row(
+            head,
+            n as u64,
+            second,
+            payload,
+            tail,
+            &mut page.bytes,
+            page.used,
+        );
+    }
+
+    // Some bytes, and numbers to the end of the line.
+    pub fn print_numbers(&mut self, head: &[u8], numbers: &[usize]) {
+        let page = self.room();
+        page.put(head);
+        for &n in numbers {
+            page.put_number(b"", n);
+        }
+        page.put(b"\n");
+    }
 }

@@ -1,4 +1,4 @@
--- What answers say of numbers: bytes that were written fit the buffer.
+-- The bytes that a word was read into fit the buffer.
 use Prim.Native.Nat.{ℕ, ◌≤◌}
 use mathlib.Core.Path.{◌≡◌, sym, ap, ◌∙◌}
 use mathlib.Core.List.{List}
@@ -7,7 +7,7 @@ use lib.Dec.{ltb}
 use lib.ListN.{length}
 use native.Mathlib.Omega.{arith}
 use borrow.Author.Tests.{ltb-false}
-use Rattle.refusal.specs.Output.{bytes, said, answered}
+use Rattle.refusal.specs.Output.{bytes, answered}
 use Rattle.refusal.specs.declared.Refusal.{Refusal}
 use Rattle.refusal.proofs.Laws.Booleans.{cases}
 use Rattle.script.specs.Escape.{Meaning, word, bad, answered_by, unescaped_said}
@@ -17,9 +17,6 @@ bytes_fit t buffer n h =
     cases (ltb (length buffer) (length t))
     (λ e. let k = rw e at h in let z : ◌≡◌ {A = ℕ} 0 1 = cc in absurd (omega arith))
     (λ e. let k = rw e at h in let z : n ≡ length t = cc in omega (arith, ltb-false))
-
-pub written_fits : (t buffer : List ℕ) (w : Result ℕ Refusal) (n : ℕ) → w ≡ Ok n → said w ≡ answered t buffer → n ≤ length buffer
-written_fits t buffer w n e h = bytes_fit t buffer n (sym (ap said e) ∙ h)
 
 word_fits : (m : Meaning (List ℕ)) (buffer : List ℕ) (n : ℕ) → word (bytes n) ≡ answered_by m buffer → n ≤ length buffer
 word_fits (word t) buffer n h = bytes_fit t buffer n (cc)

@@ -1,5 +1,5 @@
 // The command that a line sends: its word, and the text of its arguments.
-use crate::words::{Words, joined_words, word};
+use crate::words::Words;
 use phase_one::WordOne;
 use script::{CommandChoice, CommandTwoChoice};
 use session::WordTwo;
@@ -33,17 +33,11 @@ pub fn command_two(name: &[u8]) -> WordTwo {
     }
 }
 
-// The arguments' text of a command; any other word stands first in it.
-pub fn arguments_one(command: WordOne, text: &[u8], w: Words) -> &[u8] {
-    match command {
-        WordOne::Other => joined_words(text, w),
-        _ => word(text, w, 2),
-    }
-}
-
-pub fn arguments_two(command: WordTwo, text: &[u8], w: Words) -> &[u8] {
-    match command {
-        WordTwo::Other => joined_words(text, w),
-        _ => word(text, w, 2),
+// The arguments' text of a command; a word that names none stands first in it.
+pub fn arguments<'a>(is_other: bool, words: &Words<'a>) -> &'a [u8] {
+    if is_other {
+        words.joined()
+    } else {
+        words.get(2)
     }
 }

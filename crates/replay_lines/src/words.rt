@@ -1,101 +1,85 @@
 // The words of a line, read into one buffer with a space between two.
-use crate::parts::{Buffer, least, part};
+use crate::failure::Failure;
+use crate::parts::part;
 
-// The longest line that is a call, without its LF.
+// The longest line that is a call, without its LF, and the length of the longest buffer that a line lends.
 const LONGEST: usize = 65536;
 
 // No call has more words.
 const MOST: usize = 16;
 
-// Whether the line is skipped, how many words there are, none where the line is bad, and where each starts and ends in the buffer.
+// What a line is: an empty line, a comment and a line that has not ended are skipped; a bad line has words that are none, or too many.
 #[derive(Clone, Copy)]
-pub struct Words {
-    pub skipped: bool,
-    pub count: usize,
-    pub starts: [usize; 16],
-    pub ends: [usize; 16],
-}
-
-// Where a word ends in the buffer, if it is one.
-#[derive(Clone, Copy)]
-enum WordEnd {
-    At(usize),
+pub enum Line<'a> {
+    Skipped,
     Bad,
+    Words(Words<'a>),
 }
 
-// No word.
-fn no_words(skipped: bool) -> Words {
-    Words {
-        skipped: skipped,
-        count: 0,
-        starts: [0; 16],
-        ends: [0; 16],
-    }
+// Where a word stands in the buffer.
+#[derive(Clone, Copy)]
+struct Span {
+    start: usize,
+    end: usize,
 }
 
-// The words of a line into `text`, which is as long as the longest line. An empty line, a comment and a line that has not ended are skipped.
-pub fn read_line(line: &[u8], ended: bool, text: &mut Buffer) -> Words {
-    if !ended {
-        return no_words(true);
-    }
-    if line.len() == 0 {
-        return no_words(true);
-    }
-    if line[0] == b'#' {
-        return no_words(true);
+// The buffer, how many words stand in it, and where.
+// No Vec of spans, and so a count beside them: one that gets no memory would be a new answer to a line.
+#[derive(Clone, Copy)]
+pub struct Words<'a> {
+    text: &'a [u8],
+    spans: [Span; MOST],
+    pub(crate) count: usize,
+}
+
+// The words of a line into `text`, which is as long as the longest line.
+pub fn read_line<'a>(line: &[u8], text: &'a mut [u8; 65536]) -> Line<'a> {
+    if line.is_empty() || line[0] == b'#' {
+        return Line::Skipped;
     }
     if LONGEST < line.len() {
-        return no_words(false);
+        return Line::Bad;
     }
-    read_words(line, text)
+    match read_words(line, text) {
+        Some(words) => Line::Words(words),
+        None => Line::Bad,
+    }
 }
 
 // The words of a line that is not skipped.
-fn read_words(line: &[u8], text: &mut Buffer) -> Words {
+fn read_words<'a>(line: &[u8], text: &'a mut [u8; 65536]) -> Option<Words<'a>> {
     let count = stanza::count(line);
     if MOST < count {
-        return no_words(false);
+        return None;
     }
-    let mut starts = [0usize; 16];
-    let mut ends = [0usize; 16];
-    let mut at: usize = 0;
-    let mut k: usize = 0;
-    while k < count {
-        let e = read_word(stanza::argument(line, k), text, at);
-        let WordEnd::At(end) = e else {
-            return no_words(false);
-        };
-        starts[k] = at;
-        ends[k] = end;
-        at = put_space(text, end);
-        k += 1;
+    let mut spans = [Span { start: 0, end: 0 }; MOST];
+    let mut start = 0;
+    for (k, span) in spans[..count].iter_mut().enumerate() {
+        let end = read_word(stanza::argument(line, k), text, start)?;
+        *span = Span { start, end };
+        start = put_space(text, end);
     }
-    Words {
-        skipped: false,
-        count: count,
-        starts: starts,
-        ends: ends,
-    }
+    Some(Words { text, spans, count })
 }
 
-// A word into `text` from `at` on.
-fn read_word(word: &[u8], text: &mut [u8], at: usize) -> WordEnd {
-    if word.len() == 0 {
-        return WordEnd::Bad;
+// A word into `text` from `at` on: where it ends.
+fn read_word(word: &[u8], text: &mut [u8], at: usize) -> Option<usize> {
+    if word.is_empty() {
+        return None;
     }
-    let from = least(at, text.len());
+    let from = at.min(text.len());
     let u = script::unescape(word, &mut text[from..]);
-    let Some(w) = u else {
-        return WordEnd::Bad;
+    let Some(written) = u else {
+        return None;
     };
-    match w {
-        Ok(n) => WordEnd::At(from + n),
-        Err(_) => WordEnd::Bad,
+    match written {
+        Ok(n) => Some(from + n),
+        Err(_) => None,
     }
 }
 
 // A space, unless the buffer is full: where the next word starts.
-fn put_space(text: &mut Buffer, at: usize) -> usize {
+fn put_space(text: &mut [u8; 65536], at: usize) -> usize {
     if at < text.len() {
         text[at] = b' ';
         return at + 1;
@@ -103,30 +87,55 @@ fn put_space(text: &mut Buffer, at: usize) -> usize {
     at
 }
 
-// The k-th word, counted from 0; empty where there is none.
-pub fn word(text: &[u8], w: Words, k: usize) -> &[u8] {
-    if MOST <= k {
-        return part(text, 0, 0);
+impl<'a> Words<'a> {
+    // The k-th word, counted from 0; empty where there is none.
+    pub fn get(&self, k: usize) -> &'a [u8] {
+        match self.spans.get(k) {
+            Some(span) => part(self.text, span.start, span.end),
+            None => b"",
+        }
     }
-    let starts = w.starts;
-    let ends = w.ends;
-    part(text, starts[k], ends[k])
+
+    // The second word, a space and the third, or the second alone where the third is empty.
+    pub(crate) fn joined(&self) -> &'a [u8] {
+        let second = self.spans[1];
+        let third = self.spans[2];
+        let end = if third.start < third.end {
+            third.end
+        } else {
+            second.end
+        };
+        part(self.text, second.start, end)
+    }
+
+    // A call has so many words.
+    pub fn check_count(&self, count: usize) -> Result<(), Failure> {
+        if self.count != count {
+            return Err(Failure::BadLine);
+        }
+        Ok(())
+    }
+
+    // The last word; empty where there is none.
+    pub(crate) fn last(&self) -> &'a [u8] {
+        match self.count.checked_sub(1) {
+            Some(k) => self.get(k),
+            None => b"",
+        }
+    }
+
+    // The k-th word as the length of a buffer.
+    pub(crate) fn length(&self, k: usize) -> Result<usize, Failure> {
+        read_length(self.get(k))
+    }
+
+    // The last word as the length of a buffer.
+    pub fn last_length(&self) -> Result<usize, Failure> {
+        read_length(self.last())
+    }
 }
 
-// The last word; empty where there is none.
-pub fn last_word(text: &[u8], w: Words) -> &[u8] {
-    if w.count == 0 {
-        return part(text, 0, 0);
-    }
-    word(text, w, w.count - 1)
-}
-
-// The second word, a space and the third, or the second alone where the third is empty.
-pub fn joined_words(text: &[u8], w: Words) -> &[u8] {
-    let starts = w.starts;
-    let ends = w.ends;
-    if starts[2] < ends[2] {
-        return part(text, starts[1], ends[2]);
-    }
-    part(text, starts[1], ends[1])
+fn read_length(word: &[u8]) -> Result<usize, Failure> {
+    let n = script::read_number(word, LONGEST as u64).ok_or(Failure::BadLine)?;
+    Ok(n as usize)
 }

@@ -1,9 +1,0 @@
--- Each turn prints another error.
-use Rattle.std.proofs.Common.{◌-◌, ◌≤◌}
-use Rattle.replay_answers.proofs.returned.print_errors.Given as goal
-
-abbrev pub invariant-loop-n : goal.invariant-loop-n
-invariant-loop-n l = l.n ≤ l.count
-
-abbrev pub decreases-loop-n : goal.decreases-loop-n
-decreases-loop-n l = l.count - l.n

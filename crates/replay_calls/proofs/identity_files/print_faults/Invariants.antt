@@ -1,9 +1,0 @@
--- Each turn prints another fault.
-use Rattle.std.proofs.Common.{◌-◌, ◌≤◌}
-use Rattle.replay_calls.proofs.identity_files.print_faults.Given as goal
-
-abbrev pub invariant-loop-i : goal.invariant-loop-i
-invariant-loop-i l = l.i ≤ l.n
-
-abbrev pub decreases-loop-i : goal.decreases-loop-i
-decreases-loop-i l = l.n - l.i

@@ -1,9 +1,0 @@
--- `clear` is safe and ends: the measure is what is left of the store.
-use Prim.Native.Nat.{◌-◌}
-use Rattle.replay_lines.proofs.parts.clear.Given as goal
-
-abbrev pub invariant-loop-i : goal.invariant-loop-i
-invariant-loop-i l = Unit {0}
-
-abbrev pub decreases-loop-i : goal.decreases-loop-i
-decreases-loop-i l = l.end - l.i
