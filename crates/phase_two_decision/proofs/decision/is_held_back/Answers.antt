@@ -1,6 +1,4 @@
 -- Each command is asked its own question; one that is neither work, an error nor done is never held back.
-use mathlib.Core.Bool.{not}
-use mathlib.Core.Path.{ap}
 use Rattle.phase_two_decision.proofs.decision.is_held_back.Goals as goal
 
 pub returns-in-Stanza : goal.returns-in-Stanza

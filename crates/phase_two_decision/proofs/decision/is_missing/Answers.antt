@@ -1,6 +1,4 @@
 -- A stanza, a key and an error are asked for what they name; no other command names anything.
-use mathlib.Core.Bool.{not}
-use mathlib.Core.Path.{ap}
 use Rattle.phase_two_decision.proofs.decision.is_missing.Goals as goal
 
 pub returns-in-Error : goal.returns-in-Error
