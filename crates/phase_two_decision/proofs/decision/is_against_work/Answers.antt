@@ -1,5 +1,5 @@
 -- A stanza contradicts every error; else the key is asked.
-use borrow.Author.Tests.{lt-ltb, le-ltb}
+use borrow.Author.Tests.{le-ltb}
 use Rattle.phase_two_decision.proofs.decision.is_against_work.Goals as goal
 
 pub returns : goal.returns
