@@ -35,7 +35,12 @@ pub fn check_output(n: usize, capacity: usize) -> Result<(), Refusal>
 }
 
 // Writes a stanza that was accepted.
-pub fn write_judged(verdict: Result<(), Refusal>, line: &[u8], body: &[u8], out: &mut [u8]) -> Result<usize, Refusal>
+pub fn write_judged(
+    verdict: Result<(), Refusal>,
+    line: &[u8],
+    body: &[u8],
+    out: &mut [u8],
+) -> Result<usize, Refusal>
     ensures answer { said result ≡
         pick (eqb (verdict_said verdict) 0) (written line.now body.now out.old) (refused (verdict_said verdict)) }
     ensures output { out.new ≡
