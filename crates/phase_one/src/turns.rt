@@ -8,6 +8,7 @@ use crate::commands::CommandOne;
 use refusal::Refusal;
 use session::{Phase, phase_refused};
 
+// Not one function with phase_two's turn_two: told which phase speaks, it would choose in the first two arms, and be no shorter.
 // Whether it is the turn of a call of phase one: 13 where the session is closed or has ended, 14 in phase two.
 pub fn turn_one(phase: Phase) -> Result<(), Refusal>
     ensures { verdict_said result ≡ turn_one phase }

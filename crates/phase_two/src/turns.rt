@@ -12,6 +12,7 @@ use phase_two_commands::CommandTwo;
 use refusal::Refusal;
 use session::{Phase, WordTwo, phase_refused};
 
+// Not one function with phase_one's turn_one, which says why.
 // Whether it is the turn of a command of phase two: 13 where the session is closed or has ended, 14 in phase one or while an answer is due.
 pub fn turn_two(phase: Phase) -> Result<(), Refusal>
     ensures { verdict_said result ≡ turn_two phase }

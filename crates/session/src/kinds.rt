@@ -38,7 +38,7 @@ const STANZAS_FROM: usize = ERRORS_FROM + Session::ERRORS;
 
 const RETURNED_FROM: usize = STANZAS_FROM + Session::RETURNED_STANZAS;
 
-// Where a kind's slots lie.
+// Where a kind's slots lie: an arm for each, since each has numbers of its own.
 pub fn span_of(kind: Kind) -> Span
     ensures { result ≡ span_of kind }
 {
@@ -70,18 +70,39 @@ pub(crate) fn open_tables() -> Tables
 }
 
 impl Tables {
-    // The tables with another one of a kind.
+    // The tables with another one of a kind: an arm for each, since the tables are public fields that `tables_in` and hosts read by name.
     pub fn with(self, kind: Kind, table: Table) -> Tables
         ensures { result ≡ with_table self kind table }
     {
         match kind {
-            Kind::Recipients => Tables { recipients: table, ..self },
-            Kind::Identities => Tables { identities: table, ..self },
-            Kind::Keys => Tables { keys: table, ..self },
-            Kind::Headers => Tables { headers: table, ..self },
-            Kind::Errors => Tables { errors: table, ..self },
-            Kind::Stanzas => Tables { stanzas: table, ..self },
-            Kind::Returned => Tables { returned: table, ..self },
+            Kind::Recipients => Tables {
+                recipients: table,
+                ..self
+            },
+            Kind::Identities => Tables {
+                identities: table,
+                ..self
+            },
+            Kind::Keys => Tables {
+                keys: table,
+                ..self
+            },
+            Kind::Headers => Tables {
+                headers: table,
+                ..self
+            },
+            Kind::Errors => Tables {
+                errors: table,
+                ..self
+            },
+            Kind::Stanzas => Tables {
+                stanzas: table,
+                ..self
+            },
+            Kind::Returned => Tables {
+                returned: table,
+                ..self
+            },
         }
     }
 }

@@ -13,7 +13,10 @@ mod words;
 pub use kinds::{Kind, Tables, span_of};
 pub use marks::Mark;
 pub use opening::{Machine, Screen};
-pub use output::{Composed, Outcome, SHORT_ARGUMENTS, SHORT_LINE, Sent, check_output, compose, front, write_judged};
+pub use output::{
+    Composed, Outcome, SHORT_ARGUMENTS, SHORT_LINE, Sent, check_output, compose, front,
+    write_judged,
+};
 pub use phases::{Phase, phase_refused};
 pub use sessions::{Opening, Session};
 pub use words::WordTwo;

@@ -119,7 +119,11 @@ impl Session {
           awaited = self.awaited;
         } }
     {
-        Session { phase, tables, ..self }
+        Session {
+            phase,
+            tables,
+            ..self
+        }
     }
 
     // The same session with other bytes kept and another stanza that waits.
@@ -135,6 +139,11 @@ impl Session {
           awaited = awaited;
         } }
     {
-        Session { reading, kept, awaited, ..self }
+        Session {
+            reading,
+            kept,
+            awaited,
+            ..self
+        }
     }
 }
