@@ -43,7 +43,7 @@ pub enum CommandOne {
 }
 
 // Which command of phase one a word names for a machine. A match on the words themselves was tried: it tests byte by byte, and the proof did not close.
-#[tactic(auto, using(tables::proofs::Laws::Repeats::pointwise_same))]
+#[tactic(auto, using(refusal::proofs::Laws::Same::pointwise_same))]
 fn word_in(machine: Machine, word: &[u8]) -> WordOne
     ensures { word_said result ≡ word_in machine word.now }
 {

@@ -6,7 +6,7 @@ ghost use Rattle.refusal.specs.Verdict.{verdict_said};
 ghost use Rattle.tables.specs.Bodies.{body_from, payload_from};
 ghost use Rattle.tables.specs.Slots.{are_apart, entry_of, slots_of};
 ghost use Rattle.tables.specs.declared.slots.Span.{Span as AnySpan};
-ghost use Rattle.tables.specs.Repeats.{shows, repeats};
+ghost use Rattle.tables.specs.Repeats.{repeats};
 ghost use Rattle.tables.specs.Tables.{table_in, storing, entered, kept, found_said, found, shown, part_in};
 
 use crate::copying::{Coding, payload_size, put_payload};
@@ -63,13 +63,29 @@ impl Table {
         all.get(..self.count).unwrap_or(all)
     }
 
-    // Whether an entry already shows a text. One that the buffer is too short for shows none.
+    // Whether an entry already shows a text. One that the buffer is too short for shows none. Bytes are compared from the last: recipients have their front
+    // in common, and differ in the checksum.
     pub fn is_repeated(self, span: Span, text: &[u8], slots: &[[usize; 4]], buffer: &[u8]) -> bool
         ensures { result ≡ repeats (table_in span self slots.now) buffer.now text.now }
     {
-        self.entries(span, slots)
-            .iter()
-            .any(|slot| is_showing(Entry::from(*slot), text, buffer))
+        'search: {
+            'entries: for slot in self.entries(span, slots) {
+                let e = Entry::from(*slot);
+                if e.length != text.len() {
+                    continue 'entries;
+                }
+                let Some(shown) = part(e.start, e.length, buffer) else {
+                    continue 'entries;
+                };
+                for (a, b) in shown.iter().rev().zip(text.iter().rev()) {
+                    if a != b {
+                        continue 'entries;
+                    }
+                }
+                break 'search true;
+            }
+            false
+        }
     }
 
     // One entry more, of n bytes of a buffer of `capacity` bytes. 8 where it does not fit, then the late fault: table and slots stay as they were.
@@ -229,21 +245,6 @@ impl Table {
             buffer,
         )
     }
-}
-
-// Whether an entry shows a text. The last byte is compared first, since recipients have their front in common and differ in the checksum: `==` alone took more
-// than twice the instructions.
-#[tactic(auto, using(crate::proofs::Laws::Repeats::shows_other, crate::proofs::Laws::Repeats::shows_part, crate::proofs::Laws::Repeats::pointwise_same))]
-fn is_showing(e: Entry, text: &[u8], buffer: &[u8]) -> bool
-    ensures { result ≡ shows e buffer.now text.now }
-{
-    if e.length != text.len() {
-        return false;
-    }
-    let Some(shown) = part(e.start, e.length, buffer) else {
-        return false;
-    };
-    shown.last() == text.last() && shown == text
 }
 
 // The payload of what was found, a part of its kind's buffer; empty where there is no entry, or the buffer is too short for it.

@@ -1,20 +1,21 @@
 -- A text among those that entries show; and what it says of a table that an opening and calls can reach.
-use Prim.Native.Nat.{ℕ, zero, suc, ◌+◌, ◌-◌, ◌<◌, ◌≤◌}
-use mathlib.Core.Path.{◌≡◌, refl, sym, ap, ◌∙◌, subst}
-use mathlib.Core.Bool.{true, false, ◌&&◌, ◌||◌, false≢true}
+use Prim.Native.Nat.{ℕ, zero, suc, ◌+◌, ◌<◌, ◌≤◌}
+use mathlib.Core.Path.{◌≡◌, refl, sym, ap, ap₂, ◌∙◌, subst}
+use mathlib.Core.Bool.{Bool, true, false, ◌||◌, false≢true}
 use mathlib.Core.Logic.{◌↔◌}
-use mathlib.Core.List.{List, [], ◌∷◌, map}
-use lib.Dec.{eqb, leb}
-use lib.ListN.{length, take, drop, get_or, length-take, length-drop}
+use mathlib.Core.List.{List, [], ◌∷◌, map, reverse}
+use lib.Dec.{leb}
+use lib.ListN.{length, take, drop, get_or, length-take, length-drop, drop_of_length-le}
 use lib.Seq.{get_or-take, length-take-le}
 use native.Mathlib.Omega.{arith}
-use borrow.Author.Tests.{eq-eqb, le-leb, leb-true}
-use Rattle.std.specs.List.{list_any}
-use Rattle.std.proofs.Common.{nat_eq, Option, Some, None, Bor, option_copied, slice_get}
-use Rattle.std.specs.Option.{option_eq}
-use lib.Pointwise.{pointwise}
+use borrow.Author.Tests.{le-leb, leb-true}
+use Rattle.std.proofs.Common.{Some, None, Bor, All, zip}
+use Rattle.std.proofs.lemmas.List.{reverse-reverse, length-reverse}
+use Rattle.std.proofs.lemmas.List.Elements.{All-head, All-tail}
+use Rattle.std.proofs.lemmas.Slice.Zip.{firsts-zip, seconds-zip}
 use Rattle.refusal.specs.Same.{same}
 use Rattle.refusal.proofs.Laws.Booleans.{and_true, true_and, cases}
+use Rattle.refusal.proofs.Laws.Lists.{drop_one}
 use Rattle.refusal.proofs.Laws.Same.{same_refl, same_eq, same_length}
 use Rattle.tables.specs.Slots.{entry_of}
 use Rattle.tables.specs.Tables.{Table, empty, found, shown, part_in, end_of}
@@ -25,15 +26,16 @@ use Rattle.tables.proofs.Laws.Tables.{Kept}
 
 -- ---- one entry
 
-pub pointwise_same : (a b : List ℕ) → pointwise nat_eq a b ≡ same a b
-unfolding same
-pointwise_same [] [] = refl
-pointwise_same [] (y ∷ b) = refl
-pointwise_same (x ∷ a) [] = refl
-pointwise_same (x ∷ a) (y ∷ b) = ap (λ r. eqb x y && r) (pointwise_same a b)
-
 part_length : (start n : ℕ) (buffer : List ℕ) → start + n ≤ length buffer → length (take n (drop start buffer)) ≡ n
 part_length start n buffer h = simp (length-take, length-drop) (omega arith)
+
+pub part_long : (start n : ℕ) (buffer part : List ℕ) → Some part ≡ part_in start n buffer → length part ≡ n
+part_long start n buffer part p =
+    cases (leb (start + n) (length buffer))
+    (λ f. let q : Some part ≡ Some (take n (drop start buffer)) = p ∙ rw f in
+    let r : part ≡ take n (drop start buffer) = cc in
+    ap length r ∙ part_length start n buffer (leb-true (start + n) (length buffer) f))
+    (λ f. let q : Some part ≡ None = p ∙ rw f in cc)
 
 module _ (e : Entry) (buffer text : List ℕ) where
   pub shows_held : e.start + e.length ≤ length buffer → shows e buffer text ≡ same (take e.length (drop e.start buffer)) text
@@ -46,6 +48,12 @@ module _ (e : Entry) (buffer text : List ℕ) where
       shows_held h ∙ same_length (take e.length (drop e.start buffer)) text (λ q. n (sym (part_length e.start e.length buffer h) ∙ q)))
       (λ f. rw f)
 
+  pub shows_none : None ≡ part_in e.start e.length buffer → shows e buffer text ≡ false
+  shows_none p =
+      cases (leb (e.start + e.length) (length buffer))
+      (λ f. let q : None ≡ Some (take e.length (drop e.start buffer)) = p ∙ rw f in cc)
+      (λ f. rw f)
+
   -- the part of the buffer
   pub shows_part : (part : List ℕ) → Some part ≡ part_in e.start e.length buffer → shows e buffer text ≡ same part text
   shows_part part p =
@@ -55,27 +63,66 @@ module _ (e : Entry) (buffer text : List ℕ) where
       shows_held (leb-true (e.start + e.length) (length buffer) f) ∙ ap (λ l. same l text) r)
       (λ f. let q : Some part ≡ None = p ∙ rw f in cc)
 
--- two texts whose last bytes differ
-pub ends_differ : (a b : List ℕ) (r s : Option (Bor ℕ)) → option_copied r ≡ slice_get a (length a - 1) → option_copied s ≡ slice_get b (length b - 1) →
-    option_eq (λ (x y : Bor ℕ). nat_eq x.now y.now) r s ≡ false → same a b ≡ false
-ends_differ a b r s p q d =
+-- ---- bytes compared from the last
+
+-- the pairs of the bytes of two texts, from the last
+abbrev pub pairs : List ℕ → List ℕ → List (ℕ × ℕ)
+pairs a b = zip (reverse a) (reverse b)
+
+-- the bytes that a pair of references is to
+abbrev pub bytes_of : Bor ℕ × Bor ℕ → ℕ × ℕ
+bytes_of p = (p.0.now, p.1.now)
+
+-- they are equal
+abbrev pub are_equal : Bor ℕ × Bor ℕ → Type 0
+are_equal p = p.0.now ≡ p.1.now
+
+-- one pair differs
+pub one_differs : (a b : List ℕ) (i : ℕ) (x : ℕ × ℕ) → (i < length (pairs a b)) × (x ≡ get_or (pairs a b) i x) → (x.0 ≡ x.1 → ⊥) → same a b ≡ false
+one_differs a b i x p n =
     cases (same a b)
-    (λ e. let l = same_eq a b e in absurd (false≢true (sym d ∙ copied_eq r s (p ∙ ap (λ t. slice_get t (length t - 1)) l ∙ sym q))))
+    (λ e. let t = subst (λ c. (i < length (pairs a c)) × (x ≡ get_or (pairs a c) i x)) (sym (same_eq a b e)) p in
+    absurd (n (ap (λ y. y.0) t.1 ∙ alike (reverse a) i x t.0 ∙ sym (ap (λ y. y.1) t.1))))
     (λ e. e)
   where
-    copied_eq : (r s : Option (Bor ℕ)) → option_copied r ≡ option_copied s → option_eq (λ (x y : Bor ℕ). nat_eq x.now y.now) r s ≡ true
-    copied_eq None None e = refl
-    copied_eq None (Some y) e = cc
-    copied_eq (Some x) None e = cc
-    copied_eq (Some x) (Some y) e = let f : x.now ≡ y.now = cc in eq-eqb x.now y.now f
+    alike : (r : List ℕ) (i : ℕ) (d : ℕ × ℕ) → i < length (zip r r) → (get_or (zip r r) i d).0 ≡ (get_or (zip r r) i d).1
+    alike [] i d h = absurd (omega arith)
+    alike (x ∷ r) zero d h = refl
+    alike (x ∷ r) (suc i) d h = alike r i d (omega arith)
 
--- ---- the entries of slots
+-- none does
+pub none_differs : (a b : List ℕ) (xs : List (Bor ℕ × Bor ℕ)) → map bytes_of xs ≡ pairs a b → length a ≡ length b → All are_equal xs → same a b ≡ true
+none_differs a b xs m l q =
+    let n : length (reverse b) ≡ length (reverse a) = length-reverse b ∙ sym l ∙ sym (length-reverse a) in
+    let r : reverse a ≡ reverse b =
+    sym (firsts-zip (reverse a) (reverse b) n) ∙ ap (map (λ (p : ℕ × ℕ). p.0)) (sym m) ∙ halves xs q ∙ ap (map (λ (p : ℕ × ℕ). p.1)) m ∙ seconds-zip (reverse a) (reverse b) n in
+    subst (λ t. same a t ≡ true) (sym (reverse-reverse a) ∙ ap reverse r ∙ reverse-reverse b) (same_refl a)
+  where
+    halves : (xs : List (Bor ℕ × Bor ℕ)) → All are_equal xs → map (λ (p : ℕ × ℕ). p.0) (map bytes_of xs) ≡ map (λ (p : ℕ × ℕ). p.1) (map bytes_of xs)
+    halves [] q = refl
+    halves (x ∷ xs) q = ap₂ (λ y ys. y ∷ ys) (All-head are_equal x xs q) (halves xs (All-tail are_equal x xs q))
 
-pub any_slot : (slots : List (List ℕ)) (buffer text : List ℕ) →
-    list_any (λ slot. shows (entry_of slot) buffer text) slots ≡ any_shows (map entry_of slots) buffer text
-unfolding any_shows
-any_slot [] buffer text = refl
-any_slot (x ∷ slots) buffer text = ap (λ r. shows (entry_of x) buffer text || r) (any_slot slots buffer text)
+-- ---- one slot on
+
+module _ (slots : List (List ℕ)) (buffer text : List ℕ) where
+  -- what the slots from a number on show
+  abbrev pub shown_from : ℕ → Bool
+  shown_from i = any_shows (map entry_of (drop i slots)) buffer text
+
+  module _ (i : ℕ) (l : i < length slots) (e : Entry) (x : e ≡ entry_of (get_or slots i [])) where
+    slot_on : shown_from i ≡ (shows e buffer text || shown_from (i + 1))
+    unfolding any_shows
+    slot_on = ap (λ t. any_shows (map entry_of t) buffer text) (drop_one slots i [] l) ∙ ap (λ y. shows y buffer text || shown_from (i + 1)) (sym x)
+
+    pub missed : shows e buffer text ≡ false → shown_from i ≡ shown_from (i + 1)
+    missed s = slot_on ∙ ap (λ b. b || shown_from (i + 1)) s
+
+    pub met : shows e buffer text ≡ true → shown_from i ≡ true
+    met s = slot_on ∙ ap (λ b. b || shown_from (i + 1)) s
+
+  pub none_left : (i : ℕ) → length slots ≤ i → shown_from i ≡ false
+  unfolding any_shows
+  none_left i h = ap (λ t. any_shows (map entry_of t) buffer text) (drop_of_length-le slots {i = i} h)
 
 -- ---- of a table that an opening and calls can reach
 
