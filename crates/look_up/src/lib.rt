@@ -5,4 +5,7 @@ mod entries;
 mod look_up;
 
 pub use entries::{count_before, count_entries, count_file, has_file};
-pub use look_up::{ErrorNamed, awaited_command, count_errors, count_stanzas, entry, error_message, error_named, find, has_key, key_of, number_of, stanza_of};
+pub use look_up::{
+    ErrorNamed, awaited_command, count_errors, count_stanzas, entry, error_message, error_named,
+    find, has_key, key_of, number_of, stanza_of,
+};

@@ -4,7 +4,6 @@ ghost use Rattle.std.specs.Prelude.{◌≡◌};
 ghost use Rattle.script.specs.Escape.{escaped};
 ghost use Rattle.printing.specs.Page.{page, put, decimal, put_number, put_word};
 
-
 // Some bytes as they are.
 pub fn put(bytes: &[u8], out: &mut [u8], at: usize) -> usize
     ensures { page result out.new ≡ put bytes.now (page at out.old) }
