@@ -1,10 +1,15 @@
 -- What the calls answer (document 01, "Recipients and identities" and "Numbers given back").
-use Rattle.std.specs.Prelude.{ℕ, ◌-◌, Bool, ◌&&◌, ◌||◌, List, [], ◌++◌, map, leb, eqb, length, replicate}
+use Rattle.std.specs.Prelude.{ℕ, ◌-◌, ◌≡◌, Bool, ◌&&◌, ◌||◌, List, [], ◌++◌, map, leb, eqb, length, replicate, Option, Some, None, MatchOption, Result, Ok, Err, MatchResult}
+use Rattle.std.specs.Option.{unwrap_or}
+use Rattle.refusal.specs.Number.{number_of}
 use Rattle.refusal.specs.Pick.{pick}
 use Rattle.refusal.specs.Same.{same}
-use Rattle.refusal.specs.Output.{Answer, refused, overflows, answered, filled}
+use Rattle.refusal.specs.Output.{Answer, bytes, refused, overflows, answered, filled}
 use Rattle.symbols.specs.Charset.{lower}
 use Rattle.bech32.specs.Text.{Form, recipient, identity, is_name, text_of, no_lower, no_upper, Parsed, parsed, malformed, bad_checksum, leftover_bits, has_tail, is_closed}
+use Rattle.bech32.specs.declared.human.Name.{Name}
+use Rattle.bech32.specs.declared.parsing.ReadFault.{ReadFault}
+use Rattle.bech32.specs.declared.parsing.ReadText.{ReadText}
 use Rattle.bech32.specs.declared.TextKind.{TextKind}
 use Rattle.bech32.specs.declared.TextKind.TheVariants.{Recipient, Identity}
 
@@ -27,12 +32,16 @@ text_number (malformed place) = 16
 text_number (bad_checksum name) = 21
 text_number (leftover_bits name) = 22
 
--- the place that comes with 16; else 0
+-- the place that comes with 16, and with no other
+abbrev pub place_given : Parsed → Option ℕ
+place_given (parsed name payload) = None
+place_given (malformed place) = Some place
+place_given (bad_checksum name) = None
+place_given (leftover_bits name) = None
+
+-- the same as a number: else 0
 abbrev pub read_place : Parsed → ℕ
-read_place (parsed name payload) = 0
-read_place (malformed place) = place
-read_place (bad_checksum name) = 0
-read_place (leftover_bits name) = 0
+read_place p = unwrap_or (place_given p) 0
 
 -- what is to be written to the buffer
 abbrev pub payload_of : Parsed → List ℕ
@@ -63,6 +72,28 @@ read_name p buffer = pick (eqb (text_number p) 0) (pick (overflows (payload_of p
 -- a name by value: its bytes, and zeros up to 32
 abbrev pub padded : List ℕ → List ℕ
 padded name = name ++ replicate (32 - length name) 0
+
+-- the code's value that holds a text: its bytes, and zeros behind them
+abbrev pub IsText : Name → List ℕ → Type 0
+IsText v t = (v.bytes ≡ padded t) × (v.length ≡ length t)
+
+-- .. a name, and none where it is empty
+abbrev pub IsGiven : Option Name → List ℕ → Type 0
+IsGiven o name = MatchOption o (name ≡ []) (λ v. IsText v name × (length name ≡ 0 → ⊥))
+
+-- what the code's answer stands for: how many bytes were written, or the number
+abbrev pub read_said : Result ReadText ReadFault → Answer
+read_said (Ok r) = bytes r.length
+read_said (Err f) = refused (number_of f.refusal)
+
+-- .. the place
+abbrev pub place_said : Result ReadText ReadFault → Option ℕ
+place_said (Ok r) = None
+place_said (Err f) = f.place
+
+-- .. the name, and none where it is refused
+abbrev pub IsNamed : Result ReadText ReadFault → List ℕ → Type 0
+IsNamed o name = MatchResult o (λ r. IsText r.name name) (λ f. name ≡ [])
 
 -- a name that is given must be one in lower case: else it is taken as empty
 abbrev pub given_name : List ℕ → List ℕ

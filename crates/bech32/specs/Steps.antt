@@ -1,12 +1,10 @@
 -- What the private functions ask of the table and the buffers that they are lent, and what they work out. Nobody has to believe this: each caller shows it.
-use Rattle.std.specs.Prelude.{ℕ, Option, MatchOption, ◌-◌, ◌<◌, ◌≡◌, Bool, ◌&&◌, List, [], ◌++◌, map, leb, length, take, drop, get_or}
+use Rattle.std.specs.Prelude.{ℕ, ◌-◌, ◌<◌, ◌≡◌, Bool, ◌&&◌, List, [], ◌++◌, map, leb, length, take, drop, get_or}
 use Rattle.refusal.specs.Pick.{pick}
 use Rattle.refusal.specs.Same.{same}
 use Rattle.symbols.specs.Charset.{character_of, lower, upper}
 use Rattle.symbols.specs.Checksum.{polymod, checksum, are_symbols}
 use Rattle.symbols.specs.Regroup.{symbols, is_whole}
-use Rattle.bech32.specs.declared.human.Name.{Name}
-use Rattle.bech32.specs.Calls.{padded}
 use Rattle.bech32.specs.Text.{Form, is_name, is_human, name_in, human_in, is_cased, separator, values_in, payload_in, is_closed}
 
 -- a byte in the form's case
@@ -20,14 +18,6 @@ Characters k t = (v : ℕ) → v < 32 → get_or t v 0 ≡ cased_byte k (charact
 -- the symbols of a payload, and those of the checksum behind a state
 abbrev pub with_checksum : ℕ → List ℕ → List ℕ
 with_checksum c payload = symbols payload ++ checksum (polymod c (symbols payload))
-
--- a text by value: its bytes, and zeros behind them
-abbrev pub IsText : Name → List ℕ → Type 0
-IsText v t = (v.bytes ≡ padded t) × (v.length ≡ length t)
-
--- a name by value, and none where it is empty
-abbrev pub IsGiven : Option Name → List ℕ → Type 0
-IsGiven o name = MatchOption o (name ≡ []) (λ v. IsText v name × (length name ≡ 0 → ⊥))
 
 -- what stands between a front and a back
 abbrev pub between : List ℕ → List ℕ → List ℕ → List ℕ

@@ -4,8 +4,8 @@ ghost use Rattle.refusal.specs.Run.{all};
 ghost use Rattle.refusal.specs.Same.{same};
 ghost use Rattle.symbols.specs.Charset.{lower};
 ghost use Rattle.bech32.specs.Text.{is_name_byte, is_name, in_case, human_part};
-ghost use Rattle.bech32.specs.Calls.{form_of, padded, given_name};
-ghost use Rattle.bech32.specs.Steps.{IsText, IsGiven, name_between, name_or};
+ghost use Rattle.bech32.specs.Calls.{form_of, IsText, IsGiven, given_name};
+ghost use Rattle.bech32.specs.Steps.{name_between, name_or};
 
 use crate::TextKind;
 use crate::charset::cased;
@@ -14,23 +14,11 @@ use symbols::lowered;
 // The longest name.
 pub const LONGEST_NAME: usize = 32;
 
-// A plugin's name by value: bytes[..length], zeros behind it. It is empty where there is none.
-// No slice and no Option: no heap, and what `read` and `name_of` ensure of both fields may not change.
+// A plugin's name by value: bytes[..length], zeros behind it. No slice: no heap.
 #[derive(Clone, Copy)]
 pub struct Name {
     pub bytes: [u8; LONGEST_NAME],
     pub length: usize,
-}
-
-// No name.
-pub(crate) fn nameless() -> Name
-    ensures bytes { result.bytes ≡ padded [] }
-    ensures length { result.length ≡ 0 }
-{
-    Name {
-        bytes: [0; LONGEST_NAME],
-        length: 0,
-    }
 }
 
 fn is_name_byte(b: u8) -> bool
@@ -78,15 +66,14 @@ fn copied(text: &[u8]) -> Option<Name>
     })
 }
 
-// A plugin's name by value, from a text that must be one in lower case; no name where it is none.
-pub fn name_of(text: &[u8]) -> Name
-    ensures bytes { result.bytes ≡ padded (given_name text.now) }
-    ensures length { result.length ≡ length (given_name text.now) }
+// A plugin's name by value, from a text that must be one in lower case.
+pub fn name_of(text: &[u8]) -> Option<Name>
+    ensures { IsGiven result (given_name text.now) }
 {
-    match copied(text) {
-        Some(name) if is_name(text) => name,
-        _ => nameless(),
+    if !is_name(text) {
+        return None;
     }
+    copied(text)
 }
 
 // The name that a text in lower case is.

@@ -7,7 +7,7 @@ mod parsing;
 mod writing;
 
 pub use human::{LONGEST_NAME, Name, is_lowered, name_of};
-pub use parsing::{ReadText, holds, judge, mark, read};
+pub use parsing::{ReadFault, ReadText, holds, judge, mark, read};
 pub use writing::write;
 
 // The longest text; how many characters its checksum has, and with the separator before it.

@@ -1,17 +1,16 @@
 // Reading recipients and identities. The verdict comes first, then the bytes, so that nothing is written where the text is refused.
-ghost use Rattle.std.specs.Prelude.{◌≡◌, Err, ℕ, slice_index, ◌+◌, ◌-◌, ◌<◌, ◌≤◌, ◌&&◌, ◌||◌, [], map, eqb, length, drop, take};
+ghost use Rattle.std.specs.Prelude.{◌≡◌, Some, None, ℕ, slice_index, ◌+◌, ◌-◌, ◌<◌, ◌≤◌, ◌&&◌, ◌||◌, map, eqb, length, drop, take};
 ghost use Rattle.refusal.specs.Pick.{pick};
 ghost use Rattle.refusal.specs.Number.{number_of};
 ghost use Rattle.refusal.specs.Run.{all, run, is_graphic};
-ghost use Rattle.refusal.specs.Output.{said};
 ghost use Rattle.refusal.specs.Verdict.{verdict_said};
 ghost use Rattle.symbols.specs.Charset.{lower};
 ghost use Rattle.symbols.specs.Steps.{Values};
 ghost use Rattle.bech32.specs.Text.{no_lower, no_upper, is_cased, is_not_one, separator, has_tail, is_closed, place_in, parse};
-ghost use Rattle.bech32.specs.Calls.{form_of, is_sound, padded, read_answer, read_place, read_buffer, read_name, text_number, mark_of};
-ghost use Rattle.bech32.specs.Steps.{IsGiven, name_at, tail_number};
+ghost use Rattle.bech32.specs.Calls.{form_of, is_sound, read_said, place_said, IsGiven, IsNamed, read_answer, place_given, read_buffer, read_name, text_number, mark_of};
+ghost use Rattle.bech32.specs.Steps.{name_at, tail_number};
 
-use crate::human::{Name, is_lowered, name_in, nameless};
+use crate::human::{Name, is_lowered, name_in};
 use crate::{CHECKSUM, LONGEST, TAIL, TextKind};
 use refusal::Refusal;
 use symbols::{
@@ -19,16 +18,19 @@ use symbols::{
     is_whole, values,
 };
 
-// What reading gives: how long the payload at the buffer's front is, or 16, 21, 22 or 15; the place with 16, else 0; and the name, empty where refused.
+// A text that was read: how long the payload at the buffer's front is, and the name.
 #[derive(Clone, Copy)]
 pub struct ReadText {
-    pub answer: Result<usize, Refusal>,
-    pub place: usize,
+    pub length: usize,
     pub name: Name,
 }
 
-// Where no place comes with an answer. No Option: what `read` ensures of the place may not change.
-const NO_PLACE: usize = 0;
+// Why a text was not read: 16 with the place, 21, 22 or 15.
+#[derive(Clone, Copy)]
+pub struct ReadFault {
+    pub refusal: Refusal,
+    pub place: Option<usize>,
+}
 
 // Whether no letter is in lower case. No early exit, so that the loop is vectorised.
 fn no_lower(text: &[u8]) -> bool
@@ -184,16 +186,18 @@ impl<'a> Separated<'a> {
         graphic.min(self.at + 1 + character_run(&values(), self.data()))
     }
 
-    // A refusal, with the place where it is 16, and no name.
-    fn refuse(&self, r: Refusal) -> ReadText
-        ensures answer { result.answer ≡ Err r }
-        ensures place { result.place ≡ pick (eqb (number_of r) 16) (place_in self.now.text.now) 0 }
-        ensures bytes { result.name.bytes ≡ padded [] }
-        ensures length { result.name.length ≡ 0 }
+    // A refusal, with the place where it is 16.
+    fn refuse(&self, r: Refusal) -> ReadFault
+        ensures refusal { result.refusal ≡ r }
+        ensures place { result.place ≡ pick (eqb (number_of r) 16) (Some (place_in self.now.text.now)) None }
     {
-        match r {
-            Refusal::Malformed => refused(r, self.place()),
-            _ => refused(r, NO_PLACE),
+        let place = match r {
+            Refusal::Malformed => Some(self.place()),
+            _ => None,
+        };
+        ReadFault {
+            refusal: r,
+            place: place,
         }
     }
 }
@@ -213,71 +217,56 @@ fn graphic_run(text: &[u8]) -> usize
 }
 
 // The payload of a text of the kind at the front of `out`, and its name: 16 with the place, 21 or 22 if it isn't one, then 15; nothing written then.
-pub fn read(kind: TextKind, text: &[u8], out: &mut [u8]) -> ReadText
-    ensures answer { said result.answer ≡ read_answer (parse (form_of kind) text.now) out.old }
-    ensures place { result.place ≡ read_place (parse (form_of kind) text.now) }
-    ensures bytes { result.name.bytes ≡ padded (read_name (parse (form_of kind) text.now) out.old) }
-    ensures length { result.name.length ≡ length (read_name (parse (form_of kind) text.now) out.old) }
+pub fn read(kind: TextKind, text: &[u8], out: &mut [u8]) -> Result<ReadText, ReadFault>
+    ensures answer { read_said result ≡ read_answer (parse (form_of kind) text.now) out.old }
+    ensures place { place_said result ≡ place_given (parse (form_of kind) text.now) }
+    ensures name { IsNamed result (read_name (parse (form_of kind) text.now) out.old) }
     ensures buffer { out.new ≡ read_buffer (parse (form_of kind) text.now) out.old }
 {
     let text = Separated::of(text);
     let Some(name) = text.name(kind) else {
-        return text.refuse(Refusal::Malformed);
+        return Err(text.refuse(Refusal::Malformed));
     };
     let table = values();
-    match text.judge_tail(&table) {
-        Ok(()) => {
-            let payload = text.payload();
-            let n = bytes_length(payload.len());
-            if out.len() < n {
-                return refused(Refusal::ShortOutput, NO_PLACE);
-            }
-            decode(&table, payload, out);
-            ReadText {
-                answer: Ok(n),
-                place: NO_PLACE,
-                name: name,
-            }
-        }
-        Err(r) => text.refuse(r),
+    if let Err(r) = text.judge_tail(&table) {
+        return Err(text.refuse(r));
     }
+    let payload = text.payload();
+    let n = bytes_length(payload.len());
+    if out.len() < n {
+        return Err(ReadFault {
+            refusal: Refusal::ShortOutput,
+            place: None,
+        });
+    }
+    decode(&table, payload, out);
+    Ok(ReadText {
+        length: n,
+        name: name,
+    })
 }
 
-// A refusal with a place, and no name.
-fn refused(r: Refusal, place: usize) -> ReadText
-    ensures answer { result.answer ≡ Err r }
-    ensures place { result.place ≡ «place» }
-    ensures bytes { result.name.bytes ≡ padded [] }
-    ensures length { result.name.length ≡ 0 }
-{
-    ReadText {
-        answer: Err(r),
-        place: place,
-        name: nameless(),
-    }
-}
-
-// The reader's number for a text of the kind, of any plugin: 0, or 16, 21, 22. A number, as `judge` and `mark` ensure.
-pub fn judge(kind: TextKind, text: &[u8]) -> u8
-    ensures { result ≡ text_number (parse (form_of kind) text.now) }
+// What the reader says of a text of the kind, of any plugin: nothing, or 16, 21, 22.
+pub fn judge(kind: TextKind, text: &[u8]) -> Result<(), Refusal>
+    ensures { verdict_said result ≡ text_number (parse (form_of kind) text.now) }
 {
     let text = Separated::of(text);
     if text.name(kind).is_none() {
-        return refusal::number(Refusal::Malformed);
+        return Err(Refusal::Malformed);
     }
-    refusal::verdict_number(text.judge_tail(&values()))
+    text.judge_tail(&values())
 }
 
-// The mark of a text of the kind for a plugin's name, in either case: 16 where it has no human part of that name; else the reader's number.
-pub fn mark(kind: TextKind, text: &[u8], plugin: &[u8]) -> u8
-    ensures { result ≡ mark_of (parse (form_of kind) text.now) plugin.now }
+// The mark of a text of the kind for a plugin's name, in either case: 16 where it has no human part of that name; else what the reader says.
+pub fn mark(kind: TextKind, text: &[u8], plugin: &[u8]) -> Result<(), Refusal>
+    ensures { verdict_said result ≡ mark_of (parse (form_of kind) text.now) plugin.now }
 {
     let text = Separated::of(text);
     let Some(name) = text.name(kind) else {
-        return refusal::number(Refusal::Malformed);
+        return Err(Refusal::Malformed);
     };
     if !is_lowered(plugin, &name.bytes[..name.length]) {
-        return refusal::number(Refusal::Malformed);
+        return Err(Refusal::Malformed);
     }
-    refusal::verdict_number(text.judge_tail(&values()))
+    text.judge_tail(&values())
 }

@@ -11,7 +11,7 @@ use native.Mathlib.Omega.{arith}
 use borrow.Author.Tests.{leb-true, lt-leb}
 use Rattle.std.specs.Char.{to_ascii_lowercase}
 use Rattle.std.specs.Option.{is_some}
-use Rattle.std.specs.Prelude.{Option, Some, None}
+use Rattle.std.specs.Prelude.{Option, Some, None, MatchOption}
 use Rattle.std.specs.List.{list_all, zip}
 use Rattle.refusal.specs.Pick.{pick}
 use Rattle.refusal.specs.Run.{all}
@@ -22,8 +22,8 @@ use Rattle.refusal.proofs.Laws.Same.{same_refl, same_length}
 use Rattle.symbols.specs.Charset.{lower, upper}
 use Rattle.bech32.specs.Text.{is_name_byte, is_name, Form, human_part, in_case, is_human}
 use Rattle.bech32.specs.declared.human.Name.{Name}
-use Rattle.bech32.specs.Calls.{padded, given_name}
-use Rattle.bech32.specs.Steps.{IsGiven, between, name_between, name_or, cased_byte}
+use Rattle.bech32.specs.Calls.{padded, IsText, IsGiven, given_name}
+use Rattle.bech32.specs.Steps.{between, name_between, name_or, cased_byte}
 use Rattle.symbols.proofs.Laws.Charset.{lower_ascii}
 use Rattle.symbols.proofs.Laws.Maps.{map_at, map_take, map_drop}
 
@@ -97,6 +97,11 @@ name_some t e h =
     let a = and_true (leb 1 (length t) && leb (length t) 32) (all is_name_byte t) e in
     let b = leb-true 1 (length t) (and_true (leb 1 (length t)) (leb (length t) 32) a.0).0 in
     omega arith
+
+-- a text of a name, copied
+pub given_copied : (o : Option Name) (t : List ℕ) → is_name t ≡ true → MatchOption o (32 < length t) (λ v. IsText v t) → IsGiven o (given_name t)
+given_copied None t e h = given_long t h
+given_copied (Some v) t e h = rw e (h, name_some t e)
 
 -- a name that is given, or none
 pub given_none : (o : Option Name) (n : List ℕ) → IsGiven o n → is_some o ≡ false → n ≡ []

@@ -9,6 +9,7 @@ use native.Mathlib.Nat.{min-eq_left}
 use native.Mathlib.Omega.{arith}
 use borrow.Author.Tests.{leb-true, leb-false, lt-ltb, le-ltb, le-leb, lt-leb, eq-eqb, ne_eqb}
 use Rattle.std.specs.List.{fold}
+use Rattle.std.specs.Prelude.{Some, None}
 use Rattle.refusal.specs.Pick.{pick}
 use Rattle.refusal.specs.Run.{all, run, is_graphic}
 use Rattle.refusal.specs.Same.{same}
@@ -18,7 +19,7 @@ use Rattle.refusal.proofs.Laws.Lists.{part_rest}
 use Rattle.symbols.specs.Charset.{value_of, is_upper, lower}
 use Rattle.symbols.specs.Checksum.{are_symbols, polymod, expanded}
 use Rattle.symbols.specs.Regroup.{is_whole, bytes}
-use Rattle.bech32.specs.Calls.{text_number, name_of, read_answer, read_place, read_name, read_buffer, mark_of}
+use Rattle.bech32.specs.Calls.{text_number, name_of, read_answer, place_given, read_name, read_buffer, mark_of}
 use Rattle.refusal.specs.Output.{refused, bytes as accepted}
 use Rattle.bech32.specs.Text.{Form, parsed, parse, human_part, is_name_byte, is_name, is_not_one, is_cased, separator, name_in, human_in, values_in, payload_in, has_tail, is_closed, is_human, is_formed, place_in}
 use Rattle.symbols.specs.Calls.{value_at, closes}
@@ -261,21 +262,21 @@ mark_none k t plugin e = ap (λ n. pick (same (map lower plugin) (name_of (parse
 
 -- a refusal, with the place where it is 16
 pub refuses : (k : Form) (t o : List ℕ) (n : ℕ) → text_number (parse k t) ≡ n → eqb n 0 ≡ false →
-    (refused n ≡ read_answer (parse k t) o) × (pick (eqb n 16) (place_in t) 0 ≡ read_place (parse k t)) × ([] ≡ read_name (parse k t) o) × (o ≡ read_buffer (parse k t) o)
+    (refused n ≡ read_answer (parse k t) o) × (pick (eqb n 16) (Some (place_in t)) None ≡ place_given (parse k t)) × ([] ≡ read_name (parse k t) o) × (o ≡ read_buffer (parse k t) o)
 refuses k t o n e z =
     let y : eqb (text_number (parse k t)) 0 ≡ false = ap (λ n. eqb n 0) e ∙ z in
-    (rw y (ap refused (sym e)), ap (λ n. pick (eqb n 16) (place_in t) 0) (sym e) ∙ place, rw y, rw y)
+    (rw y (ap refused (sym e)), ap (λ n. pick (eqb n 16) (Some (place_in t)) None) (sym e) ∙ place, rw y, rw y)
   where
-    place : pick (eqb (text_number (parse k t)) 16) (place_in t) 0 ≡ read_place (parse k t)
-    place = parse_cases (λ p. pick (eqb (text_number p) 16) (place_in t) 0 ≡ read_place p) k t (λ f g h. refl) (λ f g h. refl) (λ f g. refl) (λ f. refl)
+    place : pick (eqb (text_number (parse k t)) 16) (Some (place_in t)) None ≡ place_given (parse k t)
+    place = parse_cases (λ p. pick (eqb (text_number p) 16) (Some (place_in t)) None ≡ place_given p) k t (λ f g h. refl) (λ f g h. refl) (λ f g. refl) (λ f. refl)
 
 module _ (k : Form) (t o name payload : List ℕ) (e : parse k t ≡ parsed name payload) where
   pub reads_short : length o < length payload →
-      (refused 15 ≡ read_answer (parse k t) o) × (0 ≡ read_place (parse k t)) × ([] ≡ read_name (parse k t) o) × (o ≡ read_buffer (parse k t) o)
+      (refused 15 ≡ read_answer (parse k t) o) × (None ≡ place_given (parse k t)) × ([] ≡ read_name (parse k t) o) × (o ≡ read_buffer (parse k t) o)
   reads_short h = rw (e, lt-ltb (length o) (length payload) h) (refl, refl, refl, refl)
 
   pub reads : length payload ≤ length o →
-      (accepted (length payload) ≡ read_answer (parse k t) o) × (0 ≡ read_place (parse k t)) × (name ≡ read_name (parse k t) o) × (payload ++ drop (length payload) o ≡ read_buffer (parse k t) o)
+      (accepted (length payload) ≡ read_answer (parse k t) o) × (None ≡ place_given (parse k t)) × (name ≡ read_name (parse k t) o) × (payload ++ drop (length payload) o ≡ read_buffer (parse k t) o)
   reads h = rw (e, le-ltb (length o) (length payload) h) (refl, refl, refl, refl)
 
 -- ---- the place

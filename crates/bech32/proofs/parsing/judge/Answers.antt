@@ -12,7 +12,7 @@ pub returns-then-is_none : goal.returns-then-is_none
 returns-then-is_none c = let t = c.of-text.result.text.now in
     let k = form_of c.args.kind in
     let n = given_none _ (name_at k t) c.name.ensures c.if-is_none.ensures in
-    rw (← c.of-text.ensures) (c.number.ensures ∙ sym (number_none k t (no_head k t (ap length n))))
+    rw (← c.of-text.ensures) (sym (number_none k t (no_head k t (ap length n))))
 
 pub judge_tail-requires : goal.judge_tail-requires
 judge_tail-requires c = let t = c.of-text.result.text.now in
@@ -24,4 +24,4 @@ pub returns : goal.returns
 returns c = let t = c.of-text.result.text.now in
     let k = form_of c.args.kind in
     let e = is_head k t (given_some _ (name_at k t) c.name.ensures c.if-is_none.ensures) in
-    rw (← c.of-text.ensures) (c.verdict_number.ensures ∙ c.judge_tail.ensures ∙ sym (number_is k t e))
+    rw (← c.of-text.ensures) (c.judge_tail.ensures ∙ sym (number_is k t e))

@@ -15,7 +15,7 @@ use Rattle.bech32.proofs.parsing.mark.Goals as goal
 pub returns-in_default : goal.returns-in_default
 returns-in_default c = let t = c.of-text.result.text.now in
     let k = form_of c.args.kind in
-    rw (← c.of-text.ensures) (c.number.ensures ∙ sym (mark_none k t c.args.plugin.now (no_head k t (ap length c.in_default.ensures))))
+    rw (← c.of-text.ensures) (sym (mark_none k t c.args.plugin.now (no_head k t (ap length c.in_default.ensures))))
 
 pub returns-then-not-is_lowered : goal.returns-then-not-is_lowered
 returns-then-not-is_lowered c = let t = c.of-text.result.text.now in
@@ -24,7 +24,7 @@ returns-then-not-is_lowered c = let t = c.of-text.result.text.now in
     let e = is_head k t c.in-Some.ensures.1 in
     let n = padded_front (name_at k t) c.in-Some.name.bytes c.in-Some.name.length c.in-Some.ensures.0.0 c.in-Some.ensures.0.1 in
     let m : same (map lower g) (name_at k t) ≡ c.is_lowered.result = ap (same (map lower g)) (sym n) ∙ sym c.is_lowered.ensures in
-    rw (← c.of-text.ensures) (c.number-then-not-is_lowered.ensures ∙ sym (mark_is k t e g ∙ ap (λ b. pick b (tail_number (map lower t)) 16) (m ∙ c.if-not-is_lowered.true)))
+    rw (← c.of-text.ensures) (sym (mark_is k t e g ∙ ap (λ b. pick b (tail_number (map lower t)) 16) (m ∙ c.if-not-is_lowered.true)))
 
 pub judge_tail-requires : goal.judge_tail-requires
 judge_tail-requires c = let t = c.of-text.result.text.now in
@@ -39,4 +39,4 @@ returns c = let t = c.of-text.result.text.now in
     let e = is_head k t c.in-Some.ensures.1 in
     let n = padded_front (name_at k t) c.in-Some.name.bytes c.in-Some.name.length c.in-Some.ensures.0.0 c.in-Some.ensures.0.1 in
     let m : same (map lower g) (name_at k t) ≡ c.is_lowered.result = ap (same (map lower g)) (sym n) ∙ sym c.is_lowered.ensures in
-    rw (← c.of-text.ensures) (c.verdict_number.ensures ∙ c.judge_tail.ensures ∙ sym (mark_is k t e g ∙ ap (λ b. pick b (tail_number (map lower t)) 16) (m ∙ c.if-not-is_lowered.false)))
+    rw (← c.of-text.ensures) (c.judge_tail.ensures ∙ sym (mark_is k t e g ∙ ap (λ b. pick b (tail_number (map lower t)) 16) (m ∙ c.if-not-is_lowered.false)))

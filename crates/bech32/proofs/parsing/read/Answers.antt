@@ -6,7 +6,7 @@ use lib.ListN.{length, drop, length-map}
 use native.Mathlib.Omega.{arith}
 use borrow.Author.Tests.{le-ltb}
 use Rattle.refusal.specs.Number.{number_of}
-use Rattle.refusal.specs.Output.{said, filled, bytes as accepted}
+use Rattle.refusal.specs.Output.{refused, filled, bytes as accepted}
 use Rattle.refusal.specs.Verdict.{verdict_said}
 use Rattle.refusal.proofs.Laws.Number.{number_not_zero}
 use Rattle.symbols.specs.Charset.{lower}
@@ -28,10 +28,9 @@ returns-in_default c = let t = c.of-text.result.text.now in
     let k = form_of c.args.kind in
     let q = refuses k t c.args.out.now 16 (number_none k t (no_head k t (ap length c.in_default.ensures))) refl in
     rw (← c.of-text.ensures) (record {
-      answer = ap said c.refuse.ensures.answer ∙ q.0;
+      answer = ap (λ r. refused (number_of r)) c.refuse.ensures.refusal ∙ q.0;
       place = c.refuse.ensures.place ∙ q.1;
-      bytes = c.refuse.ensures.bytes ∙ ap padded q.2;
-      length = c.refuse.ensures.length ∙ ap length q.2;
+      name = sym q.2;
       buffer = q.3;
     })
 
@@ -56,20 +55,19 @@ returns-then-out-n c = let t = c.of-text.result.text.now in
     let y : payload_in (map lower t) ≡ map value_at d = payload_lower t ∙ ap (map value_at) (sym c.payload-payload.ensures) in
     let p = bytes (map value_at d) in
     let v : length p ≡ c.bytes_length-n.result = bytes_length (map value_at d) ∙ ap bytes_size (length-map d value_at) ∙ sym c.bytes_length-n.ensures in
-    let z : tail_number (map lower t) ≡ 0 = sym c.judge_tail.ensures ∙ ap verdict_said c.in-Ok.is in
+    let z : tail_number (map lower t) ≡ 0 = sym c.in_default-judge_tail.ensures in
     let x : parse k t ≡ parsed (name_at k t) p = text_is k t e z ∙ ap (λ vs. parsed (name_at k t) (bytes vs)) y in
     let o = c.args.out.now in
     let q = reads_short k t o (name_at k t) p x (omega arith) in
     rw (← c.of-text.ensures) (record {
-      answer = ap said c.refused.ensures.answer ∙ q.0;
-      place = c.refused.ensures.place ∙ q.1;
-      bytes = c.refused.ensures.bytes ∙ ap padded q.2;
-      length = c.refused.ensures.length ∙ ap length q.2;
+      answer = q.0;
+      place = q.1;
+      name = sym q.2;
       buffer = q.3;
     })
 
-pub returns-else-out-n : goal.returns-else-out-n
-returns-else-out-n c = let t = c.of-text.result.text.now in
+pub returns : goal.returns
+returns c = let t = c.of-text.result.text.now in
     let k = form_of c.args.kind in
     let e = is_head k t c.in-Some.ensures.1 in
     let l = head_long k t e in
@@ -77,7 +75,7 @@ returns-else-out-n c = let t = c.of-text.result.text.now in
     let y : payload_in (map lower t) ≡ map value_at d = payload_lower t ∙ ap (map value_at) (sym c.payload-payload.ensures) in
     let p = bytes (map value_at d) in
     let v : length p ≡ c.bytes_length-n.result = bytes_length (map value_at d) ∙ ap bytes_size (length-map d value_at) ∙ sym c.bytes_length-n.ensures in
-    let z : tail_number (map lower t) ≡ 0 = sym c.judge_tail.ensures ∙ ap verdict_said c.in-Ok.is in
+    let z : tail_number (map lower t) ≡ 0 = sym c.in_default-judge_tail.ensures in
     let x : parse k t ≡ parsed (name_at k t) p = text_is k t e z ∙ ap (λ vs. parsed (name_at k t) (bytes vs)) y in
     let o = c.args.out.now in
     let f : filled (bytes (map (symbol_in c.values-table.result) d)) o ≡ p ++ drop (length p) o =
@@ -86,8 +84,7 @@ returns-else-out-n c = let t = c.of-text.result.text.now in
     rw (← c.of-text.ensures) (record {
       answer = ap accepted (sym v) ∙ q.0;
       place = q.1;
-      bytes = c.in-Some.ensures.0.0 ∙ ap padded q.2;
-      length = c.in-Some.ensures.0.1 ∙ ap length q.2;
+      name = (c.in-Some.ensures.0.0 ∙ ap padded q.2, c.in-Some.ensures.0.1 ∙ ap length q.2);
       buffer = c.decode.ensures ∙ f ∙ q.3;
     })
 
@@ -99,9 +96,8 @@ returns-in-Err c = let t = c.of-text.result.text.now in
     let n : text_number (parse k t) ≡ number_of r = number_is k t e ∙ sym c.judge_tail.ensures ∙ ap verdict_said c.in-Err.is in
     let q = refuses k t c.args.out.now (number_of r) n (number_not_zero r) in
     rw (← c.of-text.ensures) (record {
-      answer = ap said c.refuse-in-Err.ensures.answer ∙ q.0;
+      answer = ap (λ r. refused (number_of r)) c.refuse-in-Err.ensures.refusal ∙ q.0;
       place = c.refuse-in-Err.ensures.place ∙ q.1;
-      bytes = c.refuse-in-Err.ensures.bytes ∙ ap padded q.2;
-      length = c.refuse-in-Err.ensures.length ∙ ap length q.2;
+      name = sym q.2;
       buffer = q.3;
     })
