@@ -1,11 +1,12 @@
 -- Openings: the machine by its name, byte for byte, and the plugin's name (document 01, "Numbers given back": 18, "neither machine's name", then 17).
-use Rattle.std.specs.Prelude.{ℕ, ◌≡◌, Bool, true, false, List, [], ◌∷◌, ◌⊎◌, ◌↔◌, length, take, Option, Some, None}
+use Rattle.std.specs.Prelude.{ℕ, ◌≡◌, Bool, true, false, List, [], ◌∷◌, ◌⊎◌, ◌↔◌, length, take, Option, Some, None, Result, Ok, Err}
+use Rattle.refusal.specs.Number.{number_of}
 use Rattle.refusal.specs.Pick.{pick}
 use Rattle.refusal.specs.Same.{same}
 use Rattle.bech32.specs.Calls.{padded}
 use Rattle.bech32.specs.Text.{is_name}
 use Rattle.bech32.specs.declared.human.Name.{Name}
-use Rattle.refusal.specs.Verdict.{verdict_said}
+use Rattle.refusal.specs.declared.Refusal.{Refusal}
 use Rattle.session.specs.declared.opening.Settings.{Settings as CodeSettings}
 use Rattle.session.specs.declared.opening.Machine.{Machine}
 use Rattle.session.specs.declared.opening.Machine.TheVariants.{RecipientV1, IdentityV1}
@@ -55,13 +56,14 @@ pub record Settings : Type 0 where
   pub machine : Machine
   pub name : List ℕ
 
--- what the code's answer stands for
-abbrev pub settings_said : CodeSettings → Settings
-settings_said s = record { number = verdict_said s.verdict; machine = s.machine; name = name_of s.name }
-
 -- a refused opening names nothing
 abbrev pub refused_settings : ℕ → Settings
 refused_settings n = record { number = n; machine = RecipientV1; name = [] }
+
+-- what the code's answer stands for
+abbrev pub settings_said : Result CodeSettings Refusal → Settings
+settings_said (Ok s) = record { number = 0; machine = s.machine; name = name_of s.name }
+settings_said (Err r) = refused_settings (number_of r)
 
 -- No. 17: the name is none in lower case
 abbrev pub settings_named : Machine → List ℕ → Settings

@@ -1,8 +1,8 @@
 // The machines, and what an opening is given: a machine and a plugin by their names, and whether there is a screen.
-ghost use Rattle.std.specs.Prelude.{◌≡◌};
-ghost use Rattle.session.specs.Opening.{is_shown, machine_named, named_said, held, settings_said, settings_named, settings};
+ghost use Rattle.std.specs.Prelude.{◌≡◌, [], IfOk};
+ghost use Rattle.session.specs.Opening.{is_shown, machine_named, named_said, held, settings_said, settings};
 
-use bech32::Name;
+use bech32::{LONGEST_NAME, Name};
 use refusal::Refusal;
 
 const RECIPIENT_V1: &[u8] = b"recipient-v1";
@@ -41,46 +41,34 @@ fn machine_named(name: &[u8]) -> Option<Machine>
     None
 }
 
-// What an opening is given, judged: accepted with the machine and the plugin's name, or 18 or 17 with no name.
+// What an opening is given: the machine and the plugin's name.
 #[derive(Clone, Copy)]
 pub(crate) struct Settings {
-    pub verdict: Result<(), Refusal>,
     pub machine: Machine,
     pub name: Name,
 }
 
-// 18, then 17.
-pub(crate) fn read_settings(machine: &[u8], name: &[u8]) -> Settings
-    ensures settings { settings_said result ≡ settings machine.now name.now }
-    ensures name { result.name ≡ held (settings machine.now name.now).name }
-{
-    let named = machine_named(machine);
-    match named {
-        Some(m) => read_name(m, name),
-        None => Settings {
-            verdict: Err(Refusal::NoSuchMachine),
+impl Settings {
+    // Those of a refused opening, which names nothing.
+    pub(crate) fn refused() -> Settings
+        ensures { result ≡ record { machine = Machine.RecipientV1; name = held [] } }
+    {
+        Settings {
             machine: Machine::RecipientV1,
-            name: bech32::name_of(b""),
-        },
+            name: Name {
+                bytes: [0; LONGEST_NAME],
+                length: 0,
+            },
+        }
     }
 }
 
-// The plugin's name for a machine.
-fn read_name(machine: Machine, text: &[u8]) -> Settings
-    ensures settings { settings_said result ≡ settings_named machine text.now }
-    ensures name { result.name ≡ held (settings_named machine text.now).name }
+// 18, then 17.
+pub(crate) fn read_settings(machine: &[u8], name: &[u8]) -> Result<Settings, Refusal>
+    ensures settings { settings_said result ≡ settings machine.now name.now }
+    ensures name { IfOk result (λ s. s.name ≡ held (settings machine.now name.now).name) }
 {
-    let name = bech32::name_of(text);
-    if name.length == 0 {
-        return Settings {
-            verdict: Err(Refusal::Unwritable),
-            machine: Machine::RecipientV1,
-            name: name,
-        };
-    }
-    Settings {
-        verdict: Ok(()),
-        machine: machine,
-        name: name,
-    }
+    let machine = machine_named(machine).ok_or(Refusal::NoSuchMachine)?;
+    let name = bech32::name_of(name).ok_or(Refusal::Unwritable)?;
+    Ok(Settings { machine, name })
 }

@@ -2,7 +2,7 @@
 ghost use Rattle.std.specs.Prelude.{◌≡◌};
 ghost use Rattle.refusal.specs.Number.{number_of};
 ghost use Rattle.refusal.specs.Verdict.{verdict_said};
-ghost use Rattle.session.specs.Phases.{closes, phase_refused, phase_opened};
+ghost use Rattle.session.specs.Phases.{closes, phase_refused};
 
 use crate::words::WordTwo;
 use refusal::Refusal;
@@ -37,14 +37,4 @@ pub fn phase_refused(phase: Phase, refusal: Refusal) -> Phase
         return Phase::Closed;
     }
     phase
-}
-
-// The phase behind an opening.
-pub(crate) fn phase_opened(verdict: Result<(), Refusal>) -> Phase
-    ensures { result ≡ phase_opened (verdict_said verdict) }
-{
-    match verdict {
-        Ok(()) => Phase::One,
-        Err(_) => Phase::Closed,
-    }
 }

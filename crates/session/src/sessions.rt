@@ -1,11 +1,12 @@
 // The session that an end keeps between calls, and its opening. It goes by value: payloads and entries lie in buffers and slots that each call is lent.
 ghost use Rattle.std.specs.Prelude.{◌≡◌, false};
-ghost use Rattle.session.specs.Opening.{held, is_shown};
-ghost use Rattle.session.specs.Session.{opened, opened_untold, opening_said, carried_by, carried_first};
+ghost use Rattle.session.specs.Opening.{held, is_shown, name_of};
+ghost use Rattle.session.specs.Tables.{opened_slots, opened_header_slots, opened_tables};
+ghost use Rattle.session.specs.Session.{session_of, opened, opened_untold, opening_said, carried_by, carried_first};
 
 use crate::kinds::{Tables, open_tables};
-use crate::opening::{Machine, Screen, is_shown, read_settings};
-use crate::phases::{Phase, phase_opened};
+use crate::opening::{Machine, Screen, Settings, is_shown, read_settings};
+use crate::phases::Phase;
 use bech32::Name;
 use refusal::Refusal;
 use stanza::Place;
@@ -76,25 +77,38 @@ impl Session {
         ensures opening { opening_said result ≡ opened machine.now name.now (is_shown screen) }
         ensures carried { carried_by result.session ≡ carried_first (held (opened machine.now name.now (is_shown screen)).session.name) }
     {
-        let shown = is_shown(screen);
-        let given = read_settings(machine, name);
-        let verdict = given.verdict;
-        let phase = phase_opened(verdict);
-        let machine = given.machine;
-        let name = given.name;
-        let tables = open_tables();
-        Opening {
-            verdict: verdict,
-            session: Session {
-                machine: machine,
-                phase: phase,
-                screen: shown,
-                name: name,
-                tables: tables,
-                reading: Place::Start,
-                kept: 0,
-                awaited: 0,
+        match read_settings(machine, name) {
+            Ok(settings) => Opening {
+                verdict: Ok(()),
+                session: Session::of(settings, screen, Phase::One),
             },
+            Err(r) => Opening {
+                verdict: Err(r),
+                session: Session::of(Settings::refused(), screen, Phase::Closed),
+            },
+        }
+    }
+
+    // A session just opened: its tables are empty, and nothing is kept.
+    fn of(settings: Settings, screen: Screen, phase: Phase) -> Session
+        ensures session { session_of result opened_slots opened_header_slots ≡ record {
+          machine = settings.machine;
+          name = name_of settings.name;
+          screen = is_shown screen;
+          phase = phase;
+          tables = opened_tables;
+        } }
+        ensures carried { carried_by result ≡ carried_first settings.name }
+    {
+        Session {
+            machine: settings.machine,
+            phase: phase,
+            screen: is_shown(screen),
+            name: settings.name,
+            tables: open_tables(),
+            reading: Place::Start,
+            kept: 0,
+            awaited: 0,
         }
     }
 

@@ -1,24 +1,25 @@
 -- Openings: a plugin's name by value, by the tests of the code; and exactly when an opening is refused.
 use Prim.Native.Nat.{ℕ, ◌≤◌}
-use mathlib.Core.Path.{◌≡◌, refl, sym, ap, ap₂, ◌∙◌}
+use mathlib.Core.Path.{◌≡◌, refl, sym, ap, ◌∙◌}
 use mathlib.Core.Bool.{Bool, true, false, ◌&&◌, false≢true}
 use mathlib.Core.Logic.{◌⊎◌, inl, inr, ⊎_elim}
 use mathlib.Core.List.{List, []}
 use lib.Dec.{leb, eqb}
-use lib.ListN.{length, take, replicate}
-use lib.Seq.{take-append_seam}
+use lib.ListN.{length}
 use native.Mathlib.Omega.{arith}
 use borrow.Author.Tests.{leb-true}
-use Prim.Native.Nat.{◌-◌}
-use Rattle.refusal.specs.Pick.{pick}
 use Rattle.refusal.specs.Run.{all}
 use Rattle.refusal.specs.Same.{same}
 use Rattle.refusal.proofs.Laws.Booleans.{cases, and_true}
 use Rattle.refusal.proofs.Laws.Same.{same_refl, same_eq}
-use Rattle.bech32.specs.Calls.{padded, given_name}
+use Rattle.refusal.specs.declared.Refusal.{Refusal}
+use Rattle.refusal.specs.declared.Refusal.TheVariants.{NoSuchMachine, Unwritable}
+use Rattle.std.specs.Option.{ok_or}
+use Rattle.std.specs.Prelude.{Option, Some, None, Ok, Err}
+use Rattle.bech32.specs.Calls.{IsGiven, given_name}
 use Rattle.bech32.specs.Text.{is_name, is_name_byte}
 use Rattle.bech32.specs.declared.human.Name.{Name}
-use Rattle.session.specs.Opening.{held, recipient_v1, identity_v1, named, nameless, machine_named, settings_of, settings_named, refused_settings, settings, IsMachine, OpenedWith}
+use Rattle.session.specs.Opening.{recipient_v1, identity_v1, named, nameless, named_said, machine_named, settings_of, settings_named, settings, IsMachine, OpenedWith}
 use Rattle.session.specs.Phases.{is_due}
 use Rattle.session.specs.Session.{opened, opened_untold}
 use Rattle.session.specs.declared.opening.Machine.{Machine}
@@ -31,41 +32,15 @@ name_some t h =
     let a = and_true (leb 1 (length t) && leb (length t) 32) (all is_name_byte t) h in
     leb-true 1 (length t) (and_true (leb 1 (length t)) (leb (length t) 32) a.0).0
 
-module _ (machine : Machine) (t bytes : List ℕ) (n : ℕ) (p : bytes ≡ padded (given_name t)) (q : n ≡ length (given_name t)) where
-  given : take n bytes ≡ given_name t
-  given = rw (p, q) (take-append_seam (given_name t) (replicate (32 - length (given_name t)) 0))
+-- the machine that is found
+pub machine_of : (o : Option Machine) (m : Machine) → ok_or o NoSuchMachine ≡ Ok m → named_said o ≡ named m
+machine_of None m q = let z : ◌≡◌ {A = ℕ} 0 1 = cc in absurd (omega arith)
+machine_of (Some n) m q = cc
 
-  -- the name is empty where the text is none
-  pub name_refused : n ≡ 0 → record { number = 17; machine = RecipientV1; name = take n bytes } ≡ settings_named machine t
-  name_refused z =
-      cases (is_name t)
-      (λ e. let l : n ≡ length t = q ∙ ap (λ f. length (pick f t [])) e in absurd (omega (arith, name_some t e)))
-      (λ e. let g : take n bytes ≡ [] = given ∙ ap (λ f. pick f t []) e in rw (e, g))
-
-  pub name_accepted : (n ≡ 0 → ⊥) → record { number = 0; machine = machine; name = take n bytes } ≡ settings_named machine t
-  name_accepted z =
-      cases (is_name t)
-      (λ e. let g : take n bytes ≡ t = given ∙ ap (λ f. pick f t []) e in rw (e, g))
-      (λ e. let l : n ≡ 0 = q ∙ ap (λ f. length (pick f t [])) e in absurd (z l))
-
--- the value that holds a name, by its parts
-pub held_is : (n : Name) (t : List ℕ) → n.bytes ≡ padded t → n.length ≡ length t → n ≡ held t
-held_is n t p q = ap₂ (λ b l. record { bytes = b; length = l }) p q
-
--- the name that is given is that of the settings
-pub given_named : (machine : Machine) (t : List ℕ) → given_name t ≡ (settings_named machine t).name
-given_named machine t = cases (is_name t) (λ e. rw e) (λ e. rw e)
-
--- no name where no machine is named
-none_given : given_name [] ≡ []
-none_given = cases (is_name []) (λ f. rw f) (λ f. rw f)
-
-pub nameless_held : (n : Name) → n.bytes ≡ padded (given_name []) → n.length ≡ length (given_name []) → n ≡ held []
-nameless_held n p q = held_is n (given_name []) p q ∙ ap held none_given
-
-pub nameless_refused : (bytes : List ℕ) (n : ℕ) → bytes ≡ padded (given_name []) → n ≡ length (given_name []) → record { number = 18; machine = RecipientV1; name = take n bytes } ≡ refused_settings 18
-nameless_refused bytes n p q =
-    ap (λ x. record { number = 18; machine = RecipientV1; name = x }) (given RecipientV1 [] bytes n p q ∙ none_given)
+-- no name is given where the text is none
+pub unnamed : (o : Option Name) (t : List ℕ) (e : Refusal) → IsGiven o (given_name t) → ok_or o Unwritable ≡ Err e → (is_name t ≡ false) × (e ≡ Unwritable)
+unnamed None t e h q = (cases (is_name t) (λ f. let z : t ≡ [] = rw f at h in absurd (omega (arith, name_some t f, ap length z))) (λ f. f), cc)
+unnamed (Some v) t e h q = let z : ◌≡◌ {A = ℕ} 0 1 = cc in absurd (omega arith)
 
 -- ---- when an opening is refused
 
