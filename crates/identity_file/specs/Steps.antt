@@ -1,5 +1,6 @@
 -- What the private functions work out, and what they ask of what they are lent. Nobody has to believe this: `read` shows that it comes to what Files says.
 use Rattle.std.specs.Prelude.{ℕ, ◌+◌, ◌-◌, ◌<◌, ◌≤◌, List, [], ◌∷◌, map, ltb, length, take, drop, get_or, set, replicate}
+use Rattle.refusal.specs.Number.{number_of}
 use Rattle.refusal.specs.Pick.{pick}
 use Rattle.refusal.specs.Run.{run}
 use Rattle.identity_file.specs.Lines.{is_line_byte}
@@ -22,7 +23,7 @@ next_line t e = pick (ltb e (length t)) (e + 1) (length t)
 abbrev pub kind_said : LineKind → Kind
 kind_said the.Skipped = skipped
 kind_said the.SecretKey = secret_key
-kind_said (the.Invalid n) = invalid n
+kind_said (the.Invalid r) = invalid (number_of r)
 kind_said the.Valid = valid
 
 -- ---- all lines

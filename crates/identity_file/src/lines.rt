@@ -33,12 +33,12 @@ pub(crate) fn next_line(text: &[u8], end: usize) -> usize
     n
 }
 
-// What a line is: skipped, a secret key, invalid with the refusal's number, as `bech32::judge` gives it and `read` lists it, or valid.
+// What a line is: skipped, a secret key, invalid with its refusal, or valid.
 #[derive(Clone, Copy)]
 pub(crate) enum LineKind {
     Skipped,
     SecretKey,
-    Invalid(u8),
+    Invalid(Refusal),
     Valid,
 }
 
@@ -62,7 +62,7 @@ pub(crate) fn judge_line(line: &[u8]) -> LineKind
     ensures { kind_said result ≡ kind_of line.now }
 {
     if LONGEST < line.len() {
-        return LineKind::Invalid(refusal::number(Refusal::Malformed));
+        return LineKind::Invalid(Refusal::Malformed);
     }
     if is_skipped(line) {
         return LineKind::Skipped;
@@ -71,7 +71,7 @@ pub(crate) fn judge_line(line: &[u8]) -> LineKind
         return LineKind::SecretKey;
     }
     match bech32::judge(TextKind::Identity, line) {
-        0 => LineKind::Valid,
-        number => LineKind::Invalid(number),
+        Ok(()) => LineKind::Valid,
+        Err(r) => LineKind::Invalid(r),
     }
 }

@@ -52,8 +52,9 @@ impl Tally {
         match kind {
             LineKind::Skipped => {}
             LineKind::SecretKey => self.keys += 1,
-            LineKind::Invalid(n) => {
-                put_pair(&mut self.faults, self.invalid, [usize::from(n), number]);
+            LineKind::Invalid(r) => {
+                let fault = [usize::from(refusal::number(r)), number];
+                put_pair(&mut self.faults, self.invalid, fault);
                 self.invalid += 1;
             }
             LineKind::Valid => {
