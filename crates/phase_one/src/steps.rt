@@ -29,11 +29,11 @@ pub fn wide(index: u32) -> usize
     index as usize
 }
 
-// A recipient's or an identity's mark.
+// A recipient's or an identity's mark, as a slot keeps it.
 fn text_mark(kind: TextKind, text: &[u8], plugin: &[u8]) -> usize
     ensures { result ≡ mark_of (parse (form_of kind) text.now) plugin.now }
 {
-    usize::from(bech32::mark(kind, text, plugin))
+    usize::from(refusal::verdict_number(bech32::mark(kind, text, plugin)))
 }
 
 // A header stanza's mark, by its tag and arguments and how many bytes its body has.
