@@ -179,19 +179,20 @@ fn read_text(
     ensures length { length.new ≡ length_or length.old (read_answer (parse (form_of kind) text.now) out.old) }
     ensures place { place.new ≡ read_place (parse (form_of kind) text.now) }
 {
-    let reading = bech32::read(kind, text, out);
-    *place = reading.place;
-    let answer = reading.answer;
-    match answer {
-        Ok(size) => {
+    match bech32::read(kind, text, out) {
+        Ok(reading) => {
             let found = reading.name;
             let bytes = found.bytes;
             *name = bytes;
             *named = found.length;
-            *length = size;
+            *length = reading.length;
+            *place = 0;
             ACCEPTED
         }
-        Err(r) => refusal::number(r),
+        Err(fault) => {
+            *place = fault.place.unwrap_or(0);
+            refusal::number(fault.refusal)
+        }
     }
 }
 
