@@ -228,6 +228,7 @@ pub fn read(kind: TextKind, text: &[u8], out: &mut [u8]) -> Result<ReadText, Rea
         return Err(text.refuse(Refusal::Malformed));
     };
     let table = values();
+    // Not `map_err(|r| text.refuse(r))?`: tried, and the proof didn't close, since nothing of `refuse` comes with the closure.
     if let Err(r) = text.judge_tail(&table) {
         return Err(text.refuse(r));
     }
