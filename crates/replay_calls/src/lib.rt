@@ -3,10 +3,9 @@
 
 mod identity_files;
 
-use bech32::TextKind;
+use bech32::{ReadFault, TextKind};
 use identity_files::call_identity_file;
 use profile::Conformity;
-use refusal::Refusal;
 use replay_answers::{Answer, Output};
 use replay_lines::{Failure, Words, front, front_mut};
 use script::Call;
@@ -124,20 +123,24 @@ fn call_read<'a>(
     out: &mut Output,
 ) -> Result<Answer<'a>, Failure> {
     words.check_count(3)?;
-    let reading = bech32::read(kind, words.get(1), buffer);
-    match reading.answer {
-        Ok(n) => {
+    match bech32::read(kind, words.get(1), buffer) {
+        Ok(reading) => {
             out.print(b"ok ");
             out.print(front(&reading.name.bytes, reading.name.length));
-            out.print_word(b"", front(buffer, n));
+            out.print_word(b"", front(buffer, reading.length));
             Ok(Answer::Printed)
         }
-        Err(Refusal::Malformed) => {
-            let number = refusal::number(Refusal::Malformed) as usize;
-            out.print_numbers(b"refused", &[number, reading.place]);
+        Err(
+            ReadFault {
+                refusal: r,
+                place: Some(place),
+            },
+        ) => {
+            let number = refusal::number(r) as usize;
+            out.print_numbers(b"refused", &[number, place]);
             Ok(Answer::Printed)
         }
-        Err(r) => Err(Failure::Refused(r)),
+        Err(fault) => Err(Failure::Refused(fault.refusal)),
     }
 }
 
