@@ -3,7 +3,7 @@
 
 mod identity_files;
 
-use bech32::{ReadFault, TextKind};
+use bech32::TextKind;
 use identity_files::call_identity_file;
 use profile::Conformity;
 use replay_answers::{Answer, Output};
@@ -130,17 +130,14 @@ fn call_read<'a>(
             out.print_word(b"", front(buffer, reading.length));
             Ok(Answer::Printed)
         }
-        Err(
-            ReadFault {
-                refusal: r,
-                place: Some(place),
-            },
-        ) => {
-            let number = refusal::number(r) as usize;
+        Err(fault) => {
+            let Some(place) = fault.place else {
+                return Err(Failure::Refused(fault.refusal));
+            };
+            let number = refusal::number(fault.refusal) as usize;
             out.print_numbers(b"refused", &[number, place]);
             Ok(Answer::Printed)
         }
-        Err(fault) => Err(Failure::Refused(fault.refusal)),
     }
 }
 
