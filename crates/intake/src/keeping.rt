@@ -11,7 +11,7 @@ ghost use Rattle.intake.specs.Turns.{turn_said};
 ghost use Rattle.intake.specs.Settling.{MaySettle, Says};
 ghost use Rattle.intake.specs.Fronts.{is_between, is_reading, front_of, front_in, input_behind, WithinSays, OneByteSays, Answered};
 
-use crate::answers::{Last, Received};
+use crate::answers::Received;
 use crate::turns::Turn;
 use refusal::Refusal;
 use session::{Phase, Session};
@@ -195,7 +195,7 @@ pub fn keep_on(session: Session, place: Place, chunk: &[u8]) -> Received
     Received {
         verdict: Ok(()),
         count: 0,
-        last: Last::Nothing,
+        last: None,
         written: 0,
         session: session.keeping(place, kept + came, 0),
     }
