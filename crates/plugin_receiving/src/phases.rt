@@ -81,13 +81,13 @@ pub fn receive(
     }
     let front = intake::read_front(turn, reading, session.kept, chunk, input);
     match front {
-        Continued::Unfinished(place) => {
+        Ok(Continued::Unfinished(place)) => {
             return intake::keep_on(session, place, chunk);
         }
-        Continued::Refused(r) => {
+        Err(r) => {
             return intake::close(session, r);
         }
-        Continued::Whole(k) => match phase {
+        Ok(Continued::Whole(k)) => match phase {
             Phase::One => receive_commands(
                 session,
                 chunk,
