@@ -61,16 +61,7 @@ pub(crate) fn receive_stanza(
     let size = phase_two::at_once_size(at_once);
     let late = session::check_output(size, out.len());
     let step = phase_two::step_two(
-        ruled,
-        late,
-        tables,
-        command,
-        line,
-        body,
-        slots,
-        errors,
-        stanzas,
-        returned,
+        ruled, late, tables, command, line, body, slots, errors, stanzas, returned,
     );
     let verdict = step.verdict;
     let after = step.tables;

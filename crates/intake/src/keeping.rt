@@ -145,7 +145,12 @@ fn is_reading(turn: Turn) -> bool
 }
 
 // A chunk read on behind `at` bytes of an unfinished stanza, and kept behind them where it does not end it.
-fn read_more(reading: Place, at: usize, chunk: &[u8], input: &mut [u8]) -> Result<Continued, Refusal>
+fn read_more(
+    reading: Place,
+    at: usize,
+    chunk: &[u8],
+    input: &mut [u8],
+) -> Result<Continued, Refusal>
     ensures front { continued_said result ≡ continued (place_said reading) at chunk.now }
     ensures input { input.new ≡ input_behind (continued_said result) at chunk.now input.old }
 {

@@ -263,17 +263,7 @@ pub fn step_one(
         }
         Ok(CommandOne::Header(index)) => {
             let t = tables.headers;
-            let stored = keep_header(
-                t,
-                plugin,
-                late,
-                line,
-                body,
-                n,
-                index,
-                header_slots,
-                headers,
-            );
+            let stored = keep_header(t, plugin, late, line, body, n, index, header_slots, headers);
             stepped(command, tables, Kind::Headers, stored)
         }
         Ok(CommandOne::Done) => StepOne {

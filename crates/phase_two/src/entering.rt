@@ -17,11 +17,7 @@ use session::{Kind, Mark, Tables, span_of};
 use tables::{Body, body_size};
 
 // How many bytes a command's payload has, by its arguments' text and its body: both are slices, so the sum fits.
-pub fn payload_size(
-    command: Result<CommandTwo, Refusal>,
-    line: &[u8],
-    body: Body<'_>,
-) -> usize
+pub fn payload_size(command: Result<CommandTwo, Refusal>, line: &[u8], body: Body<'_>) -> usize
     ensures { result ≡ length (payload_of (command_said command) line.now (body_from body.entry)) }
 {
     match command {

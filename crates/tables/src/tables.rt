@@ -230,16 +230,7 @@ impl Table {
             (kept (table_in span self slots.old) (line.now ++ 10 ∷ body_from body.entry) buffer.old)
             buffer.old }
     {
-        self.keep(
-            span,
-            late,
-            Some(line),
-            body,
-            index,
-            mark,
-            slots,
-            buffer,
-        )
+        self.keep(span, late, Some(line), body, index, mark, slots, buffer)
     }
 }
 
