@@ -144,13 +144,13 @@ pub fn receive(
     }
     let front = intake::read_front(Turn::Reads, reading, session.kept, chunk, input);
     match front {
-        Continued::Unfinished(place) => {
+        Ok(Continued::Unfinished(place)) => {
             return intake::keep_on(session, place, chunk);
         }
-        Continued::Refused(r) => {
+        Err(r) => {
             return intake::close(session, r);
         }
-        Continued::Whole(k) => {
+        Ok(Continued::Whole(k)) => {
             let room = out.len();
             if !client_room::has_room(
                 session,

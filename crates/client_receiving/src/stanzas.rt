@@ -15,7 +15,7 @@ use refusal::Refusal;
 use responses::Response;
 use session::Session;
 use stanza::Stanza;
-use tables::Coding;
+use tables::Body;
 
 // Writes what is answered at once to a command that was accepted.
 fn write_answer(verdict: Result<(), Refusal>, answer: Option<Response>, out: &mut [u8])
@@ -53,25 +53,15 @@ pub(crate) fn receive_stanza(
     let screen = session.screen;
     let tables = session.tables;
     let line = stanza::arguments_of(text, s);
-    let source = stanza::lines_of(text, s);
-    let n = tables::body_size(Coding::Lines, source);
+    let body = Body::Lines(stanza::lines_of(text, s));
+    let n = tables::body_size(body);
     let command = phase_two_commands::parse_two(machine, line, n);
     let ruled = phase_two_decision::rule_two(false, tables, command, slots, header_slots);
     let at_once = phase_two::answer_at_once(screen, command);
     let size = phase_two::at_once_size(at_once);
     let late = session::check_output(size, out.len());
     let step = phase_two::step_two(
-        ruled,
-        late,
-        tables,
-        command,
-        line,
-        Coding::Lines,
-        source,
-        slots,
-        errors,
-        stanzas,
-        returned,
+        ruled, late, tables, command, line, body, slots, errors, stanzas, returned,
     );
     let verdict = step.verdict;
     let after = step.tables;

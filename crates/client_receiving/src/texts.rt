@@ -1,5 +1,5 @@
 // A text of phase two received, stanza after stanza from the left. All that is written for it has room.
-ghost use Rattle.std.specs.Prelude.{◌≡◌, Ok, Err, true, [], ◌+◌, ◌≤◌, length};
+ghost use Rattle.std.specs.Prelude.{◌≡◌, Some, Ok, Err, true, [], ◌+◌, ◌≤◌, length};
 ghost use Rattle.session.specs.Session.{session_of};
 ghost use Rattle.session.specs.declared.phases.Phase.TheVariants.{Two};
 ghost use Rattle.phase_one.specs.PhaseOne.{BuffersOne};
@@ -21,7 +21,7 @@ fn go_on(so_far: Received, word: WordTwo, size: usize, session: Session) -> Rece
     ensures { result ≡ record {
       verdict = Ok tt;
       count = so_far.count + 1;
-      last = Last.CommandTwo word;
+      last = Some (Last.CommandTwo word);
       written = so_far.written + size;
       session = session;
     } }
@@ -29,7 +29,7 @@ fn go_on(so_far: Received, word: WordTwo, size: usize, session: Session) -> Rece
     Received {
         verdict: Ok(()),
         count: so_far.count + 1,
-        last: Last::CommandTwo(word),
+        last: Some(Last::CommandTwo(word)),
         written: so_far.written + size,
         session: session,
     }

@@ -14,7 +14,7 @@ use phase_two_commands::CommandTwo;
 use refusal::Refusal;
 use session::{Outcome, Phase, Session, WordTwo};
 use stanza::Stanza;
-use tables::Coding;
+use tables::Body;
 
 // Which command was received, how many bytes of the text it took and how many were written.
 #[derive(Clone, Copy)]
@@ -77,13 +77,13 @@ pub(crate) fn try_stanza(
     let screen = session.screen;
     let tables = session.tables;
     let line = stanza::arguments_of(text, s);
-    let source = stanza::lines_of(text, s);
-    let n = tables::body_size(Coding::Lines, source);
+    let body = Body::Lines(stanza::lines_of(text, s));
+    let n = tables::body_size(body);
     let command = phase_two_commands::parse_two(machine, line, n);
     let ruled = phase_two_decision::rule_two(false, tables, command, slots, header_slots);
     let at_once = phase_two::answer_at_once(screen, command);
     let size = phase_two::at_once_size(at_once);
-    let payload = phase_two::payload_size(command, line, Coding::Lines, source);
+    let payload = phase_two::payload_size(command, line, body);
     let step = phase_two::enter_two(
         ruled,
         Ok(()),

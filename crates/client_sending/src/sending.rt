@@ -10,7 +10,7 @@ ghost use Rattle.client_sending.specs.Sending.{sent_said};
 use phase_one::{WordOne, put_line, step_one};
 use refusal::Refusal;
 use session::{SHORT_ARGUMENTS, SHORT_LINE, Sent, Session, front};
-use tables::Coding;
+use tables::Body;
 
 // A command put together in a store, which is long enough for every line that can be written.
 fn send_in(
@@ -58,8 +58,7 @@ fn send_in(
                 session.tables,
                 late,
                 line,
-                Coding::Bytes,
-                body,
+                Body::Bytes(body),
                 slots,
                 header_slots,
                 recipients,

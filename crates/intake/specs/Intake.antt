@@ -1,5 +1,5 @@
 -- What an end keeps, by the code's session and the lent bytes of its input; and what the code's answer to a chunk or a reply stands for.
-use Rattle.std.specs.Prelude.{ℕ, min, List, ◌++◌, take, drop}
+use Rattle.std.specs.Prelude.{ℕ, min, List, ◌++◌, take, drop, Option, Some, None}
 use Rattle.refusal.specs.Output.{filled}
 use Rattle.refusal.specs.Pick.{pick}
 use Rattle.refusal.specs.Verdict.{verdict_said}
@@ -43,11 +43,11 @@ stored_in i input = filled (i.awaited ++ i.kept) input
 -- ---- what is answered
 
 -- the last stanza, by its text
-abbrev pub last_said : CodeLast → Last
-last_said the.Nothing = no_stanza
-last_said (the.CommandOne w) = command (one.text_of_word (one.word_said w))
-last_said (the.CommandTwo w) = command (two.text_of_word w)
-last_said (the.Response r) = response (response_line r)
+abbrev pub last_said : Option CodeLast → Last
+last_said None = no_stanza
+last_said (Some (the.CommandOne w)) = command (one.text_of_word (one.word_said w))
+last_said (Some (the.CommandTwo w)) = command (two.text_of_word w)
+last_said (Some (the.Response r)) = response (response_line r)
 
 -- an answer, with the slots, the input, the buffers and the output buffer afterwards
 abbrev pub received_said : End → CodeReceived → List (List ℕ) → List (List ℕ) → List ℕ → Buffers → List ℕ → Outcome

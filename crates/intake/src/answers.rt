@@ -1,5 +1,5 @@
 // What a call that receives answers.
-ghost use Rattle.std.specs.Prelude.{◌≡◌, Ok, Err, List, ℕ, ◌≤◌, min, length};
+ghost use Rattle.std.specs.Prelude.{◌≡◌, None, Ok, Err, List, ℕ, ◌≤◌, min, length};
 ghost use Rattle.refusal.specs.Number.{number_of};
 ghost use Rattle.stanza.specs.Resuming.{refused};
 ghost use Rattle.conversation.specs.Kinds.{Buffers};
@@ -14,21 +14,20 @@ use responses::Response;
 use session::{Phase, Session, WordTwo};
 use stanza::Place;
 
-// The last stanza that was taken: a command of either phase, a response, or none.
+// A stanza that was taken: a command of either phase, or a response.
 #[derive(Clone, Copy)]
 pub enum Last {
-    Nothing,
     CommandOne(WordOne),
     CommandTwo(WordTwo),
     Response(Response),
 }
 
-// Accepted or refused; how many stanzas were taken all the same, which was the last, and how many bytes were written; and the session.
+// Accepted or refused; how many stanzas were taken all the same, which was the last, if any, and how many bytes were written; and the session.
 #[derive(Clone, Copy)]
 pub struct Received {
     pub verdict: Result<(), Refusal>,
     pub count: usize,
-    pub last: Last,
+    pub last: Option<Last>,
     pub written: usize,
     pub session: Session,
 }
@@ -54,12 +53,12 @@ impl Received {
 
 // Nothing taken yet.
 pub fn begin(session: Session, written: usize) -> Received
-    ensures { result ≡ record { verdict = Ok tt; count = 0; last = Last.Nothing; written = written; session = session } }
+    ensures { result ≡ record { verdict = Ok tt; count = 0; last = None; written = written; session = session } }
 {
     Received {
         verdict: Ok(()),
         count: 0,
-        last: Last::Nothing,
+        last: None,
         written: written,
         session: session,
     }
@@ -96,7 +95,7 @@ pub fn leave(session: Session, refusal: Refusal) -> Received
     Received {
         verdict: Err(refusal),
         count: 0,
-        last: Last::Nothing,
+        last: None,
         written: 0,
         session: session,
     }
@@ -113,7 +112,7 @@ pub fn close(session: Session, refusal: Refusal) -> Received
     Received {
         verdict: Err(refusal),
         count: 0,
-        last: Last::Nothing,
+        last: None,
         written: 0,
         session: shut.keeping(Place::Start, 0, 0),
     }

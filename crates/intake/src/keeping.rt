@@ -11,7 +11,7 @@ ghost use Rattle.intake.specs.Turns.{turn_said};
 ghost use Rattle.intake.specs.Settling.{MaySettle, Says};
 ghost use Rattle.intake.specs.Fronts.{is_between, is_reading, front_of, front_in, input_behind, WithinSays, OneByteSays, Answered};
 
-use crate::answers::{Last, Received};
+use crate::answers::Received;
 use crate::turns::Turn;
 use refusal::Refusal;
 use session::{Phase, Session};
@@ -145,17 +145,22 @@ fn is_reading(turn: Turn) -> bool
 }
 
 // A chunk read on behind `at` bytes of an unfinished stanza, and kept behind them where it does not end it.
-fn read_more(reading: Place, at: usize, chunk: &[u8], input: &mut [u8]) -> Continued
+fn read_more(
+    reading: Place,
+    at: usize,
+    chunk: &[u8],
+    input: &mut [u8],
+) -> Result<Continued, Refusal>
     ensures front { continued_said result ≡ continued (place_said reading) at chunk.now }
     ensures input { input.new ≡ input_behind (continued_said result) at chunk.now input.old }
 {
     let continued = stanza::read_on(reading, at, chunk);
     match continued {
-        Continued::Whole(_) => {}
-        Continued::Unfinished(_) => {
+        Ok(Continued::Whole(_)) => {}
+        Ok(Continued::Unfinished(_)) => {
             copy_behind(chunk, at, input);
         }
-        Continued::Refused(_) => {}
+        Err(_) => {}
     }
     continued
 }
@@ -168,16 +173,16 @@ pub fn read_front(
     kept: usize,
     chunk: &[u8],
     input: &mut [u8],
-) -> Continued
+) -> Result<Continued, Refusal>
     ensures front { continued_said result ≡ front_in (turn_said turn) reading (min kept 8191) chunk.now }
     ensures input { input.new ≡ input_behind (continued_said result) (min kept 8191) chunk.now input.old }
 {
     if !is_reading(turn) {
-        return Continued::Whole(0);
+        return Ok(Continued::Whole(0));
     }
     let at = kept_of(kept);
     if is_between(reading, at) {
-        return Continued::Whole(0);
+        return Ok(Continued::Whole(0));
     }
     read_more(reading, at, chunk, input)
 }
@@ -195,7 +200,7 @@ pub fn keep_on(session: Session, place: Place, chunk: &[u8]) -> Received
     Received {
         verdict: Ok(()),
         count: 0,
-        last: Last::Nothing,
+        last: None,
         written: 0,
         session: session.keeping(place, kept + came, 0),
     }
@@ -236,11 +241,11 @@ fn settle_read(so_far: Received, rest: &[u8], input: &mut [u8]) -> Received
     }
     let continued = read_more(Place::Start, 0, rest, input);
     match continued {
-        Continued::Whole(_) => { so_far.settled(Ok(()), session.keeping(Place::Start, 0, 0)) }
-        Continued::Unfinished(place) => {
+        Ok(Continued::Whole(_)) => { so_far.settled(Ok(()), session.keeping(Place::Start, 0, 0)) }
+        Ok(Continued::Unfinished(place)) => {
             so_far.settled(Ok(()), session.keeping(place, rest.len(), 0))
         }
-        Continued::Refused(r) => {
+        Err(r) => {
             let shut = session.moved(Phase::Closed, session.tables);
             so_far.settled(Err(r), shut.keeping(Place::Start, 0, 0))
         }

@@ -21,7 +21,7 @@ pub fn answer_due(phase: Phase) -> Result<WordTwo, Refusal>
     }
 }
 
-// Bytes that are left are read; they are dropped and refused, if there are any; or they are kept back.
+// Bytes that are left are read; they are dropped and refused, if there are any; or they are kept back. No Result: kept back is neither read nor refused.
 #[derive(Clone, Copy)]
 pub enum Turn {
     Reads,

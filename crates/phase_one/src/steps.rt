@@ -20,7 +20,7 @@ use bech32::TextKind;
 use profile::Conformity;
 use refusal::Refusal;
 use session::{Kind, Machine, Mark, Session, Tables, span_of};
-use tables::{Coding, Span, Stored, Table, entry_at};
+use tables::{Body, Span, Stored, Table, entry_at};
 
 // An index as a number of a slot.
 pub fn wide(index: u32) -> usize
@@ -85,7 +85,7 @@ fn keep_text(
 {
     let text = stanza::argument(line, 1);
     let mark = text_mark(kind, text, plugin);
-    table.store(span, late, Coding::Bytes, text, 0, mark, slots, buffer)
+    table.store(span, late, Body::Bytes(text), 0, mark, slots, buffer)
 }
 
 // A recipient kept. 20 before 8.
@@ -136,8 +136,7 @@ fn keep_header(
     plugin: &[u8],
     late: Result<(), Refusal>,
     line: &[u8],
-    coding: Coding,
-    source: &[u8],
+    body: Body<'_>,
     n: usize,
     index: u32,
     slots: &mut [[usize; 4]],
@@ -145,16 +144,16 @@ fn keep_header(
 ) -> Stored
     ensures number { verdict_said result.verdict ≡
         pick (falls (table_in (span_of Kind.Headers) table slots.old) index) 7
-        (storing (table_in (span_of Kind.Headers) table slots.old) (length (rest_of line.now ++ 10 ∷ body_from coding source.now))
+        (storing (table_in (span_of Kind.Headers) table slots.old) (length (rest_of line.now ++ 10 ∷ body_from body.entry))
         (length buffer.old) (verdict_said late)) }
     ensures table { table_in (span_of Kind.Headers) result.table slots.new ≡
         pick (eqb (verdict_said result.verdict) 0) (entered (table_in (span_of Kind.Headers) table slots.old)
-        (length (rest_of line.now ++ 10 ∷ body_from coding source.now)) index
+        (length (rest_of line.now ++ 10 ∷ body_from body.entry)) index
         (finding_mark (checked plugin.now (rest_of line.now) n)) (length buffer.old))
         (table_in (span_of Kind.Headers) table slots.old) }
     ensures buffer { buffer.new ≡
         pick (eqb (verdict_said result.verdict) 0) (kept (table_in (span_of Kind.Headers) table slots.old)
-        (rest_of line.now ++ 10 ∷ body_from coding source.now) buffer.old) buffer.old }
+        (rest_of line.now ++ 10 ∷ body_from body.entry) buffer.old) buffer.old }
 {
     if is_falling(table, index, slots) {
         return Stored {
@@ -168,8 +167,7 @@ fn keep_header(
         span_of(Kind::Headers),
         late,
         rest,
-        coding,
-        source,
+        body,
         wide(index),
         mark,
         slots,
@@ -211,8 +209,7 @@ pub fn step_one(
     tables: Tables,
     late: Result<(), Refusal>,
     line: &[u8],
-    coding: Coding,
-    source: &[u8],
+    body: Body<'_>,
     slots: &mut [[usize; 4]],
     header_slots: &mut [[usize; 4]],
     recipients: &mut [u8],
@@ -220,22 +217,22 @@ pub fn step_one(
     keys: &mut [u8],
     headers: &mut [u8],
 ) -> StepOne
-    ensures command { command_said plugin.now line.now (length (body_from coding source.now)) result.command ≡
-        command_in machine plugin.now line.now (body_from coding source.now) }
+    ensures command { command_said plugin.now line.now (length (body_from body.entry)) result.command ≡
+        command_in machine plugin.now line.now (body_from body.entry) }
     ensures number { verdict_said result.verdict ≡
         number_one machine plugin.now (tables_in tables slots.old header_slots.old)
         (buffers_of recipients.old identities.old keys.old headers.old) (verdict_said late) line.now
-        (body_from coding source.now) }
+        (body_from body.entry) }
     ensures tables { tables_in result.tables slots.new header_slots.new ≡
         tables_one machine plugin.now (tables_in tables slots.old header_slots.old)
         (buffers_of recipients.old identities.old keys.old headers.old) (verdict_said late) line.now
-        (body_from coding source.now) }
+        (body_from body.entry) }
     ensures buffers { buffers_of recipients.new identities.new keys.new headers.new ≡
         buffers_one machine plugin.now (tables_in tables slots.old header_slots.old)
         (buffers_of recipients.old identities.old keys.old headers.old) (verdict_said late) line.now
-        (body_from coding source.now) }
+        (body_from body.entry) }
 {
-    let n = tables::body_size(coding, source);
+    let n = tables::body_size(body);
     let command = parse_one(machine, line, n);
     match command {
         Ok(CommandOne::Recipient) => {
@@ -261,23 +258,12 @@ pub fn step_one(
         Ok(CommandOne::Key) => {
             let t = tables.keys;
             let span = span_of(Kind::Keys);
-            let stored = t.store(span, late, coding, source, 0, Mark::NONE, slots, keys);
+            let stored = t.store(span, late, body, 0, Mark::NONE, slots, keys);
             stepped(command, tables, Kind::Keys, stored)
         }
         Ok(CommandOne::Header(index)) => {
             let t = tables.headers;
-            let stored = keep_header(
-                t,
-                plugin,
-                late,
-                line,
-                coding,
-                source,
-                n,
-                index,
-                header_slots,
-                headers,
-            );
+            let stored = keep_header(t, plugin, late, line, body, n, index, header_slots, headers);
             stepped(command, tables, Kind::Headers, stored)
         }
         Ok(CommandOne::Done) => StepOne {

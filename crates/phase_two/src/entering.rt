@@ -14,24 +14,19 @@ use phase_one::{rest_of, wide};
 use phase_two_commands::CommandTwo;
 use refusal::Refusal;
 use session::{Kind, Mark, Tables, span_of};
-use tables::{Coding, body_size};
+use tables::{Body, body_size};
 
 // How many bytes a command's payload has, by its arguments' text and its body: both are slices, so the sum fits.
-pub fn payload_size(
-    command: Result<CommandTwo, Refusal>,
-    line: &[u8],
-    coding: Coding,
-    source: &[u8],
-) -> usize
-    ensures { result ≡ length (payload_of (command_said command) line.now (body_from coding source.now)) }
+pub fn payload_size(command: Result<CommandTwo, Refusal>, line: &[u8], body: Body<'_>) -> usize
+    ensures { result ≡ length (payload_of (command_said command) line.now (body_from body.entry)) }
 {
     match command {
         Ok(CommandTwo::Stanza(_)) => {
             let rest = rest_of(line);
-            rest.len() + 1 + body_size(coding, source)
+            rest.len() + 1 + body_size(body)
         }
-        Ok(CommandTwo::Key(_)) => body_size(coding, source),
-        Ok(CommandTwo::Error(_)) => body_size(coding, source),
+        Ok(CommandTwo::Key(_)) => body_size(body),
+        Ok(CommandTwo::Error(_)) => body_size(body),
         Ok(CommandTwo::Ask(_)) => 0,
         Ok(CommandTwo::Done) => 0,
         Ok(CommandTwo::Other) => 0,

@@ -17,7 +17,7 @@ use phase_one::{rest_of, wide};
 use phase_two_commands::{CommandTwo, Named};
 use refusal::Refusal;
 use session::{Kind, Mark, Tables, span_of};
-use tables::{Coding, Stored, Table};
+use tables::{Body, Stored, Table};
 
 // An error's mark: what it names.
 pub(crate) fn mark_of(named: Named) -> usize
@@ -55,30 +55,28 @@ fn keep_stanza(
     table: Table,
     late: Result<(), Refusal>,
     line: &[u8],
-    coding: Coding,
-    source: &[u8],
+    body: Body<'_>,
     file: u32,
     slots: &mut [[usize; 4]],
     stanzas: &mut [u8],
 ) -> Stored
     ensures number { verdict_said result.verdict ≡
-        storing (table_in (span_of Kind.Stanzas) table slots.old) (length (rest_of line.now ++ 10 ∷ body_from coding source.now))
+        storing (table_in (span_of Kind.Stanzas) table slots.old) (length (rest_of line.now ++ 10 ∷ body_from body.entry))
         (length stanzas.old) (verdict_said late) }
     ensures table { table_in (span_of Kind.Stanzas) result.table slots.new ≡
         pick (eqb (verdict_said result.verdict) 0) (entered (table_in (span_of Kind.Stanzas) table slots.old)
-        (length (rest_of line.now ++ 10 ∷ body_from coding source.now)) file 0 (length stanzas.old))
+        (length (rest_of line.now ++ 10 ∷ body_from body.entry)) file 0 (length stanzas.old))
         (table_in (span_of Kind.Stanzas) table slots.old) }
     ensures others { (k : AnySpan) → are_apart (span_of Kind.Stanzas) k ≡ true → slots_of k slots.new ≡ slots_of k slots.old }
     ensures buffer { stanzas.new ≡
         pick (eqb (verdict_said result.verdict) 0) (kept (table_in (span_of Kind.Stanzas) table slots.old)
-        (rest_of line.now ++ 10 ∷ body_from coding source.now) stanzas.old) stanzas.old }
+        (rest_of line.now ++ 10 ∷ body_from body.entry) stanzas.old) stanzas.old }
 {
     table.store_lines(
         span_of(Kind::Stanzas),
         late,
         rest_of(line),
-        coding,
-        source,
+        body,
         wide(file),
         Mark::NONE,
         slots,
@@ -90,28 +88,26 @@ fn keep_stanza(
 fn keep_key(
     table: Table,
     late: Result<(), Refusal>,
-    coding: Coding,
-    source: &[u8],
+    body: Body<'_>,
     file: u32,
     slots: &mut [[usize; 4]],
     returned: &mut [u8],
 ) -> Stored
     ensures number { verdict_said result.verdict ≡
-        storing (table_in (span_of Kind.Returned) table slots.old) (length (body_from coding source.now)) (length returned.old)
+        storing (table_in (span_of Kind.Returned) table slots.old) (length (body_from body.entry)) (length returned.old)
         (verdict_said late) }
     ensures table { table_in (span_of Kind.Returned) result.table slots.new ≡
         pick (eqb (verdict_said result.verdict) 0) (entered (table_in (span_of Kind.Returned) table slots.old)
-        (length (body_from coding source.now)) file 0 (length returned.old)) (table_in (span_of Kind.Returned) table slots.old) }
+        (length (body_from body.entry)) file 0 (length returned.old)) (table_in (span_of Kind.Returned) table slots.old) }
     ensures others { (k : AnySpan) → are_apart (span_of Kind.Returned) k ≡ true → slots_of k slots.new ≡ slots_of k slots.old }
     ensures buffer { returned.new ≡
-        pick (eqb (verdict_said result.verdict) 0) (kept (table_in (span_of Kind.Returned) table slots.old) (body_from coding source.now)
+        pick (eqb (verdict_said result.verdict) 0) (kept (table_in (span_of Kind.Returned) table slots.old) (body_from body.entry)
         returned.old) returned.old }
 {
     table.store(
         span_of(Kind::Returned),
         late,
-        coding,
-        source,
+        body,
         wide(file),
         Mark::NONE,
         slots,
@@ -123,29 +119,27 @@ fn keep_key(
 fn keep_error(
     table: Table,
     late: Result<(), Refusal>,
-    coding: Coding,
-    source: &[u8],
+    body: Body<'_>,
     named: Named,
     slots: &mut [[usize; 4]],
     errors: &mut [u8],
 ) -> Stored
     ensures number { verdict_said result.verdict ≡
-        storing (table_in (span_of Kind.Errors) table slots.old) (length (body_from coding source.now)) (length errors.old)
+        storing (table_in (span_of Kind.Errors) table slots.old) (length (body_from body.entry)) (length errors.old)
         (verdict_said late) }
     ensures table { table_in (span_of Kind.Errors) result.table slots.new ≡
         pick (eqb (verdict_said result.verdict) 0) (entered (table_in (span_of Kind.Errors) table slots.old)
-        (length (body_from coding source.now)) (index_of (named_said named)) (mark_of (named_said named)) (length errors.old))
+        (length (body_from body.entry)) (index_of (named_said named)) (mark_of (named_said named)) (length errors.old))
         (table_in (span_of Kind.Errors) table slots.old) }
     ensures others { (k : AnySpan) → are_apart (span_of Kind.Errors) k ≡ true → slots_of k slots.new ≡ slots_of k slots.old }
     ensures buffer { errors.new ≡
-        pick (eqb (verdict_said result.verdict) 0) (kept (table_in (span_of Kind.Errors) table slots.old) (body_from coding source.now)
+        pick (eqb (verdict_said result.verdict) 0) (kept (table_in (span_of Kind.Errors) table slots.old) (body_from body.entry)
         errors.old) errors.old }
 {
     table.store(
         span_of(Kind::Errors),
         late,
-        coding,
-        source,
+        body,
         index_of(named),
         mark_of(named),
         slots,
@@ -173,8 +167,7 @@ pub fn step_two(
     tables: Tables,
     command: Result<CommandTwo, Refusal>,
     line: &[u8],
-    coding: Coding,
-    source: &[u8],
+    body: Body<'_>,
     slots: &mut [[usize; 4]],
     errors: &mut [u8],
     stanzas: &mut [u8],
@@ -183,20 +176,20 @@ pub fn step_two(
     ensures number { (hs : List (List ℕ)) → verdict_said result.verdict ≡
         (number_stepped (verdict_said ruled) (tables_in tables slots.old hs)
         (buffers_of errors.old stanzas.old returned.old) (command_said command)
-        (payload_of (command_said command) line.now (body_from coding source.now)) (verdict_said late)) }
+        (payload_of (command_said command) line.now (body_from body.entry)) (verdict_said late)) }
     ensures tables { (hs : List (List ℕ)) → tables_in result.tables slots.new hs ≡ pick
         (eqb (number_stepped (verdict_said ruled) (tables_in tables slots.old hs)
         (buffers_of errors.old stanzas.old returned.old) (command_said command)
-        (payload_of (command_said command) line.now (body_from coding source.now)) (verdict_said late)) 0)
+        (payload_of (command_said command) line.now (body_from body.entry)) (verdict_said late)) 0)
         (applied (tables_in tables slots.old hs) (buffers_of errors.old stanzas.old returned.old)
-        (command_said command) (payload_of (command_said command) line.now (body_from coding source.now)))
+        (command_said command) (payload_of (command_said command) line.now (body_from body.entry)))
         (tables_in tables slots.old hs) }
     ensures buffers { (hs : List (List ℕ)) → buffers_of errors.new stanzas.new returned.new ≡ pick
         (eqb (number_stepped (verdict_said ruled) (tables_in tables slots.old hs)
         (buffers_of errors.old stanzas.old returned.old) (command_said command)
-        (payload_of (command_said command) line.now (body_from coding source.now)) (verdict_said late)) 0)
+        (payload_of (command_said command) line.now (body_from body.entry)) (verdict_said late)) 0)
         (filled_by (tables_in tables slots.old hs) (buffers_of errors.old stanzas.old returned.old)
-        (command_said command) (payload_of (command_said command) line.now (body_from coding source.now)))
+        (command_said command) (payload_of (command_said command) line.now (body_from body.entry)))
         (buffers_of errors.old stanzas.old returned.old) }
 {
     match ruled {
@@ -205,7 +198,7 @@ pub fn step_two(
             tables: tables,
         },
         Ok(()) => keep(
-            late, tables, command, line, coding, source, slots, errors, stanzas, returned,
+            late, tables, command, line, body, slots, errors, stanzas, returned,
         ),
     }
 }
@@ -216,8 +209,7 @@ fn keep(
     tables: Tables,
     command: Result<CommandTwo, Refusal>,
     line: &[u8],
-    coding: Coding,
-    source: &[u8],
+    body: Body<'_>,
     slots: &mut [[usize; 4]],
     errors: &mut [u8],
     stanzas: &mut [u8],
@@ -225,34 +217,34 @@ fn keep(
 ) -> StepTwo
     ensures number { (hs : List (List ℕ)) → verdict_said result.verdict ≡
         (number_stepped 0 (tables_in tables slots.old hs) (buffers_of errors.old stanzas.old returned.old)
-        (command_said command) (payload_of (command_said command) line.now (body_from coding source.now)) (verdict_said late)) }
+        (command_said command) (payload_of (command_said command) line.now (body_from body.entry)) (verdict_said late)) }
     ensures tables { (hs : List (List ℕ)) → tables_in result.tables slots.new hs ≡ pick
         (eqb (number_stepped 0 (tables_in tables slots.old hs) (buffers_of errors.old stanzas.old returned.old)
-        (command_said command) (payload_of (command_said command) line.now (body_from coding source.now)) (verdict_said late)) 0)
+        (command_said command) (payload_of (command_said command) line.now (body_from body.entry)) (verdict_said late)) 0)
         (applied (tables_in tables slots.old hs) (buffers_of errors.old stanzas.old returned.old)
-        (command_said command) (payload_of (command_said command) line.now (body_from coding source.now)))
+        (command_said command) (payload_of (command_said command) line.now (body_from body.entry)))
         (tables_in tables slots.old hs) }
     ensures buffers { (hs : List (List ℕ)) → buffers_of errors.new stanzas.new returned.new ≡ pick
         (eqb (number_stepped 0 (tables_in tables slots.old hs) (buffers_of errors.old stanzas.old returned.old)
-        (command_said command) (payload_of (command_said command) line.now (body_from coding source.now)) (verdict_said late)) 0)
+        (command_said command) (payload_of (command_said command) line.now (body_from body.entry)) (verdict_said late)) 0)
         (filled_by (tables_in tables slots.old hs) (buffers_of errors.old stanzas.old returned.old)
-        (command_said command) (payload_of (command_said command) line.now (body_from coding source.now)))
+        (command_said command) (payload_of (command_said command) line.now (body_from body.entry)))
         (buffers_of errors.old stanzas.old returned.old) }
 {
     match command {
         Ok(CommandTwo::Stanza(file)) => {
             let t = tables.stanzas;
-            let stored = keep_stanza(t, late, line, coding, source, file, slots, stanzas);
+            let stored = keep_stanza(t, late, line, body, file, slots, stanzas);
             stepped(tables, Kind::Stanzas, stored)
         }
         Ok(CommandTwo::Key(file)) => {
             let t = tables.returned;
-            let stored = keep_key(t, late, coding, source, file, slots, returned);
+            let stored = keep_key(t, late, body, file, slots, returned);
             stepped(tables, Kind::Returned, stored)
         }
         Ok(CommandTwo::Error(named)) => {
             let t = tables.errors;
-            let stored = keep_error(t, late, coding, source, named, slots, errors);
+            let stored = keep_error(t, late, body, named, slots, errors);
             stepped(tables, Kind::Errors, stored)
         }
         Ok(CommandTwo::Ask(_)) => StepTwo {

@@ -249,8 +249,8 @@ fn say(
 }
 
 // What the client answered, where a response was taken.
-fn print_response(stdout: &impl Print, last: Last) {
-    if let Last::Response(response) = last {
+fn print_response(stdout: &impl Print, last: Option<Last>) {
+    if let Some(Last::Response(response)) = last {
         match response {
             Response::Ok => print(stdout, b"response: ", b"ok"),
             Response::Yes => print(stdout, b"response: ", b"yes"),

@@ -1,5 +1,5 @@
 -- The commands of a chunk in phase one, one by one from the left.
-use Rattle.std.specs.Prelude.{ℕ, ◌+◌, ◌≡◌, false, List, [], eqb, Result, Ok, Err}
+use Rattle.std.specs.Prelude.{ℕ, ◌+◌, ◌≡◌, false, List, [], eqb, Some, None, Result, Ok, Err}
 use Rattle.refusal.specs.Pick.{pick}
 use Rattle.refusal.specs.Verdict.{verdict_said}
 use Rattle.stanza.specs.Reading.{Reading, refused}
@@ -18,7 +18,7 @@ use Rattle.plugin_receiving.specs.declared.receiving.Taken.{Taken as CodeTaken}
 
 -- a session's answer before its chunk
 abbrev pub begun_by : CodeSession → CodeReceived
-begun_by s = record { verdict = Ok tt; count = 0; last = the_last.Nothing; written = 0; session = s }
+begun_by s = record { verdict = Ok tt; count = 0; last = None; written = 0; session = s }
 
 -- the next command of a text that reads so: none behind a refusal n, nor in another phase
 abbrev pub next_in : ℕ → Phase → Reading → Reading
@@ -26,7 +26,7 @@ next_in n p q = pick (eqb n 0) (pick (eqb (turn_one p) 0) q (refused (turn_one p
 
 -- an answer behind one command more
 abbrev pub answer_behind : CodeReceived → Result CodeTaken Refusal → CodeSession → CodeReceived
-answer_behind r (Ok t) s = record { verdict = Ok tt; count = r.count + 1; last = the_last.CommandOne t.word; written = r.written; session = s }
+answer_behind r (Ok t) s = record { verdict = Ok tt; count = r.count + 1; last = Some (the_last.CommandOne t.word); written = r.written; session = s }
 answer_behind r (Err n) s = record { verdict = Err n; count = r.count; last = r.last; written = r.written; session = s }
 
 -- what a text comes to behind the commands of an answer; nothing more is taken where the last was refused

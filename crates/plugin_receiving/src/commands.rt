@@ -40,7 +40,7 @@ fn answer_behind(so_far: Received, receipt: Receipt) -> Received
         Ok(taken) => Received {
             verdict: Ok(()),
             count: so_far.count + 1,
-            last: Last::CommandOne(taken.word),
+            last: Some(Last::CommandOne(taken.word)),
             session,
             ..so_far
         },

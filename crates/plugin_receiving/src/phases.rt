@@ -13,7 +13,7 @@ ghost use Rattle.intake.specs.Settling.{Says};
 
 use crate::commands::receive_commands;
 use crate::responding::{none_behind, receive_due};
-use intake::{Last, Received};
+use intake::Received;
 use refusal::Refusal;
 use session::{Phase, Session, front};
 use stanza::{Continued, Place};
@@ -32,7 +32,7 @@ fn drop_chunk(session: Session, chunk: &[u8], input: &[u8]) -> Received
     Received {
         verdict: verdict,
         count: 0,
-        last: Last::Nothing,
+        last: None,
         written: 0,
         session: emptied,
     }
@@ -81,13 +81,13 @@ pub fn receive(
     }
     let front = intake::read_front(turn, reading, session.kept, chunk, input);
     match front {
-        Continued::Unfinished(place) => {
+        Ok(Continued::Unfinished(place)) => {
             return intake::keep_on(session, place, chunk);
         }
-        Continued::Refused(r) => {
+        Err(r) => {
             return intake::close(session, r);
         }
-        Continued::Whole(k) => match phase {
+        Ok(Continued::Whole(k)) => match phase {
             Phase::One => receive_commands(
                 session,
                 chunk,

@@ -12,7 +12,7 @@ use phase_one::{CommandOne, WordOne, step_one};
 use refusal::Refusal;
 use session::{Outcome, Session, front};
 use stanza::Stanza;
-use tables::Coding;
+use tables::Body;
 
 // Which command was received and how many bytes of the text it took. Not client_room's Taken of another word: nothing is written for a command of phase one.
 #[derive(Clone, Copy)]
@@ -69,8 +69,7 @@ pub(crate) fn receive_stanza(
         session.tables,
         Ok(()),
         stanza::arguments_of(text, s),
-        Coding::Lines,
-        stanza::lines_of(text, s),
+        Body::Lines(stanza::lines_of(text, s)),
         slots,
         header_slots,
         recipients,

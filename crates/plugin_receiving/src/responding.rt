@@ -142,7 +142,7 @@ fn settle_response(session: Session, responded: Responded, left: usize) -> Recei
         Ok(answered) => Received {
             verdict: none_behind(left),
             count: 1,
-            last: Last::Response(answered.response),
+            last: Some(Last::Response(answered.response)),
             written: answered.body,
             session: emptied,
         },
@@ -153,7 +153,7 @@ fn settle_response(session: Session, responded: Responded, left: usize) -> Recei
             Received {
                 verdict: Err(r),
                 count: 0,
-                last: Last::Nothing,
+                last: None,
                 written: 0,
                 session: emptied,
             }

@@ -10,7 +10,7 @@ use phase_two::step_two;
 use phase_two_commands::put_line_two;
 use refusal::Refusal;
 use session::{SHORT_ARGUMENTS, SHORT_LINE, Sent, Session, WordTwo, front};
-use tables::Coding;
+use tables::Body;
 
 // A command put together in a store, which is long enough for every line that can be written.
 fn send_in(
@@ -57,8 +57,7 @@ fn send_in(
                 tables,
                 command,
                 line,
-                Coding::Bytes,
-                body,
+                Body::Bytes(body),
                 slots,
                 errors,
                 stanzas,

@@ -22,7 +22,7 @@ pub enum Answer<'a> {
 pub struct Receipt<'a> {
     verdict: Result<(), Refusal>,
     count: usize,
-    last: Last,
+    last: Option<Last>,
     written: &'a [u8],
 }
 
@@ -75,12 +75,12 @@ fn word_response(response: Response) -> &'static [u8] {
 }
 
 // The word of what was received last.
-fn word_last(last: Last) -> &'static [u8] {
+fn word_last(last: Option<Last>) -> &'static [u8] {
     match last {
-        Last::CommandOne(word) => word_one(word),
-        Last::CommandTwo(word) => word_two(word),
-        Last::Response(response) => word_response(response),
-        Last::Nothing => b"-",
+        Some(Last::CommandOne(word)) => word_one(word),
+        Some(Last::CommandTwo(word)) => word_two(word),
+        Some(Last::Response(response)) => word_response(response),
+        None => b"-",
     }
 }
 

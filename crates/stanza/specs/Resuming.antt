@@ -1,10 +1,11 @@
 -- Reading on in a stanza that comes in pieces (document 02, No. 1: "take bytes in pieces of any length, zero too, and keep at most 8,192 bytes of an
 -- unfinished stanza"). The numbers are reading's, each in the call that brings its byte: 1 with the first byte that no stanza can have there, be it
 -- byte 8,192; 3 with byte 8,192 where the stanza has not ended. 2 is none of them: the bytes are over, and the reading stands somewhere.
-use Rattle.std.specs.Prelude.{ℕ, ◌+◌, List, [], ◌∷◌, ltb, eqb}
+use Rattle.std.specs.Prelude.{ℕ, ◌+◌, List, [], ◌∷◌, ltb, eqb, Result, Ok, Err}
 use Rattle.refusal.specs.Number.{number_of}
 use Rattle.refusal.specs.Pick.{pick}
 use Rattle.strict_base64.specs.Alphabet.{value_of}
+use Rattle.refusal.specs.declared.Refusal.{Refusal}
 use Rattle.stanza.specs.Automaton.{State, start, hyphen, arrow, gap, word, line, ended, dead, next}
 use Rattle.stanza.specs.Reading.{Reading, stanza}
 use Rattle.stanza.specs.Reading as reading
@@ -34,10 +35,10 @@ pub data Continued : Type 0 where
   refused : ℕ → Continued
 
 -- what the code's answer stands for
-abbrev pub continued_said : CodeContinued → Continued
-continued_said (code.Whole k) = whole k
-continued_said (code.Unfinished p) = unfinished (place_said p)
-continued_said (code.Refused r) = refused (number_of r)
+abbrev pub continued_said : Result CodeContinued Refusal → Continued
+continued_said (Ok (code.Whole k)) = whole k
+continued_said (Ok (code.Unfinished p)) = unfinished (place_said p)
+continued_said (Err r) = refused (number_of r)
 
 -- the same answer, counted with m bytes that stand before these
 unfoldable pub behind : ℕ → Continued → Continued

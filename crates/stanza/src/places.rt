@@ -27,16 +27,15 @@ pub enum Place {
     Dead,
 }
 
-// What reading on gives: the stanza has ended behind so many of the bytes, where the reading stands, or 1 or 3.
+// Where reading on comes to: the stanza has ended behind so many of the bytes, or where the reading stands.
 #[derive(Clone, Copy)]
 pub enum Continued {
     Whole(usize),
     Unfinished(Place),
-    Refused(Refusal),
 }
 
-// Reads on from a place, behind `kept` bytes of the same stanza.
-pub fn read_on(place: Place, kept: usize, bytes: &[u8]) -> Continued
+// Reads on from a place, behind `kept` bytes of the same stanza. 1 or 3 where it is refused.
+pub fn read_on(place: Place, kept: usize, bytes: &[u8]) -> Result<Continued, Refusal>
     ensures { continued_said result ≡ continued (place_said place) kept bytes.now }
 {
     let left = LONGEST.saturating_sub(kept);
@@ -45,15 +44,15 @@ pub fn read_on(place: Place, kept: usize, bytes: &[u8]) -> Continued
     for (i, &b) in bytes[..n].iter().enumerate() {
         at = next_place(at, b);
         match at {
-            Place::Dead => return Continued::Refused(Refusal::NotStanza),
-            Place::Ended => return Continued::Whole(i + 1),
+            Place::Dead => return Err(Refusal::NotStanza),
+            Place::Ended => return Ok(Continued::Whole(i + 1)),
             _ => {}
         }
     }
     if n == left {
-        return Continued::Refused(Refusal::TooLong);
+        return Err(Refusal::TooLong);
     }
-    Continued::Unfinished(at)
+    Ok(Continued::Unfinished(at))
 }
 
 // One byte on.

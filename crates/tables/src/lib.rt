@@ -6,6 +6,6 @@ mod copying;
 mod slots;
 mod tables;
 
-pub use copying::{Coding, body_size};
+pub use copying::{Body, body_size};
 pub use slots::{EMPTY, Entry, Span, entry_at, slots_in};
 pub use tables::{Stored, Table, payload};

@@ -9,7 +9,7 @@ ghost use Rattle.tables.specs.declared.slots.Span.{Span as AnySpan};
 ghost use Rattle.tables.specs.Repeats.{repeats};
 ghost use Rattle.tables.specs.Tables.{table_in, storing, entered, kept, found_said, found, shown, part_in};
 
-use crate::copying::{Coding, payload_size, put_payload};
+use crate::copying::{Body, payload_size, put_payload};
 use crate::slots::{Entry, Span, entry_at, put_entry, slots_in};
 use refusal::Refusal;
 
@@ -143,36 +143,35 @@ impl Table {
         span: Span,
         late: Result<(), Refusal>,
         line: Option<&[u8]>,
-        coding: Coding,
-        source: &[u8],
+        body: Body<'_>,
         index: usize,
         mark: usize,
         slots: &mut [[usize; 4]],
         buffer: &mut [u8],
     ) -> Stored
         ensures number { verdict_said result.verdict ≡
-            storing (table_in span self slots.old) (length (payload_from (option_copied line.entry) coding source.now))
+            storing (table_in span self slots.old) (length (payload_from (option_copied line.entry) body.entry))
             (length buffer.old) (verdict_said late) }
         ensures table { table_in span result.table slots.new ≡
-            pick (eqb (storing (table_in span self slots.old) (length (payload_from (option_copied line.entry) coding source.now))
+            pick (eqb (storing (table_in span self slots.old) (length (payload_from (option_copied line.entry) body.entry))
             (length buffer.old) (verdict_said late)) 0)
-            (entered (table_in span self slots.old) (length (payload_from (option_copied line.entry) coding source.now)) index mark
+            (entered (table_in span self slots.old) (length (payload_from (option_copied line.entry) body.entry)) index mark
             (length buffer.old)) (table_in span self slots.old) }
         ensures others { (k : AnySpan) → are_apart span k ≡ true → slots_of k slots.new ≡ slots_of k slots.old }
         ensures buffer { buffer.new ≡
-            pick (eqb (storing (table_in span self slots.old) (length (payload_from (option_copied line.entry) coding source.now))
+            pick (eqb (storing (table_in span self slots.old) (length (payload_from (option_copied line.entry) body.entry))
             (length buffer.old) (verdict_said late)) 0)
-            (kept (table_in span self slots.old) (payload_from (option_copied line.entry) coding source.now) buffer.old)
+            (kept (table_in span self slots.old) (payload_from (option_copied line.entry) body.entry) buffer.old)
             buffer.old }
     {
         let used = self.used;
-        let n = payload_size(line, coding, source);
+        let n = payload_size(line, body);
         let stored = self.enter(span, late, n, index, mark, buffer.len(), slots);
         let verdict = stored.verdict;
         match verdict {
             Err(_) => stored,
             Ok(()) => {
-                put_payload(line, coding, source, &mut buffer[used..]);
+                put_payload(line, body, &mut buffer[used..]);
                 stored
             }
         }
@@ -183,26 +182,25 @@ impl Table {
         self,
         span: Span,
         late: Result<(), Refusal>,
-        coding: Coding,
-        source: &[u8],
+        body: Body<'_>,
         index: usize,
         mark: usize,
         slots: &mut [[usize; 4]],
         buffer: &mut [u8],
     ) -> Stored
         ensures number { verdict_said result.verdict ≡
-            storing (table_in span self slots.old) (length (body_from coding source.now)) (length buffer.old) (verdict_said late) }
+            storing (table_in span self slots.old) (length (body_from body.entry)) (length buffer.old) (verdict_said late) }
         ensures table { table_in span result.table slots.new ≡
-            pick (eqb (storing (table_in span self slots.old) (length (body_from coding source.now)) (length buffer.old)
-            (verdict_said late)) 0) (entered (table_in span self slots.old) (length (body_from coding source.now)) index mark
+            pick (eqb (storing (table_in span self slots.old) (length (body_from body.entry)) (length buffer.old)
+            (verdict_said late)) 0) (entered (table_in span self slots.old) (length (body_from body.entry)) index mark
             (length buffer.old)) (table_in span self slots.old) }
         ensures others { (k : AnySpan) → are_apart span k ≡ true → slots_of k slots.new ≡ slots_of k slots.old }
         ensures buffer { buffer.new ≡
-            pick (eqb (storing (table_in span self slots.old) (length (body_from coding source.now)) (length buffer.old)
-            (verdict_said late)) 0) (kept (table_in span self slots.old) (body_from coding source.now) buffer.old)
+            pick (eqb (storing (table_in span self slots.old) (length (body_from body.entry)) (length buffer.old)
+            (verdict_said late)) 0) (kept (table_in span self slots.old) (body_from body.entry) buffer.old)
             buffer.old }
     {
-        self.keep(span, late, None, coding, source, index, mark, slots, buffer)
+        self.keep(span, late, None, body, index, mark, slots, buffer)
     }
 
     // One entry more, its payload a line, an LF and a body.
@@ -211,39 +209,28 @@ impl Table {
         span: Span,
         late: Result<(), Refusal>,
         line: &[u8],
-        coding: Coding,
-        source: &[u8],
+        body: Body<'_>,
         index: usize,
         mark: usize,
         slots: &mut [[usize; 4]],
         buffer: &mut [u8],
     ) -> Stored
         ensures number { verdict_said result.verdict ≡
-            storing (table_in span self slots.old) (length (line.now ++ 10 ∷ body_from coding source.now))
+            storing (table_in span self slots.old) (length (line.now ++ 10 ∷ body_from body.entry))
             (length buffer.old) (verdict_said late) }
         ensures table { table_in span result.table slots.new ≡
-            pick (eqb (storing (table_in span self slots.old) (length (line.now ++ 10 ∷ body_from coding source.now))
+            pick (eqb (storing (table_in span self slots.old) (length (line.now ++ 10 ∷ body_from body.entry))
             (length buffer.old) (verdict_said late)) 0)
-            (entered (table_in span self slots.old) (length (line.now ++ 10 ∷ body_from coding source.now)) index mark
+            (entered (table_in span self slots.old) (length (line.now ++ 10 ∷ body_from body.entry)) index mark
             (length buffer.old)) (table_in span self slots.old) }
         ensures others { (k : AnySpan) → are_apart span k ≡ true → slots_of k slots.new ≡ slots_of k slots.old }
         ensures buffer { buffer.new ≡
-            pick (eqb (storing (table_in span self slots.old) (length (line.now ++ 10 ∷ body_from coding source.now))
+            pick (eqb (storing (table_in span self slots.old) (length (line.now ++ 10 ∷ body_from body.entry))
             (length buffer.old) (verdict_said late)) 0)
-            (kept (table_in span self slots.old) (line.now ++ 10 ∷ body_from coding source.now) buffer.old)
+            (kept (table_in span self slots.old) (line.now ++ 10 ∷ body_from body.entry) buffer.old)
             buffer.old }
     {
-        self.keep(
-            span,
-            late,
-            Some(line),
-            coding,
-            source,
-            index,
-            mark,
-            slots,
-            buffer,
-        )
+        self.keep(span, late, Some(line), body, index, mark, slots, buffer)
     }
 }
 

@@ -10,7 +10,7 @@ use native.Mathlib.Omega.{arith}
 use borrow.Author.Tests.{leb-true}
 use Rattle.refusal.specs.Number.{number_of}
 use Rattle.refusal.specs.declared.Refusal.{Refusal}
-use Rattle.std.specs.Prelude.{Err}
+use Rattle.std.specs.Prelude.{Some, None, Err}
 use Rattle.refusal.proofs.Laws.Booleans.{and_true}
 use Rattle.stanza.specs.declared.places.Place.TheVariants as place
 use Rattle.stanza.specs.Reading.{stanza, refused, read_first}
@@ -29,7 +29,7 @@ use Rattle.chunks.specs.Uncut.{is_waiting}
 use Rattle.chunks.proofs.Laws.Cases.{keeps_not_reads}
 use Rattle.intake.specs.Intake.{last_said}
 use Rattle.intake.specs.Settling.{MaySettle, Says}
-use Rattle.intake.specs.declared.answers.Last.TheVariants.{Nothing, CommandTwo}
+use Rattle.intake.specs.declared.answers.Last.TheVariants.{CommandTwo}
 use Rattle.intake.specs.declared.answers.Received.{Received as CodeReceived}
 use Rattle.client_room.specs.Stanzas.{taking_said}
 use Rattle.client_room.specs.Room.{has_room, stanza_ahead}
@@ -78,7 +78,7 @@ abbrev pub stopped : Refusal → CodeSession → CodeReceived
 stopped n s = record {
   verdict = Err n;
   count = 0;
-  last = Nothing;
+  last = None;
   written = 0;
   session = record { machine = s.machine; phase = s.phase; screen = s.screen; name = s.name; tables = s.tables; reading = place.Start; kept = 0; awaited = 0 };
 }
@@ -93,7 +93,7 @@ module _ (given : CodeSession) (xs hs : List (List ℕ)) (e s d front text out :
       Answers x xs hs input input (lent b e s d) out out (stanza_ahead now (lent b e s d) front text)
   front_fault b n v x input h sv xz =
       subst (λ x. Answers x xs hs input input (lent b e s d) out out (stanza_ahead now (lent b e s d) front text)) (sym xz)
-      (answers_says (stopped n v) xs hs input input (lent b e s d) out out 0 _ _ (stop_says 0 Nothing 0 n v xs hs input [] (lent b e s d))
+      (answers_says (stopped n v) xs hs input input (lent b e s d) out out 0 _ _ (stop_says 0 None 0 n v xs hs input [] (lent b e s d))
       (fault_is now (lent b e s d) front text (number_of n) second h ∙ ap (λ q. behind 0 no_stanza [] (no_more (number_of n) (emptied q []) (lent b e s d))) (sym sv)) refl (omega arith) refl refl)
 
   module _ (l m k : ℕ) (h : read_first front ≡ stanza l m k) (y : CodeOutcome CodeTaken) (xs' : List (List ℕ)) (e' s' d' o' : List ℕ)
@@ -107,7 +107,7 @@ module _ (given : CodeSession) (xs hs : List (List ℕ)) (e s d front text out :
         let t = declined_is now (lent b e s d) front l m k out second h (step_said y xs' hs e' s' d' o') q front text (number_of n) z
         (leb-true (length u.written) (length out) (and_true (leb (length u.written) (length out)) (leb (length u.intake.kept) 8192) (held b)).0) in
         subst (λ x. Answers x xs' hs input input (lent b e' s' d') out o' u) (sym xz)
-        (answers_says (stopped n y.session) xs' hs input input (lent b e' s' d') out o' 0 _ _ (stop_says 0 Nothing 0 n y.session xs' hs input [] (lent b e' s' d'))
+        (answers_says (stopped n y.session) xs' hs input input (lent b e' s' d') out o' 0 _ _ (stop_says 0 None 0 n y.session xs' hs input [] (lent b e' s' d'))
         t.same refl (omega arith) (ap length t.output) t.output)
 
     module _ (w : WordTwo) (i j : ℕ) (z : taking_said y.answer ≡ took w i j) where
@@ -117,7 +117,7 @@ module _ (given : CodeSession) (xs hs : List (List ℕ)) (e s d front text out :
       pub front_fits : j ≤ length out
       front_fits = (took_here none_lent).fits
 
-      module _ (x : CodeReceived) (count : x.count ≡ 1) (last : x.last ≡ CommandTwo w) (written : x.written ≡ j) (session : x.session ≡ y.session) where
+      module _ (x : CodeReceived) (count : x.count ≡ 1) (last : x.last ≡ Some (CommandTwo w)) (written : x.written ≡ j) (session : x.session ≡ y.session) where
         same : (b : BuffersOne) → stanza_ahead now (lent b e s d) front text ≡ behind_answer x xs' hs (lent b e' s' d') (awaited_behind client x.session.phase front) text o'
         same b = (took_here b).same ∙ sym (ap₂ (λ n g. behind n g (take x.written o') (taken_text client (session_of x.session xs' hs) (lent b e' s' d') (awaited_behind client x.session.phase front) text)) count (ap last_said last)
             ∙ ap₂ (λ v c. behind 1 (command (text_of_word w)) (take v o') (taken_text client (session_of c xs' hs) (lent b e' s' d') (awaited_behind client c.phase front) text)) written session)

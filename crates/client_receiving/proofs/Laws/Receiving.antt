@@ -19,7 +19,7 @@ use Rattle.chunks.specs.Taking.{client, turn_at, Intake, Taken, behind, no_stanz
 use Rattle.chunks.specs.Chunks.{Outcome, untaken, is_held, judged, taken, chunked}
 use Rattle.chunks.proofs.Laws.Texts.{behind_none}
 use Rattle.intake.specs.Intake.{intake_of, last_said, taken_said, received_said, stored_in}
-use Rattle.intake.specs.declared.answers.Last.TheVariants.{Nothing}
+use Rattle.std.specs.Prelude.{None}
 use Rattle.intake.specs.declared.answers.Received.{Received as CodeReceived}
 use Rattle.intake.specs.Fronts.{front_of}
 use Rattle.intake.proofs.Laws.Fronts.{chunk_begins, chunk_ends}
@@ -35,7 +35,7 @@ module _ (given : CodeSession) (xs hs : List (List ℕ)) (input x : List ℕ) (b
   here = taken client (intake_of client given xs hs input) b x
 
   -- the chunk is a text from the start of a stanza on
-  pub start_is : (r : CodeReceived) (out : List ℕ) → front_of given.reading (min given.kept 8191) x ≡ whole 0 → r.count ≡ 0 → r.last ≡ Nothing → r.written ≡ 0 → r.session ≡ given →
+  pub start_is : (r : CodeReceived) (out : List ℕ) → front_of given.reading (min given.kept 8191) x ≡ whole 0 → r.count ≡ 0 → r.last ≡ None → r.written ≡ 0 → r.session ≡ given →
       behind_answer r xs hs b [] x out ≡ here
   start_is r out h c l w s =
       ap₂ (λ n g. behind n g (take r.written out) (taken_text client (session_of r.session xs hs) b [] x)) c (ap last_said l)

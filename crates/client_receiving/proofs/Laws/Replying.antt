@@ -10,7 +10,7 @@ use native.Mathlib.Omega.{arith}
 use borrow.Author.Tests.{leb-true}
 use Rattle.refusal.specs.Output.{Answer, bytes, refused, filled}
 use Rattle.refusal.specs.Pick.{pick}
-use Rattle.std.specs.Prelude.{Ok}
+use Rattle.std.specs.Prelude.{None, Ok}
 use Rattle.refusal.proofs.Laws.Booleans.{and_true}
 use Rattle.stanza.specs.Automaton.{start}
 use Rattle.stanza.specs.Grammar.{stanza_text}
@@ -30,7 +30,6 @@ use Rattle.chunks.specs.Chunks.{Outcome, untaken, is_held, judged, reply_ahead, 
 use Rattle.chunks.specs.Uncut.{is_waiting}
 use Rattle.chunks.proofs.Laws.Texts.{behind_none}
 use Rattle.intake.specs.Intake.{intake_of}
-use Rattle.intake.specs.declared.answers.Last.TheVariants.{Nothing}
 use Rattle.intake.specs.declared.answers.Received.{Received as CodeReceived}
 use Rattle.client_room.specs.Room.{has_room}
 use Rattle.client_room.proofs.Laws.Room.{more_room, less_room}
@@ -117,7 +116,7 @@ reply_room w u n m e h = ap (λ m. has_room u (n - m)) (sym e) ∙ sym (more_roo
 
 -- a reply that is begun
 abbrev pub begun_with : ℕ → CodeSession → CodeReceived
-begun_with n s = record { verdict = Ok tt; count = 0; last = Nothing; written = n; session = s }
+begun_with n s = record { verdict = Ok tt; count = 0; last = None; written = n; session = s }
 
 -- the session with the reply given
 abbrev pub given_to : CodeSession → CodeSession

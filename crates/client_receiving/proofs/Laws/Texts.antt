@@ -12,7 +12,7 @@ use Rattle.refusal.specs.Output.{filled}
 use Rattle.refusal.specs.Pick.{pick}
 use Rattle.refusal.specs.Number.{number_of}
 use Rattle.refusal.specs.declared.Refusal.{Refusal}
-use Rattle.std.specs.Prelude.{Ok, Err}
+use Rattle.std.specs.Prelude.{Option, Some, Ok, Err}
 use Rattle.refusal.proofs.Laws.Booleans.{and_true}
 use Rattle.refusal.proofs.Laws.Lists.{part_rest, put_rest}
 use Rattle.stanza.specs.Automaton.{start}
@@ -135,7 +135,7 @@ stored_none : (input : List ℕ) → filled [] input ≡ input
 stored_none input = ap (λ f. pick f input input) (le-ltb (length input) 0 (omega arith))
 
 -- what a refusal says behind what was taken
-pub stop_says : (count : ℕ) (last : CodeLast) (written : ℕ) (r : Refusal) (s : CodeSession) (xs hs : List (List ℕ)) (input w : List ℕ) (b : Buffers) →
+pub stop_says : (count : ℕ) (last : Option CodeLast) (written : ℕ) (r : Refusal) (s : CodeSession) (xs hs : List (List ℕ)) (input w : List ℕ) (b : Buffers) →
     Says client
     (record {
       verdict = Err r;
@@ -297,7 +297,7 @@ module _ (r₀ : CodeReceived) (xs₀ hs : List (List ℕ)) (e₀ s₀ d₀ text
       going_size z = on_size r.count (last_said r.last) r.written out g.room o' z ∙ g.size
 
       pub going_on : (w : WordTwo) (i j : ℕ) (x : CodeReceived) → taking_said y.answer ≡ took w i j →
-          x ≡ record { verdict = Ok tt; count = r.count + 1; last = CommandTwo w; written = r.written + j; session = y.session } →
+          x ≡ record { verdict = Ok tt; count = r.count + 1; last = Some (CommandTwo w); written = r.written + j; session = y.session } →
           carried_by y.session ≡ carried_by r.session → length e' ≡ length e → length s' ≡ length s → length d' ≡ length d →
           (1 ≤ k) × (k ≤ 8192) × (at + k ≤ length text) →
           Going r₀ x xs₀ xs' hs e₀ s₀ d₀ e' s' d' text out₀ (take r.written out ++ (o' ++ drop (length out - r.written) (drop r.written out))) at (at + k)

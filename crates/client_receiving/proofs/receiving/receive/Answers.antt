@@ -2,6 +2,7 @@
 use Prim.Native.Nat.{◌≤◌, min}
 use mathlib.Core.Path.{refl, sym, ap, subst, ◌∙◌}
 use mathlib.Core.List.{[]}
+use Rattle.std.specs.Prelude.{Ok}
 use lib.ListN.{length}
 use native.Mathlib.Omega.{arith}
 use borrow.Author.Tests.{not-true, not-false}
@@ -51,8 +52,8 @@ returns-in-Some c = let a = c.args in
       name = c.keep_on.ensures.name;
     }
 
-pub returns-in-Unfinished : goal.returns-in-Unfinished
-returns-in-Unfinished c = let a = c.args in
+pub returns-in-Ok-Unfinished : goal.returns-in-Ok-Unfinished
+returns-in-Ok-Unfinished c = let a = c.args in
     let x = a.chunk.now in
     let o = a.input.now in
     let xs = a.slots.now in
@@ -64,19 +65,19 @@ returns-in-Unfinished c = let a = c.args in
     let g = c.read_one-one in
     let f = c.read_front-front in
     let same = subst (OneByteSays reads a.session.reading k x o g.new.input) c.in_default-one.is g.ensures in
-    let front = sym f.ensures.front ∙ ap continued_said c.in-Unfinished.is in
-    let input = f.ensures.input ∙ ap (λ r. input_behind (continued_said r) k x g.new.input) c.in-Unfinished.is in
+    let front = sym f.ensures.front ∙ ap continued_said (c.in-Ok-Unfinished.is ∙ ap Ok (rw c.in-Ok-Unfinished.is at c.in-Ok-Unfinished.field-0-is)) in
+    let input = f.ensures.input ∙ ap (λ r. input_behind (continued_said r) k x g.new.input) (c.in-Ok-Unfinished.is ∙ ap Ok (rw c.in-Ok-Unfinished.is at c.in-Ok-Unfinished.field-0-is)) in
     let i = f.new.input in
     let long : 8192 ≤ length o = omega (arith, c.read_one-arg-1.given) in
-    let answered : (b : BuffersOne) → Answered client a.session x c.keep_on-in-Unfinished.result xs hs o (i) (lent b a.errors.now a.stanzas.now a.returned.now) out = λ b. subst (λ i. Answered client a.session x c.keep_on-in-Unfinished.result xs hs o i (lent b a.errors.now a.stanzas.now a.returned.now) out) (sym (input ∙ ap (input_behind (unfinished (place_said c.in-Unfinished.place)) k x) same)) (c.keep_on-in-Unfinished.ensures.outcome client xs hs o (lent b a.errors.now a.stanzas.now a.returned.now) out (ap (turn_at client) second) long front) in
+    let answered : (b : BuffersOne) → Answered client a.session x c.keep_on-in-Ok-Unfinished.result xs hs o (i) (lent b a.errors.now a.stanzas.now a.returned.now) out = λ b. subst (λ i. Answered client a.session x c.keep_on-in-Ok-Unfinished.result xs hs o i (lent b a.errors.now a.stanzas.now a.returned.now) out) (sym (input ∙ ap (input_behind (unfinished (place_said c.in-Ok-Unfinished.place)) k x) same)) (c.keep_on-in-Ok-Unfinished.ensures.outcome client xs hs o (lent b a.errors.now a.stanzas.now a.returned.now) out (ap (turn_at client) second) long front) in
     record {
       outcome = λ b. (answered b).outcome;
       input = (answered none_lent).input;
-      name = c.keep_on-in-Unfinished.ensures.name;
+      name = c.keep_on-in-Ok-Unfinished.ensures.name;
     }
 
-pub returns-in-Refused : goal.returns-in-Refused
-returns-in-Refused c = let a = c.args in
+pub returns-in-Err-front : goal.returns-in-Err-front
+returns-in-Err-front c = let a = c.args in
     let x = a.chunk.now in
     let o = a.input.now in
     let xs = a.slots.now in
@@ -88,8 +89,8 @@ returns-in-Refused c = let a = c.args in
     let g = c.read_one-one in
     let f = c.read_front-front in
     let same = subst (OneByteSays reads a.session.reading k x o g.new.input) c.in_default-one.is g.ensures in
-    let front = sym f.ensures.front ∙ ap continued_said c.in-Refused.is in
-    let input = f.ensures.input ∙ ap (λ r. input_behind (continued_said r) k x g.new.input) c.in-Refused.is in
+    let front = sym f.ensures.front ∙ ap continued_said c.in-Err-front.is in
+    let input = f.ensures.input ∙ ap (λ r. input_behind (continued_said r) k x g.new.input) c.in-Err-front.is in
     let i = f.new.input in
     let long : 8192 ≤ length o = omega (arith, c.read_one-arg-1.given) in
     let answered : (b : BuffersOne) → Answered client a.session x c.close.result xs hs o (i) (lent b a.errors.now a.stanzas.now a.returned.now) out = λ b. subst (λ i. Answered client a.session x c.close.result xs hs o i (lent b a.errors.now a.stanzas.now a.returned.now) out) (sym (input ∙ same)) (c.close.ensures.outcome client xs hs o x (lent b a.errors.now a.stanzas.now a.returned.now) out (ap (turn_at client) second) long front) in
@@ -107,8 +108,8 @@ has_room-requires c = let a = c.args in
     let g = c.read_one-one in
     let f = c.read_front-front in
     let same = subst (OneByteSays reads a.session.reading k x o g.new.input) c.in_default-one.is g.ensures in
-    let front = sym f.ensures.front ∙ ap continued_said c.in-Whole.is in
-    let input = f.ensures.input ∙ ap (λ r. input_behind (continued_said r) k x g.new.input) c.in-Whole.is in
+    let front = sym f.ensures.front ∙ ap continued_said (c.in-Ok-Whole.is ∙ ap Ok (rw c.in-Ok-Whole.is at c.in-Ok-Whole.field-0-is)) in
+    let input = f.ensures.input ∙ ap (λ r. input_behind (continued_said r) k x g.new.input) (c.in-Ok-Whole.is ∙ ap Ok (rw c.in-Ok-Whole.is at c.in-Ok-Whole.field-0-is)) in
     let i = f.new.input in
     let long : 8192 ≤ length o = omega (arith, c.read_one-arg-1.given) in
     (front, subst (λ i. 8192 ≤ length i) (sym (input ∙ same)) long)
@@ -125,7 +126,7 @@ returns-then-not-has_room c = let a = c.args in
     let g = c.read_one-one in
     let f = c.read_front-front in
     let same = subst (OneByteSays reads a.session.reading k x o g.new.input) c.in_default-one.is g.ensures in
-    let input = f.ensures.input ∙ ap (λ r. input_behind (continued_said r) k x g.new.input) c.in-Whole.is in
+    let input = f.ensures.input ∙ ap (λ r. input_behind (continued_said r) k x g.new.input) (c.in-Ok-Whole.is ∙ ap Ok (rw c.in-Ok-Whole.is at c.in-Ok-Whole.field-0-is)) in
     let i = f.new.input in
     let e = c.leave-then-not-has_room.ensures.outcome client xs hs i in
     record {
@@ -148,8 +149,8 @@ receive_held-requires c = let a = c.args in
     let g = c.read_one-one in
     let f = c.read_front-front in
     let same = subst (OneByteSays reads a.session.reading k x o g.new.input) c.in_default-one.is g.ensures in
-    let front = sym f.ensures.front ∙ ap continued_said c.in-Whole.is in
-    let input = f.ensures.input ∙ ap (λ r. input_behind (continued_said r) k x g.new.input) c.in-Whole.is in
+    let front = sym f.ensures.front ∙ ap continued_said (c.in-Ok-Whole.is ∙ ap Ok (rw c.in-Ok-Whole.is at c.in-Ok-Whole.field-0-is)) in
+    let input = f.ensures.input ∙ ap (λ r. input_behind (continued_said r) k x g.new.input) (c.in-Ok-Whole.is ∙ ap Ok (rw c.in-Ok-Whole.is at c.in-Ok-Whole.field-0-is)) in
     let i = f.new.input in
     let long : 16384 ≤ length o = omega (arith, c.read_one-arg-1.given) in
     record {
@@ -169,7 +170,7 @@ returns c = let a = c.args in
     let g = c.read_one-one in
     let f = c.read_front-front in
     let same = subst (OneByteSays reads a.session.reading k x o g.new.input) c.in_default-one.is g.ensures in
-    let input = f.ensures.input ∙ ap (λ r. input_behind (continued_said r) k x g.new.input) c.in-Whole.is in
+    let input = f.ensures.input ∙ ap (λ r. input_behind (continued_said r) k x g.new.input) (c.in-Ok-Whole.is ∙ ap Ok (rw c.in-Ok-Whole.is at c.in-Ok-Whole.field-0-is)) in
     let i = f.new.input in
     let h = c.receive_held in
     let m = h.new in

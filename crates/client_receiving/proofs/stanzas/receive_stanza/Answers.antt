@@ -23,7 +23,7 @@ returns c = let a = c.args in
     let t = tables_in s.tables a.slots.now hs in
     let b = buffers_of a.errors.now a.stanzas.now a.returned.now in
     let l = c.arguments_of-line.result.now in
-    let y = body_of c.lines_of-source.result.now in
+    let y = body_of c.lines_of.result.now in
     let e = c.step_two-step.ensures in
     record {
       outcome = rw c.moved.ensures
@@ -31,6 +31,6 @@ returns c = let a = c.args in
           (command_said c.parse_two-command.result) (verdict_said c.rule_two-ruled.result) (at_once_said c.answer_at_once-at_once.result) c.at_once_size-size.result (verdict_said c.check_output-late.result) (verdict_said c.step_two-step.result.verdict) (taking_said c.answer_to-answer.result) c.phase_received_two-phase.result _ _ _
           (c.parse_two-command.ensures ∙ ap (command_of s.machine l) c.body_size-n.ensures.0) c.rule_two-ruled.ensures c.answer_at_once-at_once.ensures c.at_once_size-size.ensures c.check_output-late.ensures
           (e.number hs) c.answer_to-answer.ensures c.phase_received_two-phase.ensures (rw (e.number hs) (e.tables hs)) (rw (e.number hs) (e.buffers hs)) c.write_answer.ensures
-          ∙ ap₂ (λ l y. received_stanza (session_of s a.slots.now hs) b a.out.now l y a.s.taken) c.arguments_of-line.ensures (ap body_of c.lines_of-source.ensures));
+          ∙ ap₂ (λ l y. received_stanza (session_of s a.slots.now hs) b a.out.now l y a.s.taken) c.arguments_of-line.ensures (ap body_of c.lines_of.ensures));
       carried = ap carried_by c.moved.ensures;
     }

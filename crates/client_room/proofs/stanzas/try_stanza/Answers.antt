@@ -20,8 +20,8 @@ returns c = record {
       let hs = a.header_slots.now in
       let t = tables_in s.tables a.slots.now hs in
       let l = c.arguments_of-line.result.now in
-      let y = body_of c.lines_of-source.result.now in
-      rw (c.moved.ensures, sym c.arguments_of-line.ensures, sym c.lines_of-source.ensures)
+      let y = body_of c.lines_of.result.now in
+      rw (c.moved.ensures, sym c.arguments_of-line.ensures, sym c.lines_of.ensures)
       (tried s.machine (name_of s.name) s.screen s.phase t b l y a.s.taken (command_said c.parse_two-command.result) (verdict_said c.rule_two-ruled.result)
       (at_once_said c.answer_at_once-at_once.result) c.at_once_size-size.result (verdict_said c.enter_two-step.result.verdict) (taking_said c.answer_to-answer.result) c.phase_received_two-phase.result _
       (c.parse_two-command.ensures ∙ ap (command_of s.machine l) c.body_size-n.ensures.0) c.rule_two-ruled.ensures c.answer_at_once-at_once.ensures c.at_once_size-size.ensures

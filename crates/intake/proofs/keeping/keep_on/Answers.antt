@@ -6,7 +6,7 @@ use lib.ListN.{length, take, drop, length-append}
 use lib.Seq.{length-take-le}
 use native.Mathlib.Omega.{arith}
 use Rattle.refusal.specs.Output.{filled}
-use Rattle.std.specs.Prelude.{Ok}
+use Rattle.std.specs.Prelude.{None, Ok}
 use Rattle.stanza.specs.Resuming.{place_said}
 use Rattle.session.specs.Session.{session_of}
 use Rattle.chunks.specs.Chunks.{taken}
@@ -14,7 +14,6 @@ use Rattle.chunks.specs.Taking.{no_more, keeping}
 use Rattle.chunks.proofs.Laws.Taking.{turn_reads}
 use Rattle.intake.specs.Intake.{intake_of}
 use Rattle.intake.specs.Settling.{Says}
-use Rattle.intake.specs.declared.answers.Last.TheVariants.{Nothing}
 use Rattle.intake.specs.declared.answers.Received.{Received as CodeReceived}
 use Rattle.intake.proofs.Laws.Fronts.{chunk_goes_on, silent_answer}
 use Rattle.intake.proofs.Laws.Keeping.{part_behind, front_back}
@@ -26,7 +25,7 @@ returns c = let a = c.args in
     let k = min a.session.kept 8191 in
     let p = a.chunk.now in
     let n = c.kept_of-kept.result in
-    let r : CodeReceived = record { verdict = Ok tt; count = 0; last = Nothing; written = 0; session = c.keeping.result } in
+    let r : CodeReceived = record { verdict = Ok tt; count = 0; last = None; written = 0; session = c.keeping.result } in
     let kept : n ≡ k = c.kept_of-kept.ensures in
     record {
       outcome = (λ e xs hs o b out t m h.

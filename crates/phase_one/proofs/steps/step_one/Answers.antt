@@ -13,7 +13,7 @@ use Rattle.phase_one.proofs.steps.step_one.Goals as goal
 
 pub returns-in-Ok-Recipient : goal.returns-in-Ok-Recipient
 returns-in-Ok-Recipient c = let a = c.args in
-    let y = body_from a.coding a.source.now in
+    let y = body_from a.body in
     let t = tables_in a.tables a.slots.now a.header_slots.now in
     let b = buffers_of a.recipients.now a.identities.now a.keys.now a.headers.now in
     let e = rw c.body_size-n.ensures.0 at (c.parse_one-command.ensures a.plugin.now) in
@@ -29,7 +29,7 @@ returns-in-Ok-Recipient c = let a = c.args in
 
 pub returns-in-Ok-Identity : goal.returns-in-Ok-Identity
 returns-in-Ok-Identity c = let a = c.args in
-    let y = body_from a.coding a.source.now in
+    let y = body_from a.body in
     let t = tables_in a.tables a.slots.now a.header_slots.now in
     let b = buffers_of a.recipients.now a.identities.now a.keys.now a.headers.now in
     let e = rw c.body_size-n.ensures.0 at (c.parse_one-command.ensures a.plugin.now) in
@@ -45,7 +45,7 @@ returns-in-Ok-Identity c = let a = c.args in
 
 pub returns-in-Ok-Key : goal.returns-in-Ok-Key
 returns-in-Ok-Key c = let a = c.args in
-    let y = body_from a.coding a.source.now in
+    let y = body_from a.body in
     let t = tables_in a.tables a.slots.now a.header_slots.now in
     let b = buffers_of a.recipients.now a.identities.now a.keys.now a.headers.now in
     let e = rw c.body_size-n.ensures.0 at (c.parse_one-command.ensures a.plugin.now) in
@@ -61,7 +61,7 @@ returns-in-Ok-Key c = let a = c.args in
 
 pub returns-in-Ok-Header : goal.returns-in-Ok-Header
 returns-in-Ok-Header c = let a = c.args in
-    let y = body_from a.coding a.source.now in
+    let y = body_from a.body in
     let t = tables_in a.tables a.slots.now a.header_slots.now in
     let b = buffers_of a.recipients.now a.identities.now a.keys.now a.headers.now in
     let e = rw c.body_size-n.ensures.0 at (c.parse_one-command.ensures a.plugin.now) in

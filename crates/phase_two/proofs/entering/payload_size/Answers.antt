@@ -6,7 +6,7 @@ use Rattle.phase_two.proofs.entering.payload_size.Goals as goal
 
 pub returns-in-Ok-Stanza : goal.returns-in-Ok-Stanza
 returns-in-Ok-Stanza c = let a = c.args in
-    rw (c.in-Ok-Stanza.is, rw c.in-Ok-Stanza.is at c.in-Ok-Stanza.field-0-is, c.rest_of-rest.ensures, c.body_size.ensures.0) (lines_length (rest_of a.line.now) (body_from a.coding a.source.now))
+    rw (c.in-Ok-Stanza.is, rw c.in-Ok-Stanza.is at c.in-Ok-Stanza.field-0-is, c.rest_of-rest.ensures, c.body_size.ensures.0) (lines_length (rest_of a.line.now) (body_from a.body))
 
 pub returns-in-Ok-Key : goal.returns-in-Ok-Key
 returns-in-Ok-Key c = rw (c.in-Ok-Key.is, rw c.in-Ok-Key.is at c.in-Ok-Key.field-0-is) c.body_size-in-Ok-Key.ensures.0

@@ -16,7 +16,7 @@ use Rattle.phase_two.proofs.steps.keep.Goals as goal
 pub returns-in-Ok-Stanza : goal.returns-in-Ok-Stanza
 returns-in-Ok-Stanza c = let a = c.args in
     let b = buffers_of a.errors.now a.stanzas.now a.returned.now in
-    let y = body_from a.coding a.source.now in
+    let y = body_from a.body in
     let z = c.keep_stanza-stored.ensures in
     record {
       number = rw (c.in-Ok-Stanza.is, rw c.in-Ok-Stanza.is at c.in-Ok-Stanza.field-0-is, c.stepped.ensures) ((λ hs. (step_stanza (tables_in a.tables a.slots.now hs) b (rest_of a.line.now ++ 10 ∷ y) (verdict_said a.late) c.in-Ok-Stanza.file _ _ _ z.number z.table z.buffer).0));
@@ -27,7 +27,7 @@ returns-in-Ok-Stanza c = let a = c.args in
 pub returns-in-Ok-Key : goal.returns-in-Ok-Key
 returns-in-Ok-Key c = let a = c.args in
     let b = buffers_of a.errors.now a.stanzas.now a.returned.now in
-    let y = body_from a.coding a.source.now in
+    let y = body_from a.body in
     let z = c.keep_key-stored.ensures in
     record {
       number = rw (c.in-Ok-Key.is, rw c.in-Ok-Key.is at c.in-Ok-Key.field-0-is, c.stepped-in-Ok-Key.ensures) ((λ hs. (step_key (tables_in a.tables a.slots.now hs) b y (verdict_said a.late) c.in-Ok-Key.file _ _ _ z.number z.table z.buffer).0));
@@ -38,7 +38,7 @@ returns-in-Ok-Key c = let a = c.args in
 pub returns-in-Ok-Error : goal.returns-in-Ok-Error
 returns-in-Ok-Error c = let a = c.args in
     let b = buffers_of a.errors.now a.stanzas.now a.returned.now in
-    let y = body_from a.coding a.source.now in
+    let y = body_from a.body in
     let z = c.keep_error-stored.ensures in
     record {
       number = rw (c.in-Ok-Error.is, rw c.in-Ok-Error.is at c.in-Ok-Error.field-0-is, c.stepped-in-Ok-Error.ensures) ((λ hs. (step_error (tables_in a.tables a.slots.now hs) b y (verdict_said a.late) (named_said c.in-Ok-Error.named) _ _ _ z.number z.table z.buffer).0));

@@ -14,9 +14,9 @@ pub returns-in-Err : goal.returns-in-Err
 returns-in-Err c = let a = c.args in
     let b = buffers_of a.errors.now a.stanzas.now a.returned.now in
     record {
-      number = rw c.in-Err.is ((λ hs. (step_ruled (tables_in a.tables a.slots.now hs) b (payload_of (command_said a.command) a.line.now (body_from a.coding a.source.now)) (verdict_said a.late) (number_of c.in-Err.field-0) (command_said a.command) (number_not_zero c.in-Err.field-0)).0));
-      tables = rw c.in-Err.is ((λ hs. (step_ruled (tables_in a.tables a.slots.now hs) b (payload_of (command_said a.command) a.line.now (body_from a.coding a.source.now)) (verdict_said a.late) (number_of c.in-Err.field-0) (command_said a.command) (number_not_zero c.in-Err.field-0)).1.0));
-      buffers = rw c.in-Err.is ((λ hs. (step_ruled (tables_in a.tables a.slots.now hs) b (payload_of (command_said a.command) a.line.now (body_from a.coding a.source.now)) (verdict_said a.late) (number_of c.in-Err.field-0) (command_said a.command) (number_not_zero c.in-Err.field-0)).1.1));
+      number = rw c.in-Err.is ((λ hs. (step_ruled (tables_in a.tables a.slots.now hs) b (payload_of (command_said a.command) a.line.now (body_from a.body)) (verdict_said a.late) (number_of c.in-Err.field-0) (command_said a.command) (number_not_zero c.in-Err.field-0)).0));
+      tables = rw c.in-Err.is ((λ hs. (step_ruled (tables_in a.tables a.slots.now hs) b (payload_of (command_said a.command) a.line.now (body_from a.body)) (verdict_said a.late) (number_of c.in-Err.field-0) (command_said a.command) (number_not_zero c.in-Err.field-0)).1.0));
+      buffers = rw c.in-Err.is ((λ hs. (step_ruled (tables_in a.tables a.slots.now hs) b (payload_of (command_said a.command) a.line.now (body_from a.body)) (verdict_said a.late) (number_of c.in-Err.field-0) (command_said a.command) (number_not_zero c.in-Err.field-0)).1.1));
     }
 
 pub returns-in-Ok : goal.returns-in-Ok

@@ -2,6 +2,7 @@
 use Prim.Native.Nat.{◌≤◌, min}
 use mathlib.Core.Path.{refl, sym, ap, subst, ◌∙◌}
 use mathlib.Core.List.{[]}
+use Rattle.std.specs.Prelude.{Ok}
 use lib.ListN.{length}
 use native.Mathlib.Omega.{arith}
 use Rattle.refusal.specs.Number.{number_of}
@@ -42,8 +43,8 @@ returns-in-Some c = let a = c.args in
       name = c.keep_on.ensures.name;
     }
 
-pub returns-in-Unfinished : goal.returns-in-Unfinished
-returns-in-Unfinished c = let a = c.args in
+pub returns-in-Ok-Unfinished : goal.returns-in-Ok-Unfinished
+returns-in-Ok-Unfinished c = let a = c.args in
     let x = a.chunk.now in
     let o = a.input.now in
     let k = min a.session.kept 8191 in
@@ -51,20 +52,20 @@ returns-in-Unfinished c = let a = c.args in
     let u = c.turn_plugin-turn in
     let f = c.read_front-front in
     let same = subst (OneByteSays (turn_said u.result) a.session.reading k x o g.new.input) c.in_default.is g.ensures in
-    let front = sym f.ensures.front ∙ ap continued_said c.in-Unfinished.is in
-    let input = f.ensures.input ∙ ap (λ r. input_behind (continued_said r) k x g.new.input) c.in-Unfinished.is in
+    let front = sym f.ensures.front ∙ ap continued_said (c.in-Ok-Unfinished.is ∙ ap Ok (rw c.in-Ok-Unfinished.is at c.in-Ok-Unfinished.field-0-is)) in
+    let input = f.ensures.input ∙ ap (λ r. input_behind (continued_said r) k x g.new.input) (c.in-Ok-Unfinished.is ∙ ap Ok (rw c.in-Ok-Unfinished.is at c.in-Ok-Unfinished.field-0-is)) in
     let long : 8192 ≤ length o = omega (arith, c.read_one-arg-1.given) in
-    let r = reading_on a.session.reading k x (turn_said u.result) (unfinished (place_said c.in-Unfinished.place)) front (not_unfinished a.session.reading k x (place_said c.in-Unfinished.place)) in
-    let after = input ∙ ap (input_behind (unfinished (place_said c.in-Unfinished.place)) k x) same in
-    let answered : (d : two.BuffersTwo) → Answered plugin a.session x c.keep_on-in-Unfinished.result a.slots.now a.header_slots.now o f.new.input (buffers_of (one.buffers_of a.recipients.now a.identities.now a.keys.now a.headers.now) d) a.out.now = λ d. subst (λ i. Answered plugin a.session x c.keep_on-in-Unfinished.result a.slots.now a.header_slots.now o i (buffers_of (one.buffers_of a.recipients.now a.identities.now a.keys.now a.headers.now) d) a.out.now) (sym after) (c.keep_on-in-Unfinished.ensures.outcome plugin a.slots.now a.header_slots.now o (buffers_of (one.buffers_of a.recipients.now a.identities.now a.keys.now a.headers.now) d) a.out.now (sym u.ensures ∙ r.0) long r.1) in
+    let r = reading_on a.session.reading k x (turn_said u.result) (unfinished (place_said c.in-Ok-Unfinished.place)) front (not_unfinished a.session.reading k x (place_said c.in-Ok-Unfinished.place)) in
+    let after = input ∙ ap (input_behind (unfinished (place_said c.in-Ok-Unfinished.place)) k x) same in
+    let answered : (d : two.BuffersTwo) → Answered plugin a.session x c.keep_on-in-Ok-Unfinished.result a.slots.now a.header_slots.now o f.new.input (buffers_of (one.buffers_of a.recipients.now a.identities.now a.keys.now a.headers.now) d) a.out.now = λ d. subst (λ i. Answered plugin a.session x c.keep_on-in-Ok-Unfinished.result a.slots.now a.header_slots.now o i (buffers_of (one.buffers_of a.recipients.now a.identities.now a.keys.now a.headers.now) d) a.out.now) (sym after) (c.keep_on-in-Ok-Unfinished.ensures.outcome plugin a.slots.now a.header_slots.now o (buffers_of (one.buffers_of a.recipients.now a.identities.now a.keys.now a.headers.now) d) a.out.now (sym u.ensures ∙ r.0) long r.1) in
     record {
       outcome = λ d. (answered d).outcome;
       stored = (answered none).input;
-      name = c.keep_on-in-Unfinished.ensures.name;
+      name = c.keep_on-in-Ok-Unfinished.ensures.name;
     }
 
-pub returns-in-Refused : goal.returns-in-Refused
-returns-in-Refused c = let a = c.args in
+pub returns-in-Err : goal.returns-in-Err
+returns-in-Err c = let a = c.args in
     let x = a.chunk.now in
     let o = a.input.now in
     let k = min a.session.kept 8191 in
@@ -72,10 +73,10 @@ returns-in-Refused c = let a = c.args in
     let u = c.turn_plugin-turn in
     let f = c.read_front-front in
     let same = subst (OneByteSays (turn_said u.result) a.session.reading k x o g.new.input) c.in_default.is g.ensures in
-    let front = sym f.ensures.front ∙ ap continued_said c.in-Refused.is in
-    let input = f.ensures.input ∙ ap (λ r. input_behind (continued_said r) k x g.new.input) c.in-Refused.is in
+    let front = sym f.ensures.front ∙ ap continued_said c.in-Err.is in
+    let input = f.ensures.input ∙ ap (λ r. input_behind (continued_said r) k x g.new.input) c.in-Err.is in
     let long : 8192 ≤ length o = omega (arith, c.read_one-arg-1.given) in
-    let r = reading_on a.session.reading k x (turn_said u.result) (resuming.refused (number_of c.in-Refused.r)) front (not_refused a.session.reading k x (number_of c.in-Refused.r)) in
+    let r = reading_on a.session.reading k x (turn_said u.result) (resuming.refused (number_of c.in-Err.r)) front (not_refused a.session.reading k x (number_of c.in-Err.r)) in
     let after = input ∙ same in
     let answered : (d : two.BuffersTwo) → Answered plugin a.session x c.close.result a.slots.now a.header_slots.now o f.new.input (buffers_of (one.buffers_of a.recipients.now a.identities.now a.keys.now a.headers.now) d) a.out.now = λ d. subst (λ i. Answered plugin a.session x c.close.result a.slots.now a.header_slots.now o i (buffers_of (one.buffers_of a.recipients.now a.identities.now a.keys.now a.headers.now) d) a.out.now) (sym after) (c.close.ensures.outcome plugin a.slots.now a.header_slots.now o x (buffers_of (one.buffers_of a.recipients.now a.identities.now a.keys.now a.headers.now) d) a.out.now (sym u.ensures ∙ r.0) long r.1) in
     record {
@@ -90,7 +91,7 @@ receive_commands-requires c = let a = c.args in
     let k = min a.session.kept 8191 in
     let u = c.turn_plugin-turn in
     let f = c.read_front-front in
-    let front = sym f.ensures.front ∙ ap continued_said c.in-Whole.is in
+    let front = sym f.ensures.front ∙ ap continued_said (c.in-Ok-Whole.is ∙ ap Ok (rw c.in-Ok-Whole.is at c.in-Ok-Whole.field-0-is)) in
     let one = c.in-One.is in
     record {
       phase_value = one;
@@ -103,7 +104,7 @@ receive_due-requires c = let a = c.args in
     let k = min a.session.kept 8191 in
     let u = c.turn_plugin-turn in
     let f = c.read_front-front in
-    let front = sym f.ensures.front ∙ ap continued_said c.in-Whole.is in
+    let front = sym f.ensures.front ∙ ap continued_said (c.in-Ok-Whole.is ∙ ap Ok (rw c.in-Ok-Whole.is at c.in-Ok-Whole.field-0-is)) in
     let due = c.in-Awaiting.is in
     record {
       phase_value = due;
@@ -120,7 +121,7 @@ returns-in-One c = let a = c.args in
     let u = c.turn_plugin-turn in
     let f = c.read_front-front in
     let same = subst (OneByteSays (turn_said u.result) a.session.reading k x o g.new.input) c.in_default.is g.ensures in
-    let input = f.ensures.input ∙ ap (λ r. input_behind (continued_said r) k x g.new.input) c.in-Whole.is in
+    let input = f.ensures.input ∙ ap (λ r. input_behind (continued_said r) k x g.new.input) (c.in-Ok-Whole.is ∙ ap Ok (rw c.in-Ok-Whole.is at c.in-Ok-Whole.field-0-is)) in
     let e = c.receive_commands.ensures in
     let r = c.receive_commands.result in
     let m = c.receive_commands.new in
@@ -140,7 +141,7 @@ returns-in-Two c = let a = c.args in
     let u = c.turn_plugin-turn in
     let f = c.read_front-front in
     let same = subst (OneByteSays (turn_said u.result) a.session.reading k x o g.new.input) c.in_default.is g.ensures in
-    let input = f.ensures.input ∙ ap (λ r. input_behind (continued_said r) k x g.new.input) c.in-Whole.is in
+    let input = f.ensures.input ∙ ap (λ r. input_behind (continued_said r) k x g.new.input) (c.in-Ok-Whole.is ∙ ap Ok (rw c.in-Ok-Whole.is at c.in-Ok-Whole.field-0-is)) in
     let e = c.drop_chunk.ensures in
     let r = c.drop_chunk.result in
     let says : (d : two.BuffersTwo) → Says plugin r a.slots.now a.header_slots.now o f.new.input [] (buffers_of (one.buffers_of a.recipients.now a.identities.now a.keys.now a.headers.now) d) (taken plugin (intake_of plugin a.session a.slots.now a.header_slots.now o) (buffers_of (one.buffers_of a.recipients.now a.identities.now a.keys.now a.headers.now) d) x) = λ d. subst (λ i. Says plugin r a.slots.now a.header_slots.now i f.new.input [] (buffers_of (one.buffers_of a.recipients.now a.identities.now a.keys.now a.headers.now) d) (taken plugin (intake_of plugin a.session a.slots.now a.header_slots.now i) (buffers_of (one.buffers_of a.recipients.now a.identities.now a.keys.now a.headers.now) d) x)) (input ∙ same) (e.outcome a.slots.now a.header_slots.now (buffers_of (one.buffers_of a.recipients.now a.identities.now a.keys.now a.headers.now) d)) in
@@ -159,7 +160,7 @@ returns-in-Awaiting c = let a = c.args in
     let u = c.turn_plugin-turn in
     let f = c.read_front-front in
     let same = subst (OneByteSays (turn_said u.result) a.session.reading k x o g.new.input) c.in_default.is g.ensures in
-    let input = f.ensures.input ∙ ap (λ r. input_behind (continued_said r) k x g.new.input) c.in-Whole.is in
+    let input = f.ensures.input ∙ ap (λ r. input_behind (continued_said r) k x g.new.input) (c.in-Ok-Whole.is ∙ ap Ok (rw c.in-Ok-Whole.is at c.in-Ok-Whole.field-0-is)) in
     let e = c.receive_due.ensures in
     let r = c.receive_due.result in
     let xs = a.slots.now in
@@ -181,7 +182,7 @@ returns-in-Ended c = let a = c.args in
     let u = c.turn_plugin-turn in
     let f = c.read_front-front in
     let same = subst (OneByteSays (turn_said u.result) a.session.reading k x o g.new.input) c.in_default.is g.ensures in
-    let input = f.ensures.input ∙ ap (λ r. input_behind (continued_said r) k x g.new.input) c.in-Whole.is in
+    let input = f.ensures.input ∙ ap (λ r. input_behind (continued_said r) k x g.new.input) (c.in-Ok-Whole.is ∙ ap Ok (rw c.in-Ok-Whole.is at c.in-Ok-Whole.field-0-is)) in
     let e = c.leave.ensures in
     let xs = a.slots.now in
     let hs = a.header_slots.now in
@@ -205,7 +206,7 @@ returns-in-Closed c = let a = c.args in
     let u = c.turn_plugin-turn in
     let f = c.read_front-front in
     let same = subst (OneByteSays (turn_said u.result) a.session.reading k x o g.new.input) c.in_default.is g.ensures in
-    let input = f.ensures.input ∙ ap (λ r. input_behind (continued_said r) k x g.new.input) c.in-Whole.is in
+    let input = f.ensures.input ∙ ap (λ r. input_behind (continued_said r) k x g.new.input) (c.in-Ok-Whole.is ∙ ap Ok (rw c.in-Ok-Whole.is at c.in-Ok-Whole.field-0-is)) in
     let e = c.leave-in-Closed.ensures in
     let xs = a.slots.now in
     let hs = a.header_slots.now in

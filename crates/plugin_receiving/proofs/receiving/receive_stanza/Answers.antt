@@ -6,7 +6,7 @@ use lib.ListN.{length}
 use Rattle.refusal.specs.Verdict.{verdict_said}
 use Rattle.stanza.specs.Parts.{arguments_in, body_in}
 use Rattle.tables.specs.Bodies.{body_from}
-use Rattle.tables.specs.declared.copying.Coding.TheVariants.{Lines}
+use Rattle.tables.specs.declared.copying.Body.TheVariants.{Lines}
 use Rattle.session.specs.Opening.{name_of}
 use Rattle.session.specs.Tables.{tables_in}
 use Rattle.phase_one.specs.Commands.{command_said}
@@ -20,7 +20,7 @@ returns c = let a = c.args in
     let text = a.text.now in
     let name = c.front.result.now in
     let line = c.arguments_of.result.now in
-    let body = body_from Lines c.lines_of.result.now in
+    let body = body_from (Lines c.lines_of.result) in
     let step = c.step_one-step in
     let e = step.ensures in
     let n = length body in

@@ -8,5 +8,5 @@ use Rattle.tables.proofs.copying.body_size.Goals as goal
 
 pub returns-in-Lines : goal.returns-in-Lines
 returns-in-Lines c = let e = c.body_length.ensures in
-    let s = c.args.source.now in
+    let s = c.in-Lines.source.now in
     rw c.in-Lines.is (e ∙ sym (body_length s), subst (λ k. k ≤ length s) (sym e) (body_less (length s)))

@@ -9,4 +9,4 @@ use Rattle.tables.proofs.copying.put_lines.Goals as goal
 
 pub returns : goal.returns
 returns c = let f : length c.args.line.now ≤ length c.args.out.now = omega (arith, c.requires) in
-    parts_joined c.args.line.now (body_from c.args.coding c.args.source.now) c.copy.new.out c.args.out.now c.put_body.new.out 10 (rw (le-ltb _ _ f) at c.copy.ensures) (omega (arith, c.requires)) c.put_body.ensures
+    parts_joined c.args.line.now (body_from c.args.body) c.copy.new.out c.args.out.now c.put_body.new.out 10 (rw (le-ltb _ _ f) at c.copy.ensures) (omega (arith, c.requires)) c.put_body.ensures
