@@ -32,9 +32,9 @@ fn put_command(line: &[u8], out: &mut [u8])
     ensures { out.new ≡ command_of line.now ++ drop (length line.now + 18) out.old }
 {
     let end = 16 + line.len();
-    out[..16].copy_from_slice(&FRONT);
-    out[16..end].copy_from_slice(line);
-    out[end..end + 2].copy_from_slice(&BACK);
+    stanza::copy(&FRONT, out);
+    stanza::copy(line, &mut out[16..]);
+    stanza::copy(&BACK, &mut out[end..]);
 }
 
 // The commands of the places at the front of `out`, which is long enough, and where they end.
