@@ -32,9 +32,10 @@ fn put_command(line: &[u8], out: &mut [u8])
     ensures { out.new ≡ command_of line.now ++ drop (length line.now + 18) out.old }
 {
     let end = 16 + line.len();
-    stanza::copy(&FRONT, out);
-    stanza::copy(line, &mut out[16..]);
-    stanza::copy(&BACK, &mut out[end..]);
+    out[..16].copy_from_slice(&FRONT);
+    // Of any length, and so by `copy`: `copy_from_slice` needs `memmove` there.
+    stanza::copy(line, &mut out[16..end]);
+    out[end..end + 2].copy_from_slice(&BACK);
 }
 
 // The commands of the places at the front of `out`, which is long enough, and where they end.
