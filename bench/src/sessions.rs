@@ -9,10 +9,18 @@ use reference::replay;
 use std::fs::{self, File};
 use std::hint::black_box;
 
-/// The replay program and two functions of it: `MAKE_CALL` makes the call of a line; `FIND_WORD` tells a script's words, within it too.
+/// The replay program and functions of it: `MAKE_CALL` makes the call of a line; those of `FIND_WORD` tell a script's words, within it too.
 const REPLAY: &str = "crates/replay/out/replay";
 const MAKE_CALL: &str = "replay::turns::make_call";
-const FIND_WORD: &str = "script::choices::find_word";
+const FIND_WORD: [&str; 7] = [
+    "script::calls::choose_call",
+    "script::choices::choose_end",
+    "script::choices::choose_screen",
+    "script::choices::choose_kind",
+    "script::choices::choose_command",
+    "script::choices::choose_command_two",
+    "script::choices::choose_reply",
+];
 
 /// What the plugin end does with a chunk.
 const RECEIVE: &str = "plugin_receiving::phases::receive";
@@ -30,7 +38,7 @@ const SETTINGS: [(&str, &str); 2] = [
 /// Prints a line for each row.
 pub fn report() {
     let program = fs::read(REPLAY).expect("the replay program");
-    for name in [MAKE_CALL, FIND_WORD, RECEIVE] {
+    for name in [&[MAKE_CALL, RECEIVE], &FIND_WORD[..]].concat() {
         assert!(program.windows(name.len()).any(|part| part == name.as_bytes()), "{REPLAY} has {name}");
     }
     println!("Instructions of a session's call; of several calls one behind the other, the mean. The library's are counted in the replay program");
@@ -99,7 +107,7 @@ fn library(row: &Row) -> f64 {
     if row.alone {
         return more(&[RECEIVE], "#\n".to_owned() + &lines(before), &lines(measured), "ok") as f64 / row.times as f64;
     }
-    let functions = [MAKE_CALL, FIND_WORD];
+    let functions = [&[MAKE_CALL], &FIND_WORD[..]].concat();
     let with = more(&functions, "#\n".to_owned() + &lines(before), &lines(measured), "ok");
     let without = match measured[0] {
         Call::Open { .. } => more(&functions, lines(measured), &buffers_line(), "ok"),

@@ -121,7 +121,8 @@ impl TextKind {
     }
 }
 
-// The name in a human part of the kind, in lower case.
+// The name in a human part of the kind, in lower case. Not inlined: a line that is refused before it does not pay for it.
+#[inline(never)]
 pub(crate) fn name_in(kind: TextKind, human: &[u8]) -> Option<Name>
     ensures { IsGiven result (name_or (form_of kind) (map lower human.now)) }
 {

@@ -255,7 +255,8 @@ pub fn judge(kind: TextKind, text: &[u8]) -> Result<(), Refusal>
     if text.name(kind).is_none() {
         return Err(Refusal::Malformed);
     }
-    text.judge_tail(&values())
+    let table = values();
+    text.judge_tail(&table)
 }
 
 // The mark of a text of the kind for a plugin's name, in either case: 16 where it has no human part of that name; else what the reader says.
@@ -269,5 +270,6 @@ pub fn mark(kind: TextKind, text: &[u8], plugin: &[u8]) -> Result<(), Refusal>
     if !is_lowered(plugin, &name.bytes[..name.length]) {
         return Err(Refusal::Malformed);
     }
-    text.judge_tail(&values())
+    let table = values();
+    text.judge_tail(&table)
 }

@@ -33,7 +33,8 @@ fn put_command(line: &[u8], out: &mut [u8])
 {
     let end = 16 + line.len();
     out[..16].copy_from_slice(&FRONT);
-    out[16..end].copy_from_slice(line);
+    // Of any length, and so by `copy`: `copy_from_slice` needs `memmove` there.
+    stanza::copy(line, &mut out[16..end]);
     out[end..end + 2].copy_from_slice(&BACK);
 }
 

@@ -10,3 +10,4 @@ pub use plugin_sending::{Sent, send};
 pub use refusal::{Refusal, number};
 pub use responses::Response;
 pub use session::{Kind, Mark, Opening, Phase, Session, WordTwo, front};
+pub use tables::Entry;

@@ -13,7 +13,8 @@ use replay_lines::{
 use responses::Response;
 use session::WordTwo;
 
-// Makes the call of a line.
+// Makes the call of a line. Not inlined: bench/ counts in it, by its name.
+#[inline(never)]
 pub fn make_call<'a>(
     words: &Words,
     host: &mut Option<Open>,

@@ -13,4 +13,4 @@ pub use failure::Failure;
 pub use lengths::Lengths;
 pub use parts::{append, front, front_mut, part};
 pub use requests::{Look, Opened, Request, SessionCall, read_request};
-pub use words::{Line, Words, read_line};
+pub use words::{LONGEST, Line, Words, read_line};

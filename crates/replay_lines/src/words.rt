@@ -3,7 +3,7 @@ use crate::failure::Failure;
 use crate::parts::part;
 
 // The longest line that is a call, without its LF, and the length of the longest buffer that a line lends.
-const LONGEST: usize = 65536;
+pub const LONGEST: u64 = 65536;
 
 // No call has more words.
 const MOST: usize = 16;
@@ -37,7 +37,7 @@ pub fn read_line<'a>(line: &[u8], text: &'a mut [u8; 65536]) -> Line<'a> {
     if line.is_empty() || line[0] == b'#' {
         return Line::Skipped;
     }
-    if LONGEST < line.len() {
+    if LONGEST < line.len() as u64 {
         return Line::Bad;
     }
     match read_words(line, text) {
@@ -136,6 +136,6 @@ impl<'a> Words<'a> {
 }
 
 fn read_length(word: &[u8]) -> Result<usize, Failure> {
-    let n = script::read_number(word, LONGEST as u64).ok_or(Failure::BadLine)?;
+    let n = script::read_number(word, LONGEST).ok_or(Failure::BadLine)?;
     Ok(n as usize)
 }

@@ -90,8 +90,8 @@ some_digit v = pick (ltb v 16) (Some v) None
 abbrev pub state_said : State → ℕ
 state_said state_is.Plain = 0
 state_said state_is.Escape = 1
-state_said state_is.Hex = 2
-state_said (state_is.Digit v) = 16 + v
+state_said (state_is.Hex None) = 2
+state_said (state_is.Hex (Some v)) = 16 + v
 
 -- .. of a step
 abbrev pub step_said : Option Step → Effect

@@ -54,7 +54,8 @@ const CALLS: [(&[u8], Call); 20] = [
     (b"identity-file", Call::IdentityFile),
 ];
 
-// The call of a first word that has been read, if it is one.
+// The call of a first word that has been read, if it is one. Not inlined: bench/ knows it by name.
+#[inline(never)]
 pub fn choose_call(word: &[u8]) -> Option<Call>
     ensures { call_said result ≡ place word.now call_words }
 {

@@ -113,7 +113,8 @@ pub(crate) fn choose<T: Copy>(word: &[u8], choices: &[(&[u8], T)]) -> Option<T>
     None
 }
 
-// The end that a word names.
+// The end that a word names. Neither it nor the five below are inlined: bench/ knows them by name, and leaves them out of what it counts.
+#[inline(never)]
 pub fn choose_end(word: &[u8]) -> Option<EndChoice>
     ensures { end_said result ≡ place word.now end_words }
 {
@@ -121,6 +122,7 @@ pub fn choose_end(word: &[u8]) -> Option<EndChoice>
 }
 
 // What a word says of the screen.
+#[inline(never)]
 pub fn choose_screen(word: &[u8]) -> Option<ScreenChoice>
     ensures { screen_said result ≡ place word.now screen_words }
 {
@@ -128,6 +130,7 @@ pub fn choose_screen(word: &[u8]) -> Option<ScreenChoice>
 }
 
 // The kind that a word names.
+#[inline(never)]
 pub fn choose_kind(word: &[u8]) -> Option<KindChoice>
     ensures { kind_said result ≡ place word.now kind_words }
 {
@@ -135,6 +138,7 @@ pub fn choose_kind(word: &[u8]) -> Option<KindChoice>
 }
 
 // The command of phase one that a word names.
+#[inline(never)]
 pub fn choose_command(word: &[u8]) -> Option<CommandChoice>
     ensures { command_said result ≡ place word.now command_words }
 {
@@ -142,6 +146,7 @@ pub fn choose_command(word: &[u8]) -> Option<CommandChoice>
 }
 
 // The command of phase two that a word names.
+#[inline(never)]
 pub fn choose_command_two(word: &[u8]) -> Option<CommandTwoChoice>
     ensures { command_two_said result ≡ place word.now command_two_words }
 {
@@ -149,6 +154,7 @@ pub fn choose_command_two(word: &[u8]) -> Option<CommandTwoChoice>
 }
 
 // The reply that a word names.
+#[inline(never)]
 pub fn choose_reply(word: &[u8]) -> Option<ReplyChoice>
     ensures { reply_said result ≡ place word.now reply_words }
 {

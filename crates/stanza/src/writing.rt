@@ -113,5 +113,8 @@ pub fn copy(part: &[u8], out: &mut [u8])
     if out.len() < part.len() {
         return;
     }
-    out[..part.len()].copy_from_slice(part);
+    // By index: `copy_from_slice` has the archive for C ask for `memmove`, which it did not need before.
+    for i in 0..part.len() {
+        out[i] = part[i];
+    }
 }

@@ -3,13 +3,13 @@ ghost use Rattle.std.specs.Prelude.{◌≡◌, map, ltb};
 ghost use Rattle.refusal.specs.Run.{run};
 ghost use Rattle.symbols.specs.Charset.{is_upper, is_lower, lower};
 ghost use Rattle.symbols.specs.Checksum.{are_symbols};
-ghost use Rattle.symbols.specs.Steps.{Values, value_in};
+ghost use Rattle.symbols.specs.Steps.{Values, Folds, value_in};
 
 // What the five top bits of the checksum's state fold in, the lowest bit first.
 const CONSTANTS: [u32; 5] = [0x3b6a57b2, 0x26508e6d, 0x1ea119fa, 0x3d4233dd, 0x2a1462b3];
 
 // What each number of five bits folds in: the exclusive or of the constants that its bits choose.
-pub(crate) static FOLDS: [u32; 32] = [
+static FOLDS: [u32; 32] = [
     0,
     CONSTANTS[0],
     CONSTANTS[1],
@@ -52,6 +52,9 @@ pub const CAPITALS: [u8; 32] = *b"QPZRY9X8GF2TVDW0S3JN54KHCE6MUA7L";
 // How many symbols there are: a value of so much is none.
 pub(crate) const SYMBOLS: u8 = 32;
 
+// How far a letter in lower case stands over its capital.
+pub const CASE: u8 = b'a' - b'A';
+
 // The value of each byte, a letter's in either case; 32 for one outside the alphabet.
 const VALUES: [u8; 256] = [
     32, 32, 32, 32, 32, 32, 32, 32, 32, 32, 32, 32, 32, 32, 32, 32, 32, 32, 32, 32, 32, 32, 32, 32,
@@ -72,6 +75,13 @@ pub fn values() -> [u8; 256]
     ensures { Values result }
 {
     VALUES
+}
+
+// The table of folds, read in place.
+pub(crate) fn folds() -> &'static [u32; 32]
+    ensures { Folds result.now }
+{
+    &FOLDS
 }
 
 // The value of a byte, by the table.

@@ -5,16 +5,16 @@ ghost use Rattle.symbols.specs.Checksum.{stepped, polymod, expanded};
 ghost use Rattle.symbols.specs.Calls.{closes};
 ghost use Rattle.symbols.specs.Steps.{value_in};
 
-use crate::charset::{FOLDS, SYMBOLS, look_up, lowered};
+use crate::charset::{SYMBOLS, folds, look_up, lowered};
 
 // 2 to the 25th: the state's five top bits stand from there on.
 const TOP: u32 = 33554432;
 
-// The state after one symbol.
+// The state after one symbol, by the table of folds.
 fn step(state: u32, symbol: u8) -> u32
     ensures { result ≡ stepped state symbol }
 {
-    (state % TOP * 32) ^ u32::from(symbol) ^ FOLDS[(state / TOP % 32) as usize]
+    (state % TOP * 32) ^ u32::from(symbol) ^ folds()[(state / TOP % 32) as usize]
 }
 
 // The state after a human part, taken in lower case: the high bits of each byte, 0, and the low bits, which a letter has in either case.

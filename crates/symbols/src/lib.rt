@@ -6,7 +6,7 @@ mod checksum;
 mod regroup;
 
 pub use charset::{
-    ALPHABET, CAPITALS, are_characters, character_run, is_lower, is_upper, lowered, values,
+    ALPHABET, CAPITALS, CASE, are_characters, character_run, is_lower, is_upper, lowered, values,
 };
 pub use checksum::{fold_human, fold_symbols, is_closed};
 pub use regroup::{bytes_length, decode, encode, is_whole};

@@ -2,8 +2,10 @@
 use Prim.Native.Nat.{ℕ, zero, suc, ◌+◌, ◌-◌, ◌<◌, ◌≤◌}
 use mathlib.Core.Path.{◌≡◌, refl, sym, ap, ap₂, ◌∙◌}
 use mathlib.Core.List.{List, [], ◌∷◌, ◌++◌, map, append_assoc, append-nil}
-use lib.ListN.{length, take, drop, get_or, length-append, length-take, length-drop}
+use lib.ListN.{length, take, drop, get_or, length-append, length-take, length-drop, drop_of_length-le}
 use native.Mathlib.Omega.{arith}
+use borrow.Author.Tests.{le-ltb}
+use Rattle.refusal.specs.Output.{filled}
 use lib.Seq.{drop-drop}
 use Rattle.refusal.proofs.Laws.Lists.{take_one, put_rest, part_rest, overwrite, overwrite_part}
 use Rattle.strict_base64.specs.Code.{encoded}
@@ -86,6 +88,10 @@ pub copied_behind : (w block o o₀ : List ℕ) (k n : ℕ) → o ≡ w ++ drop 
 copied_behind w block o o₀ k n e h l =
     let d : k + n - k ≡ n = omega arith in
     rw (d, drop-drop n k o) (sym (append_assoc (take k o) block (drop (k + n) o)) ∙ overwrite o o₀ w block k n e h l)
+
+-- what fills a part of its own length is all of it
+pub filled_exact : (w o : List ℕ) → length o ≡ length w → filled w o ≡ w
+filled_exact w o h = rw (le-ltb (length o) (length w) (omega (arith, h))) (ap (λ x. w ++ x) (drop_of_length-le o (omega (arith, h))) ∙ append-nil w)
 
 -- a command by three copies
 pub command_placed : (l o₀ : List ℕ) → (let o₁ = front ++ drop 16 o₀ in

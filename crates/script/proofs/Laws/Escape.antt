@@ -17,7 +17,7 @@ use Rattle.refusal.proofs.Laws.Booleans.{cases, and_true, T_true}
 use Rattle.refusal.proofs.Laws.Lists.{drop_one, store_one}
 use Rattle.refusal.proofs.Laws.Run.{all_append}
 use Rattle.script.specs.declared.unescaping.State.{State}
-use Rattle.script.specs.declared.unescaping.State.TheVariants.{Plain, Escape, Hex, Digit}
+use Rattle.script.specs.declared.unescaping.State.TheVariants.{Plain, Escape, Hex}
 use Rattle.script.specs.Escape.{state_said, hex_value, moves, gives, stops, plain, letter, digit, effect, Meaning, word, bad, behind, rest, unescaped, measured, fits, answered_by, filled_by, hex_digit, letter_of, some_letter, printed, spelled, escaped, sized}
 
 -- ---- reading, one byte on
@@ -54,8 +54,8 @@ module _ (t : List ℕ) (s i : ℕ) where
 pub state_plain : (s : State) → ((s ≡ Plain) → ⊥) → eqb (state_said s) 0 ≡ false
 state_plain Plain h = absurd (h refl)
 state_plain Escape h = refl
-state_plain Hex h = refl
-state_plain (Digit v) h = ne_eqb (16 + v) 0 (λ z. omega arith)
+state_plain (Hex None) h = refl
+state_plain (Hex (Some v)) h = ne_eqb (16 + v) 0 (λ z. omega arith)
 
 -- ---- measuring
 

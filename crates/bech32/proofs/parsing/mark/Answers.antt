@@ -30,7 +30,7 @@ pub judge_tail-requires : goal.judge_tail-requires
 judge_tail-requires c = let t = c.of-text.result.text.now in
     let k = form_of c.args.kind in
     let e = is_head k t c.in-Some.ensures.1 in
-    record { values = c.values.ensures; in_bounds = omega (arith, head_long k t e) }
+    record { values = c.values-table.ensures; in_bounds = omega (arith, head_long k t e) }
 
 pub returns : goal.returns
 returns c = let t = c.of-text.result.text.now in
