@@ -55,9 +55,10 @@ fn lengths() -> String {
     LENGTHS.map(|length| format!("{length:05}")).join(" ") + "\n"
 }
 
-/// A line that makes no call and gives all buffers the length 0: its words are as long as those of an opening, and it clears as much.
+/// A line that makes no call and gives all buffers their whole length: its words are as long as those of an opening, and like a first opening it clears
+/// nothing.
 pub fn buffers_line() -> String {
-    format!("buffers{}\n", " 00000".repeat(KINDS))
+    format!("buffers{}\n", " 65536".repeat(KINDS))
 }
 
 /// A word of a script.
