@@ -12,7 +12,9 @@ use refusal::Refusal;
 use session::{SHORT_ARGUMENTS, SHORT_LINE, Sent, Session, WordTwo, front};
 use tables::Body;
 
-// A command put together in a store, which is long enough for every line that can be written.
+// A command put together in a store, which is long enough for every line that can be written. Not inlined: then the closure that calls it is, and no short
+// line clears the long store.
+#[inline(never)]
 fn send_in(
     session: Session,
     word: WordTwo,
